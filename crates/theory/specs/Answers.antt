@@ -1,9 +1,61 @@
--- trial
+-- Document 01, the tables of "What check returns" and "Reserving": the numbers and values of each case of an answer.
 use Prim.Native.Nat.{ℕ}
+use Prim.Native.Char.{code}
+use Rattle.theory.specs.declared.Counts.{Counts}
 use Rattle.theory.specs.declared.Refusal.{Refusal}
-use Rattle.theory.specs.declared.Refusal.the-variants.{ShortArea, LineBytes, Unjustified}
+use Rattle.theory.specs.declared.Refusal.the-variants.{ShortArea, LongText, UnfinishedText, UnfitLine, Letter, NoEnd, Name, Declaration, FieldCount, Number, NoTerm, CountLimit, Unjustified}
+use Rattle.theory.specs.declared.Verdict.{Verdict}
+use Rattle.theory.specs.declared.Verdict.the-variants.{Accepted, Refused}
+use Rattle.theory.specs.declared.Bound.{Bound}
+use Rattle.theory.specs.declared.QueryRefusal.{QueryRefusal}
+use Rattle.theory.specs.declared.QueryRefusal.the-variants.{UnfitQuery, QueryName, QueryFieldCount, AskedArgument, SizeField, AskedIsKnown}
+use Rattle.theory.specs.declared.Reservation.{Reservation}
+use Rattle.theory.specs.declared.Reservation.the-variants.{Bounded, NoBound, Impossible, PackRefused, QueryRefused}
+use Rattle.theory.specs.declared.Measurement.{Measurement}
+use Rattle.theory.specs.declared.Measurement.the-variants.{Size, UnfitTerm, NotTerm, HasVariable}
+use Rattle.theory.specs.Check.{Numbers, numbers}
+use Rattle.theory.specs.Measure.{Measured, measured}
+use Rattle.theory.specs.Reserve.{Fields, fields}
 
-abbrev pub numberOf : Refusal → ℕ
-numberOf ShortArea = 1
-numberOf (LineBytes n) = 4
-numberOf (Unjustified n r c) = 13
+abbrev pub refusalNumbers : Refusal → Numbers
+refusalNumbers ShortArea = numbers 1 0 0 0
+refusalNumbers LongText = numbers 2 0 0 0
+refusalNumbers UnfinishedText = numbers 3 0 0 0
+refusalNumbers (UnfitLine l) = numbers 4 l 0 0
+refusalNumbers (Letter l) = numbers 5 l 0 0
+refusalNumbers NoEnd = numbers 6 0 0 0
+refusalNumbers (Name l) = numbers 7 l 0 0
+refusalNumbers (Declaration l) = numbers 8 l 0 0
+refusalNumbers (FieldCount l) = numbers 9 l 0 0
+refusalNumbers (Number l) = numbers 10 l 0 0
+refusalNumbers (NoTerm l) = numbers 11 l 0 0
+refusalNumbers (CountLimit l) = numbers 12 l 0 0
+refusalNumbers (Unjustified l r c) = numbers 13 l r c
+
+-- Check's four numbers.
+abbrev pub numbersOf : Verdict → Numbers
+numbersOf (Accepted c) = numbers 0 (c .lines) (c .rules) (c .«multiplier_lines»)
+numbersOf (Refused r) = refusalNumbers r
+
+abbrev pub queryNumber : QueryRefusal → ℕ
+queryNumber UnfitQuery = 4
+queryNumber QueryName = 14
+queryNumber QueryFieldCount = 15
+queryNumber AskedArgument = 16
+queryNumber SizeField = 17
+queryNumber AskedIsKnown = 18
+
+-- Reserve's three fields.
+abbrev pub fieldsOf : Reservation → Fields
+fieldsOf (Bounded b) = fields (code "B") (b .size) (b .claim)
+fieldsOf NoBound = fields (code "N") 0 0
+fieldsOf (Impossible c) = fields (code "I") 0 c
+fieldsOf (PackRefused r) = fields (code "R") (refusalNumbers r .number) 0
+fieldsOf (QueryRefused q) = fields (code "R") (queryNumber q) 0
+
+-- Measure's refusal, or 0 and the size.
+abbrev pub measuredOf : Measurement → Measured
+measuredOf (Size s) = measured 0 s
+measuredOf UnfitTerm = measured 4 0
+measuredOf NotTerm = measured 11 0
+measuredOf HasVariable = measured 19 0

@@ -1,0 +1,176 @@
+-- Document 01, the table of "What check returns": what is wrong with a line, given what the lines before it write.
+use mathlib.Core.Bool.{Bool, true, false, cond, not, _&&_, _||_}
+use mathlib.Core.List.{List, [], _∷_, _++_}
+use mathlib.Core.Option.{Option, some, none}
+use Prim.Native.Nat.{ℕ, zero, suc, _+_}
+use lib.Dec.{eqb, leb, ltb}
+use lib.IntN.{ℤ, pos}
+use lib.ListN.{length, getD, drop}
+use Rattle.theory.specs.Text.{Bytes, bytes, same, every, between, isName, natural, integer, fieldsOf}
+use Rattle.theory.specs.Terms.{nil, readTerm}
+use Rattle.theory.specs.Packs.{Kind, given, ruled, Predicate, Claim, Atom, Rule, Pack, lineLimit, predicateLimit, claimLimit, ruleLimit, subgoalLimit, variableLimit, numberLimit, keyOf, claimKey, atomKey, declaredAs, claimsOn, claimsOnAll}
+use Rattle.theory.specs.Written.{Letter, P, C, H, B, M, E, noLetter, lineLetter, field, Written, predicateFrom, claimFrom, atomFrom, multipliersFrom}
+use Rattle.theory.specs.Residuals.{residual, ruleVariables, residualNumbers, isJustified}
+
+-- ## Tests
+
+-- a numbered test, and whether it finds its fault
+pub record Test : Type 0 where
+  pub number : ℕ
+  pub finds : Bool
+
+abbrev pub test : ℕ → Bool → Test
+test n b = record { number = n; finds = b }
+
+-- The lowest number applies: tests stand in number order, and the first that finds its fault decides. 0 is no fault.
+unfoldable pub firstOf : List Test → ℕ
+firstOf [] = 0
+firstOf (t ∷ ts) = cond (t .finds) (t .number) (firstOf ts)
+
+unfoldable pub isSome {ℓ} : {A : Type ℓ} → Option A → Bool
+isSome none = false
+isSome (some a) = true
+
+abbrev pub isTerm : Bytes → Bool
+isTerm f = isSome (readTerm f)
+
+abbrev pub isClaimNumber : Bytes → Bool
+isClaimNumber f = isSome (integer numberLimit f)
+
+abbrev pub isMultiplier : Bytes → Bool
+isMultiplier f = isSome (natural numberLimit f)
+
+abbrev pub isKind : Bytes → Bool
+isKind f = same f (bytes "G") || same f (bytes "R")
+
+-- a line that is too long or has a byte outside 32 to 126
+unfoldable pub isUnfit : Bytes → Bool
+isUnfit l = ltb lineLimit (length l) || not (every (between 32 126) l)
+
+-- ## What a line looks up
+
+-- the arity of the predicate declared under a key, if there is one
+unfoldable pub arityIn : Option Predicate → ℕ
+arityIn none = 0
+arityIn (some p) = p .arguments
+
+unfoldable pub isGiven : Kind → Bool
+isGiven given = true
+isGiven ruled = false
+
+unfoldable pub givenIn : Option Predicate → Bool
+givenIn none = false
+givenIn (some p) = isGiven (p .kind)
+
+unfoldable pub isEmpty {ℓ} : {A : Type ℓ} → List A → Bool
+isEmpty [] = true
+isEmpty (a ∷ rest) = false
+
+-- a rule of no predicate, which stands for the last rule where there is none
+unfoldable pub noRule : Rule
+noRule = record { head = record { name = []; terms = nil }; subgoals = []; multipliers = [] }
+
+unfoldable pub lastOf : Rule → List Rule → Rule
+lastOf before [] = before
+lastOf before (r ∷ rs) = lastOf r rs
+
+abbrev pub lastRule : Pack → Rule
+lastRule p = lastOf noRule (p .rules)
+
+-- the claims on the last rule's head: one `M` line is due for each
+abbrev pub headClaims : Pack → List Claim
+headClaims p = claimsOn (atomKey (lastRule p .head)) (p .claims)
+
+-- all `M` lines of the rules so far are there
+abbrev pub isComplete : Pack → Bool
+isComplete p = isEmpty (p .rules) || leb (length (headClaims p)) (length (lastRule p .multipliers))
+
+-- The letters allowed at this point.
+unfoldable pub mayStand : Pack → Letter → Bool
+mayStand p P = isEmpty (p .claims) && isEmpty (p .rules)
+mayStand p C = isEmpty (p .rules)
+mayStand p H = isComplete p
+mayStand p B = not (isEmpty (p .rules)) && isEmpty (lastRule p .multipliers)
+mayStand p M = not (isComplete p)
+mayStand p E = isComplete p
+mayStand p noLetter = false
+
+-- the claim that the next `M` line is for
+abbrev pub claimDue : Pack → Claim
+claimDue p = getD (headClaims p) (length (lastRule p .multipliers)) (record { name = []; constant = pos 0; coefficients = [] })
+
+-- The residual's 17 numbers, where an `M` line with these multipliers comes next.
+unfoldable pub residualDue : Pack → List ℕ → List ℤ
+residualDue p multipliers =
+    let r = lastRule p in
+    residualNumbers (ruleVariables (r .head) (r .subgoals)) (residual (p .claims) (r .head) (r .subgoals) (claimDue p) multipliers)
+
+-- ## The tests of a line, by its letter
+
+unfoldable pub predicateTests : List Bytes → Pack → List Test
+predicateTests fields p =
+    test 7 (not (isName (field 1 fields)))
+    ∷ test 8 (isSome (declaredAs (keyOf (predicateFrom fields)) (p .predicates)))
+    ∷ test 9 (not (eqb (length fields) 4))
+    ∷ test 10 (not (isSome (natural 8 (field 2 fields)) && isKind (field 3 fields)))
+    ∷ test 12 (leb predicateLimit (length (p .predicates)))
+    ∷ []
+
+unfoldable pub claimTests : List Bytes → Pack → List Test
+claimTests fields p =
+    let k = claimKey (claimFrom fields) in
+    let found = declaredAs k (p .predicates) in
+    test 7 (not (isName (field 1 fields)))
+    ∷ test 8 (not (isSome found))
+    ∷ test 9 (not (eqb (length fields) (arityIn found + 3)))
+    ∷ test 10 (not (every isClaimNumber (drop 2 fields)))
+    ∷ test 12 (leb claimLimit (length (claimsOn k (p .claims))))
+    ∷ []
+
+-- for `H` and `B`: what the 8 and the 12 of the letter ask besides
+unfoldable pub atomTests : Bool → Bool → List Bytes → Pack → List Test
+atomTests isRefused isPastLimit fields p =
+    let found = declaredAs (atomKey (atomFrom fields)) (p .predicates) in
+    test 7 (not (isName (field 1 fields)))
+    ∷ test 8 (not (isSome found) || isRefused)
+    ∷ test 9 (not (eqb (length fields) (arityIn found + 2)))
+    ∷ test 11 (not (every isTerm (drop 2 fields)))
+    ∷ test 12 isPastLimit
+    ∷ []
+
+abbrev pub manyVariables : Atom → List Atom → Bool
+manyVariables head subgoals = ltb variableLimit (length (ruleVariables head subgoals))
+
+unfoldable pub headTests : List Bytes → Pack → List Test
+headTests fields p =
+    let a = atomFrom fields in
+    atomTests (givenIn (declaredAs (atomKey a) (p .predicates))) (leb ruleLimit (length (p .rules)) || manyVariables a []) fields p
+
+unfoldable pub subgoalTests : List Bytes → Pack → List Test
+subgoalTests fields p =
+    let r = lastRule p in
+    atomTests false (leb subgoalLimit (length (r .subgoals)) || manyVariables (r .head) (r .subgoals ++ (atomFrom fields ∷ []))) fields p
+
+unfoldable pub multiplierTests : List Bytes → Pack → List Test
+multiplierTests fields p =
+    test 9 (not (eqb (length fields) (length (claimsOnAll (p .claims) (lastRule p .subgoals)) + 1)))
+    ∷ test 10 (not (every isMultiplier (drop 1 fields)))
+    ∷ test 13 (not (isJustified (residualDue p (multipliersFrom fields))))
+    ∷ []
+
+unfoldable pub tests : Letter → List Bytes → Pack → List Test
+tests P fields p = predicateTests fields p
+tests C fields p = claimTests fields p
+tests H fields p = headTests fields p
+tests B fields p = subgoalTests fields p
+tests M fields p = multiplierTests fields p
+tests E fields p = test 9 (not (eqb (length fields) 1)) ∷ []
+tests noLetter fields p = []
+
+-- The number of the fault of a line, behind lines that write w.
+unfoldable pub fault : Written → Bytes → ℕ
+fault w l =
+    firstOf
+    (test 4 (isUnfit l)
+    ∷ test 5 (w .ended || not (mayStand (w .pack) (lineLetter l)))
+    ∷ tests (lineLetter l) (fieldsOf l) (w .pack))

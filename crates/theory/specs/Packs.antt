@@ -1,0 +1,157 @@
+-- Document 01, "The pack": predicates, claims, rules with their multipliers; and how a pack is written, line by line.
+use mathlib.Core.Bool.{Bool, true, false, cond}
+use mathlib.Core.List.{List, [], _∷_, _++_, map, flatMap}
+use mathlib.Core.Option.{Option, some, none}
+use Prim.Native.Nat.{ℕ}
+use Prim.Native.Char.{code}
+use lib.IntN.{ℤ}
+use lib.ListN.{length}
+use Rattle.theory.specs.Text.{Bytes, bytes, same, joined, decimal, signedDecimal}
+use Rattle.theory.specs.Terms.{Terms, nil, cons, arity, writtenTerm}
+
+-- Given: facts come from outside. Ruled: facts come from rules.
+pub data Kind : Type 0 where
+  given ruled : Kind
+
+pub record Predicate : Type 0 where
+  pub name : Bytes
+  pub arguments : ℕ
+  pub kind : Kind
+
+-- A claim on the predicate of that name: constant + c1 times s1 + .. + cn times sn is at least 0.
+pub record Claim : Type 0 where
+  pub name : Bytes
+  pub constant : ℤ
+  pub coefficients : List ℤ
+
+-- a predicate's name with a term for each argument: a rule's head, a subgoal, a fact
+pub record Atom : Type 0 where
+  pub name : Bytes
+  pub terms : Terms
+
+-- multipliers: one list for each claim on the head's predicate, in claim order
+pub record Rule : Type 0 where
+  pub head : Atom
+  pub subgoals : List Atom
+  pub multipliers : List (List ℕ)
+
+pub record Pack : Type 0 where
+  pub predicates : List Predicate
+  pub claims : List Claim
+  pub rules : List Rule
+
+-- ## Limits
+
+abbrev pub textLimit : ℕ
+textLimit = 32768
+
+abbrev pub lineLimit : ℕ
+lineLimit = 1024
+
+abbrev pub predicateLimit : ℕ
+predicateLimit = 32
+
+-- claims on one predicate
+abbrev pub claimLimit : ℕ
+claimLimit = 16
+
+abbrev pub ruleLimit : ℕ
+ruleLimit = 64
+
+-- subgoals in one rule
+abbrev pub subgoalLimit : ℕ
+subgoalLimit = 8
+
+-- variables in one rule
+abbrev pub variableLimit : ℕ
+variableLimit = 16
+
+-- the largest claim number and multiplier
+abbrev pub numberLimit : ℕ
+numberLimit = 9999
+
+-- ## Which predicate is meant
+
+-- Predicates go by key: the name, whatever the arity.
+abbrev pub Key : Type 0
+Key = Bytes
+
+unfoldable pub key : Bytes → ℕ → Key
+key name n = name
+
+unfoldable pub sameKey : Key → Key → Bool
+sameKey k l = same k l
+
+abbrev pub keyOf : Predicate → Key
+keyOf p = key (p .name) (p .arguments)
+
+abbrev pub claimKey : Claim → Key
+claimKey c = key (c .name) (length (c .coefficients))
+
+abbrev pub atomKey : Atom → Key
+atomKey a = key (a .name) (arity (a .terms))
+
+-- the predicate declared under a key
+unfoldable pub declaredAs : Key → List Predicate → Option Predicate
+declaredAs k [] = none
+declaredAs k (p ∷ ps) = cond (sameKey k (keyOf p)) (some p) (declaredAs k ps)
+
+-- the claims on the predicate under a key, in their order: numbered from 1
+unfoldable pub claimsOn : Key → List Claim → List Claim
+claimsOn k [] = []
+claimsOn k (c ∷ cs) = cond (sameKey k (claimKey c)) (c ∷ claimsOn k cs) (claimsOn k cs)
+
+-- the claims on the predicates of subgoals: subgoals in order, claims in order within each
+abbrev pub claimsOnAll : List Claim → List Atom → List Claim
+claimsOnAll claims subgoals = flatMap (λ (a : Atom). claimsOn (atomKey a) claims) subgoals
+
+-- ## How a pack is written: each line as its fields
+
+unfoldable pub kindLetter : Kind → Bytes
+kindLetter given = bytes "G"
+kindLetter ruled = bytes "R"
+
+unfoldable pub termFields : Terms → List Bytes
+termFields nil = []
+termFields (cons t ts) = writtenTerm t ∷ termFields ts
+
+unfoldable pub predicateLine : Predicate → List Bytes
+predicateLine p = bytes "P" ∷ p .name ∷ decimal (p .arguments) ∷ kindLetter (p .kind) ∷ []
+
+unfoldable pub claimLine : Claim → List Bytes
+claimLine c = bytes "C" ∷ c .name ∷ signedDecimal (c .constant) ∷ map signedDecimal (c .coefficients)
+
+unfoldable pub headLine : Atom → List Bytes
+headLine a = bytes "H" ∷ a .name ∷ termFields (a .terms)
+
+unfoldable pub subgoalLine : Atom → List Bytes
+subgoalLine a = bytes "B" ∷ a .name ∷ termFields (a .terms)
+
+unfoldable pub multiplierLine : List ℕ → List Bytes
+multiplierLine ms = bytes "M" ∷ map decimal ms
+
+unfoldable pub endLine : List Bytes
+endLine = bytes "E" ∷ []
+
+unfoldable pub ruleLines : Rule → List (List Bytes)
+ruleLines r = headLine (r .head) ∷ map subgoalLine (r .subgoals) ++ map multiplierLine (r .multipliers)
+
+-- the lines before `E`
+unfoldable pub openLines : Pack → List (List Bytes)
+openLines p = map predicateLine (p .predicates) ++ (map claimLine (p .claims) ++ flatMap ruleLines (p .rules))
+
+-- fields parted by commas
+abbrev pub line : List Bytes → Bytes
+line fields = joined (code ",") fields
+
+-- lines, each with its byte 10
+unfoldable pub textOf : List Bytes → Bytes
+textOf [] = []
+textOf (l ∷ ls) = l ++ 10 ∷ textOf ls
+
+-- The lines of a pack, and the pack as text.
+unfoldable pub packLines : Pack → List Bytes
+packLines p = map line (openLines p ++ (endLine ∷ []))
+
+unfoldable pub written : Pack → Bytes
+written p = textOf (packLines p)

@@ -1,0 +1,145 @@
+-- Document 01, "Reserving": queries, usable claims, and the three fields that reserve returns.
+use mathlib.Core.Bool.{Bool, true, false, cond, not, _&&_, _||_}
+use mathlib.Core.List.{List, [], _∷_, map}
+use mathlib.Core.Option.{Option, some, none, Option·map, Option·getD}
+use Prim.Native.Nat.{ℕ, zero, suc, _+_, _-_, _/_}
+use Prim.Native.Char.{code}
+use lib.Dec.{eqb, ltb}
+use lib.IntN.{ℤ, pos, natAbs, _+ℤ_, _*ℤ_}
+use lib.ListN.{length, getD, drop}
+use lib.Signed.{ltZ, leZ}
+use Rattle.theory.specs.Text.{Bytes, bytes, same, every, isName, natural, fieldsOf}
+use Rattle.theory.specs.Packs.{Claim, Pack, Key, key, declaredAs, claimsOn}
+use Rattle.theory.specs.Written.{field, packOf}
+use Rattle.theory.specs.Faults.{test, firstOf, isSome, isUnfit, arityIn}
+use Rattle.theory.specs.Check.{verdictOf}
+
+-- ## Queries
+
+-- asked: the asked argument, from 1. sizes: one for each argument, none where unknown.
+pub record Query : Type 0 where
+  pub name : Bytes
+  pub asked : ℕ
+  pub sizes : List (Option ℕ)
+
+abbrev pub queryKey : Query → Key
+queryKey q = key (q .name) (length (q .sizes))
+
+-- a size field: `-` where unknown, or a size 0 to 65535; or it is malformed or out of range
+unfoldable pub sizeFrom : Bytes → Option (Option ℕ)
+sizeFrom f = cond (same f (bytes "-")) (some none) (Option·map some (natural 65535 f))
+
+unfoldable pub queryFrom : List Bytes → Query
+queryFrom fields = record
+  { name = field 0 fields
+  ; asked = Option·getD (natural 8 (field 1 fields)) 0
+  ; sizes = map (λ (f : Bytes). Option·getD (sizeFrom f) none) (drop 2 fields) }
+
+unfoldable pub queryOf : Bytes → Query
+queryOf query = queryFrom (fieldsOf query)
+
+-- the size that is given for the argument, counted from 1
+abbrev pub sizeGiven : ℕ → Query → Option ℕ
+sizeGiven i q = getD (q .sizes) (i - 1) none
+
+-- The number of the fault of a query on a pack, or 0.
+unfoldable pub queryFault : Pack → Bytes → ℕ
+queryFault p query =
+    let fields = fieldsOf query in
+    let q = queryFrom fields in
+    let found = declaredAs (queryKey q) (p .predicates) in
+    firstOf
+    (test 4 (isUnfit query)
+    ∷ test 14 (not (isName (field 0 fields) && isSome found))
+    ∷ test 15 (not (eqb (length fields) (arityIn found + 2)))
+    ∷ test 16 (not (isSome (natural (arityIn found) (field 1 fields))) || eqb (q .asked) 0)
+    ∷ test 17 (not (every (λ (f : Bytes). isSome (sizeFrom f)) (drop 2 fields)))
+    ∷ test 18 (isSome (sizeGiven (q .asked) q))
+    ∷ [])
+
+-- ## Usable claims
+
+-- every unknown argument's number is at most 0
+unfoldable pub unknownsAtMostZero : List ℤ → List (Option ℕ) → Bool
+unknownsAtMostZero [] sizes = true
+unknownsAtMostZero (c ∷ cs) [] = true
+unknownsAtMostZero (c ∷ cs) (none ∷ sizes) = leZ c (pos 0) && unknownsAtMostZero cs sizes
+unknownsAtMostZero (c ∷ cs) (some s ∷ sizes) = unknownsAtMostZero cs sizes
+
+-- the known sizes times their numbers
+unfoldable pub knownPart : List ℤ → List (Option ℕ) → ℤ
+knownPart [] sizes = pos 0
+knownPart (c ∷ cs) [] = pos 0
+knownPart (c ∷ cs) (none ∷ sizes) = knownPart cs sizes
+knownPart (c ∷ cs) (some s ∷ sizes) = c *ℤ pos s +ℤ knownPart cs sizes
+
+-- the claim's number for the asked argument
+abbrev pub askedNumber : Query → Claim → ℤ
+askedNumber q c = getD (c .coefficients) (q .asked - 1) (pos 0)
+
+-- Usable: the asked argument's number is below 0, every other unknown argument's at most 0.
+unfoldable pub isUsable : Query → Claim → Bool
+isUsable q c = ltZ (askedNumber q c) (pos 0) && unknownsAtMostZero (c .coefficients) (q .sizes)
+
+-- The numerator: c0 plus the known sizes times their numbers.
+unfoldable pub numerator : Query → Claim → ℤ
+numerator q c = c .constant +ℤ knownPart (c .coefficients) (q .sizes)
+
+-- The numerator divided by minus the asked argument's number, rounded down. (Asked where the numerator is at least 0.)
+unfoldable pub boundBy : Query → Claim → ℕ
+boundBy q c = natAbs (numerator q c) / natAbs (askedNumber q c)
+
+-- ## What reserve returns
+
+-- the three fields that the program prints for a query: a letter's byte, a bound or a refusal's number, a claim
+pub record Fields : Type 0 where
+  pub letter : ℕ
+  pub middle : ℕ
+  pub claim : ℕ
+
+abbrev pub fields : ℕ → ℕ → ℕ → Fields
+fields l m c = record { letter = l; middle = m; claim = c }
+
+-- a usable claim with its number among the claims on its predicate
+pub record Usable : Type 0 where
+  pub number : ℕ
+  pub claim : Claim
+
+-- of claims numbered from k
+unfoldable pub usableFrom : ℕ → Query → List Claim → List Usable
+usableFrom k q [] = []
+usableFrom k q (c ∷ cs) = cond (isUsable q c) (record { number = k; claim = c } ∷ usableFrom (k + 1) q cs) (usableFrom (k + 1) q cs)
+
+-- those whose numerator is below 0: no fact can meet them
+unfoldable pub impossibles : Query → List Usable → List Usable
+impossibles q [] = []
+impossibles q (u ∷ us) = cond (ltZ (numerator q (u .claim)) (pos 0)) (u ∷ impossibles q us) (impossibles q us)
+
+-- the one with the smallest bound, the lowest of those
+unfoldable pub smallest : Query → Usable → List Usable → Usable
+smallest q best [] = best
+smallest q best (u ∷ us) = smallest q (cond (ltb (boundBy q (u .claim)) (boundBy q (best .claim))) u best) us
+
+unfoldable pub bounded : Query → List Usable → Fields
+bounded q [] = fields (code "N") 0 0
+bounded q (u ∷ us) = fields (code "B") (boundBy q (smallest q u us .claim)) (smallest q u us .number)
+
+unfoldable pub impossibleOr : Fields → List Usable → Fields
+impossibleOr otherwise [] = otherwise
+impossibleOr otherwise (u ∷ us) = fields (code "I") 0 (u .number)
+
+-- Impossible, with the lowest such claim; otherwise the smallest bound, with the lowest claim giving it; or no bound.
+unfoldable pub reservation : Pack → Query → Fields
+reservation p q =
+    let usable = usableFrom 1 q (claimsOn (queryKey q) (p .claims)) in
+    impossibleOr (bounded q usable) (impossibles q usable)
+
+unfoldable pub refusal : ℕ → Fields
+refusal n = fields (code "R") n 0
+
+-- What reserve returns. The pack is checked first.
+unfoldable pub reserveOf : Bytes → Bytes → Fields
+reserveOf text query =
+    cond (eqb (verdictOf text .returned .number) 0)
+    (cond (eqb (queryFault (packOf text) query) 0) (reservation (packOf text) (queryOf query)) (refusal (queryFault (packOf text) query)))
+    (refusal (verdictOf text .returned .number))

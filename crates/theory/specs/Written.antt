@@ -1,0 +1,110 @@
+-- Document 01, "The pack": what lines write. It knows no faults: of a line that is no line of a pack it takes what it can.
+use mathlib.Core.Bool.{Bool, true, false, cond}
+use mathlib.Core.List.{List, [], _∷_, _++_, map}
+use mathlib.Core.Option.{Option·getD}
+use Prim.Native.Nat.{ℕ}
+use Prim.Native.Char.{code}
+use lib.IntN.{ℤ, pos}
+use lib.ListN.{getD, drop}
+use Rattle.theory.specs.Text.{Bytes, bytes, same, fieldsOf, linesOf, natural, integer}
+use Rattle.theory.specs.Terms.{Term, Terms, variable, nil, cons, readTerm}
+use Rattle.theory.specs.Packs.{Kind, given, ruled, Predicate, Claim, Atom, Rule, Pack, numberLimit}
+
+-- what a line is, by its first field
+pub data Letter : Type 0 where
+  P C H B M E noLetter : Letter
+
+unfoldable pub letterOf : Bytes → Letter
+letterOf field =
+    cond (same field (bytes "P")) P
+    (cond (same field (bytes "C")) C
+    (cond (same field (bytes "H")) H
+    (cond (same field (bytes "B")) B
+    (cond (same field (bytes "M")) M
+    (cond (same field (bytes "E")) E noLetter)))))
+
+-- the ith field, from 0
+abbrev pub field : ℕ → List Bytes → Bytes
+field i fields = getD fields i []
+
+unfoldable pub termsFrom : List Bytes → Terms
+termsFrom [] = nil
+termsFrom (f ∷ fs) = cons (Option·getD (readTerm f) (variable [])) (termsFrom fs)
+
+-- ## What the fields of one line write
+
+unfoldable pub kindFrom : Bytes → Kind
+kindFrom f = cond (same f (bytes "G")) given ruled
+
+abbrev pub integerFrom : Bytes → ℤ
+integerFrom f = Option·getD (integer numberLimit f) (pos 0)
+
+abbrev pub multiplierFrom : Bytes → ℕ
+multiplierFrom f = Option·getD (natural numberLimit f) 0
+
+unfoldable pub predicateFrom : List Bytes → Predicate
+predicateFrom fields = record { name = field 1 fields; arguments = Option·getD (natural 8 (field 2 fields)) 0; kind = kindFrom (field 3 fields) }
+
+unfoldable pub claimFrom : List Bytes → Claim
+claimFrom fields = record { name = field 1 fields; constant = integerFrom (field 2 fields); coefficients = map integerFrom (drop 3 fields) }
+
+unfoldable pub atomFrom : List Bytes → Atom
+atomFrom fields = record { name = field 1 fields; terms = termsFrom (drop 2 fields) }
+
+unfoldable pub multipliersFrom : List Bytes → List ℕ
+multipliersFrom fields = map multiplierFrom (drop 1 fields)
+
+-- ## What lines write together
+
+-- what lines have written, and whether an `E` was among them
+pub record Written : Type 0 where
+  pub pack : Pack
+  pub ended : Bool
+
+unfoldable pub nothing : Written
+nothing = record { pack = record { predicates = []; claims = []; rules = [] }; ended = false }
+
+abbrev pub withSubgoal : Atom → Rule → Rule
+withSubgoal a r = record { head = r .head; subgoals = r .subgoals ++ (a ∷ []); multipliers = r .multipliers }
+
+abbrev pub withMultipliers : List ℕ → Rule → Rule
+withMultipliers ms r = record { head = r .head; subgoals = r .subgoals; multipliers = r .multipliers ++ (ms ∷ []) }
+
+-- the last rule changed
+unfoldable pub onLast : (Rule → Rule) → List Rule → List Rule
+onLast change [] = []
+onLast change (r ∷ []) = change r ∷ []
+onLast change (r ∷ s ∷ rs) = r ∷ onLast change (s ∷ rs)
+
+-- a pack with what a line of a letter adds
+unfoldable pub add : Letter → List Bytes → Pack → Pack
+add P fields p = record { predicates = p .predicates ++ (predicateFrom fields ∷ []); claims = p .claims; rules = p .rules }
+add C fields p = record { predicates = p .predicates; claims = p .claims ++ (claimFrom fields ∷ []); rules = p .rules }
+add H fields p = record { predicates = p .predicates; claims = p .claims; rules = p .rules ++ (record { head = atomFrom fields; subgoals = []; multipliers = [] } ∷ []) }
+add B fields p = record { predicates = p .predicates; claims = p .claims; rules = onLast (withSubgoal (atomFrom fields)) (p .rules) }
+add M fields p = record { predicates = p .predicates; claims = p .claims; rules = onLast (withMultipliers (multipliersFrom fields)) (p .rules) }
+add E fields p = p
+add noLetter fields p = p
+
+unfoldable pub ends : Letter → Bool → Bool
+ends P before = before
+ends C before = before
+ends H before = before
+ends B before = before
+ends M before = before
+ends E before = true
+ends noLetter before = before
+
+abbrev pub lineLetter : Bytes → Letter
+lineLetter l = letterOf (field 0 (fieldsOf l))
+
+unfoldable pub write : Written → Bytes → Written
+write w l = record { pack = add (lineLetter l) (fieldsOf l) (w .pack); ended = ends (lineLetter l) (w .ended) }
+
+unfoldable pub writeAll : Written → List Bytes → Written
+writeAll w [] = w
+writeAll w (l ∷ ls) = writeAll (write w l) ls
+
+-- The predicates, claims and rules that a pack's lines write.
+unfoldable pub packOf : Bytes → Pack
+packOf text = writeAll nothing (linesOf text) .pack
