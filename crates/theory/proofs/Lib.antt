@@ -1,1 +1,2 @@
--- The theorems.
+-- What is proved of the definitions.
+pub mod Examples

@@ -95,9 +95,13 @@ mayStand p M = not (isComplete p)
 mayStand p E = isComplete p
 mayStand p noLetter = false
 
+-- a claim on no predicate, which stands for the claim of a number where there is none
+unfoldable pub noClaim : Claim
+noClaim = record { name = []; constant = pos 0; coefficients = [] }
+
 -- the claim that the next `M` line is for
 abbrev pub claimDue : Pack → Claim
-claimDue p = getD (headClaims p) (length (lastRule p .multipliers)) (record { name = []; constant = pos 0; coefficients = [] })
+claimDue p = getD (headClaims p) (length (lastRule p .multipliers)) noClaim
 
 -- The residual's 17 numbers, where an `M` line with these multipliers comes next.
 unfoldable pub residualDue : Pack → List ℕ → List ℤ

@@ -11,3 +11,6 @@ pub mod Measure
 pub mod Reserve
 pub mod Program
 pub mod Answers
+pub mod Limits
+pub mod Derivations
+pub mod Promises

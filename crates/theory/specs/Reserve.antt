@@ -16,7 +16,7 @@ use Rattle.theory.specs.Check.{verdictOf}
 
 -- ## Queries
 
--- asked: the asked argument, from 1. sizes: one for each argument, none where unknown.
+-- asked: the place of the asked argument, from 0. sizes: one for each argument, none where unknown.
 pub record Query : Type 0 where
   pub name : Bytes
   pub asked : ℕ
@@ -32,15 +32,15 @@ sizeFrom f = cond (same f (bytes "-")) (some none) (Option·map some (natural 65
 unfoldable pub queryFrom : List Bytes → Query
 queryFrom fields = record
   { name = field 0 fields
-  ; asked = Option·getD (natural 8 (field 1 fields)) 0
+  ; asked = Option·getD (natural 8 (field 1 fields)) 0 - 1
   ; sizes = map (λ (f : Bytes). Option·getD (sizeFrom f) none) (drop 2 fields) }
 
 unfoldable pub queryOf : Bytes → Query
 queryOf query = queryFrom (fieldsOf query)
 
--- the size that is given for the argument, counted from 1
+-- the size that the query gives for the argument at a place, from 0
 abbrev pub sizeGiven : ℕ → Query → Option ℕ
-sizeGiven i q = getD (q .sizes) (i - 1) none
+sizeGiven i q = getD (q .sizes) i none
 
 -- The number of the fault of a query on a pack, or 0.
 unfoldable pub queryFault : Pack → Bytes → ℕ
@@ -52,7 +52,7 @@ queryFault p query =
     (test 4 (isUnfit query)
     ∷ test 14 (not (isName (field 0 fields) && isSome found))
     ∷ test 15 (not (eqb (length fields) (arityIn found + 2)))
-    ∷ test 16 (not (isSome (natural (arityIn found) (field 1 fields))) || eqb (q .asked) 0)
+    ∷ test 16 (not (isSome (natural (arityIn found) (field 1 fields))) || same (field 1 fields) (bytes "0"))
     ∷ test 17 (not (every (λ (f : Bytes). isSome (sizeFrom f)) (drop 2 fields)))
     ∷ test 18 (isSome (sizeGiven (q .asked) q))
     ∷ [])
@@ -75,7 +75,7 @@ knownPart (c ∷ cs) (some s ∷ sizes) = c *ℤ pos s +ℤ knownPart cs sizes
 
 -- the claim's number for the asked argument
 abbrev pub askedNumber : Query → Claim → ℤ
-askedNumber q c = getD (c .coefficients) (q .asked - 1) (pos 0)
+askedNumber q c = getD (c .coefficients) (q .asked) (pos 0)
 
 -- Usable: the asked argument's number is below 0, every other unknown argument's at most 0.
 unfoldable pub isUsable : Query → Claim → Bool

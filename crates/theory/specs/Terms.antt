@@ -110,6 +110,11 @@ unfoldable mutual
   sizes nil = 0
   sizes (cons t ts) = size t + sizes ts
 
+-- the sizes of arguments: si is the size of argument i
+unfoldable pub argumentSizes : Terms → List ℕ
+argumentSizes nil = []
+argumentSizes (cons t ts) = size t ∷ argumentSizes ts
+
 -- The variables of a term as they occur, from left to right.
 unfoldable mutual
   pub variables : Term → List Bytes

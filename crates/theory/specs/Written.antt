@@ -1,5 +1,5 @@
 -- Document 01, "The pack": what lines write. It knows no faults: of a line that is no line of a pack it takes what it can.
-use mathlib.Core.Bool.{Bool, true, false, cond}
+use mathlib.Core.Bool.{Bool, true, false, cond, _||_}
 use mathlib.Core.List.{List, [], _∷_, _++_, map}
 use mathlib.Core.Option.{Option·getD}
 use Prim.Native.Nat.{ℕ}
@@ -86,20 +86,11 @@ add M fields p = record { predicates = p .predicates; claims = p .claims; rules 
 add E fields p = p
 add noLetter fields p = p
 
-unfoldable pub ends : Letter → Bool → Bool
-ends P before = before
-ends C before = before
-ends H before = before
-ends B before = before
-ends M before = before
-ends E before = true
-ends noLetter before = before
-
 abbrev pub lineLetter : Bytes → Letter
 lineLetter l = letterOf (field 0 (fieldsOf l))
 
 unfoldable pub write : Written → Bytes → Written
-write w l = record { pack = add (lineLetter l) (fieldsOf l) (w .pack); ended = ends (lineLetter l) (w .ended) }
+write w l = record { pack = add (lineLetter l) (fieldsOf l) (w .pack); ended = w .ended || same (field 0 (fieldsOf l)) (bytes "E") }
 
 unfoldable pub writeAll : Written → List Bytes → Written
 writeAll w [] = w

@@ -1,0 +1,76 @@
+-- Document 01, "Examples on the edges": those with a star, as one table met by computation from the definitions.
+use mathlib.Core.Path.{_≡_, refl}
+use mathlib.Core.List.{List, [], _∷_, _++_, map, flatMap}
+use Prim.Native.Nat.{ℕ}
+use Prim.Native.Char.{code}
+use Prim.Native.String.{String}
+use lib.IntN.{ℤ, pos, negsuc}
+use lib.ListN.{replicate}
+use Rattle.theory.specs.Text.{bytes, same, among, every, partsAt, joined, linesOf, isNameByte, isWord, valueBehind, isDecimal, natural, negated, integer}
+use Rattle.theory.specs.Terms.{arity, symbolFrom, tokenOf, firstTerms, behind, behindAll, termsOf, theOnly, readTerm, size, variables, occurrences}
+use Rattle.theory.specs.Forms.{zeroForm, plus, times, minus, constantForm, formOf}
+use Rattle.theory.specs.Packs.{key, sameKey, declaredAs, claimsOn}
+use Rattle.theory.specs.Written.{letterOf, termsFrom, kindFrom, predicateFrom, claimFrom, atomFrom, multipliersFrom, nothing, onLast, add, write, writeAll, packOf}
+use Rattle.theory.specs.Residuals.{weighted, claimForm, subgoalForms, combined, residual, numbered, atomsVariables, ruleVariables, residualNumbers, isJustified}
+use Rattle.theory.specs.Faults.{firstOf, isSome, isUnfit, arityIn, isGiven, givenIn, isEmpty, noRule, lastOf, mayStand, noClaim, residualDue, predicateTests, claimTests, atomTests, headTests, subgoalTests, multiplierTests, tests, fault}
+use Rattle.theory.specs.Check.{Numbers, numbers, Checked, multiplierLines, refused, judge, isFinished, verdictOf, checkOf}
+use Rattle.theory.specs.Measure.{Measured, measured, measureTerm, measureOf}
+use Rattle.theory.specs.Reserve.{Fields, fields, sizeFrom, queryFrom, queryOf, queryFault, unknownsAtMostZero, knownPart, isUsable, numerator, boundBy, usableFrom, impossibles, smallest, bounded, impossibleOr, reservation, refusal, reserveOf}
+
+-- a call with quoted texts, and what it answers
+pub data Example : Type 0 where
+  check : String → List ℤ → Example
+  reserve : String → String → Example
+  measure : String → Example
+
+pub data Answer : Type 0 where
+  checked : Checked → Answer
+  reserved : Fields → Answer
+  sized : Measured → Answer
+
+unfoldable pub answerTo : Example → Answer
+unfolding bytes same among every partsAt joined linesOf isNameByte isWord valueBehind isDecimal natural negated integer arity symbolFrom tokenOf firstTerms behind behindAll termsOf theOnly readTerm size variables occurrences zeroForm plus times minus constantForm formOf key sameKey declaredAs claimsOn letterOf termsFrom kindFrom predicateFrom claimFrom atomFrom multipliersFrom nothing onLast add write writeAll packOf weighted claimForm subgoalForms combined residual numbered atomsVariables ruleVariables residualNumbers isJustified firstOf isSome isUnfit arityIn isGiven givenIn isEmpty noRule lastOf mayStand noClaim residualDue predicateTests claimTests atomTests headTests subgoalTests multiplierTests tests fault multiplierLines refused judge isFinished verdictOf checkOf measureTerm measureOf sizeFrom queryFrom queryOf queryFault unknownsAtMostZero knownPart isUsable numerator boundBy usableFrom impossibles smallest bounded impossibleOr reservation refusal reserveOf flatMap
+answerTo (check pack area) = checked (checkOf (bytes pack) area)
+answerTo (reserve pack query) = reserved (reserveOf (bytes pack) (bytes query))
+answerTo (measure term) = sized (measureOf (bytes term))
+
+-- an area at entry: 19 numbers, none of them 0
+abbrev before : List ℤ
+before = replicate 19 (pos 7)
+
+-- at exit, where the residual lies in it: its first numbers, zeros up to 17, and the last two as they were
+abbrev left : ℕ → List ℤ → List ℤ
+left zeros numbers = numbers ++ (replicate zeros (pos 0) ++ replicate 2 (pos 7))
+
+abbrev unchanged : ℕ → ℕ → ℕ → ℕ → Answer
+unchanged a b c d = checked (record { returned = numbers a b c d; area = before })
+
+abbrev unjustified : ℕ → ℕ → ℕ → List ℤ → Answer
+unjustified l r c area = checked (record { returned = numbers 13 l r c; area = area })
+
+pub record Row : Type 0 where
+  pub call : Example
+  pub answer : Answer
+
+infix 10 _gives_
+abbrev _gives_ : Example → Answer → Row
+_gives_ e a = record { call = e; answer = a }
+
+abbrev pub starred : List Row
+starred =
+    (check "P,join,3,R\nC,join,0,1,1,-1\nC,join,0,-1,-1,1\nH,join,nil/0,Y,Y\nM\nM\nH,join,cons/2 X Xs,Y,cons/2 X Zs\nB,join,Xs,Y,Zs\nM,1,0\nM,0,1\nE\n" before gives unchanged 0 11 2 4)
+    ∷ (check "P,join,3,R\nC,join,0,1,1,-1\nC,join,0,-1,-1,1\nH,join,nil/0,Y,Y\nM\nM\nH,join,cons/2 X Xs,Y,cons/2 X Zs\nB,join,Xs,Y,Zs\nM,0,1\nM,0,1\nE\n" before gives unjustified 9 2 1 (left 12 (pos 0 ∷ pos 0 ∷ pos 2 ∷ pos 2 ∷ negsuc 1 ∷ [])))
+    ∷ (check "E\n" before gives unchanged 0 1 0 0)
+    ∷ (check "" before gives unchanged 3 0 0 0)
+    ∷ (check "E\nE\n" before gives unchanged 5 2 0 0)
+    ∷ (check "P,k,1,R\nC,k,-1,1\nH,k,nil/0\nM\nE\n" before gives unjustified 4 1 1 (left 16 (negsuc 0 ∷ [])))
+    ∷ (check "P,k,1,R\nC,k,0,1\nH,k,nil/0\nM\nE\n" before gives unchanged 0 5 1 1)
+    ∷ (check "P,k,1,R\nC,k,-1,0\nH,k,X\nB,k,X\nM,1\nE\n" before gives unchanged 0 6 1 1)
+    ∷ (reserve "P,k,1,G\nC,k,7,-2\nE\n" "k,1,-" gives reserved (fields (code "B") 3 1))
+    ∷ (measure "a/0" gives sized (measured 0 0))
+    ∷ (measure "cons/2 a/0" gives sized (measured 11 0))
+    ∷ []
+
+pub starred-are-met : map (λ (r : Row). answerTo (r .call)) starred ≡ map (λ (r : Row). r .answer) starred
+unfolding answerTo
+starred-are-met = refl

@@ -1,0 +1,58 @@
+-- Document 01, "Derivations": facts, which facts meet a claim, and derivations. And what a query asks of a fact.
+use mathlib.Core.Path.{_≡_}
+use mathlib.Core.List.{List, [], _∷_}
+use mathlib.Core.Option.{Option, some, none}
+use Prim.Native.Nat.{ℕ}
+use lib.IntN.{ℤ, pos, _+ℤ_, _*ℤ_}
+use lib.ListN.{getD}
+use lib.Signed.{_≤ℤ_}
+use Rattle.theory.specs.Terms.{arity, argumentSizes, AllGround, Substitution, allUnder}
+use Rattle.theory.specs.Packs.{Kind, given, Predicate, Claim, Atom, Rule, Pack, atomKey, declaredAs, claimsOn}
+use Rattle.theory.specs.Reserve.{Query, queryKey, sizeGiven}
+use Rattle.theory.specs.Limits.{_∈_}
+
+-- A fact: a declared predicate with a ground term for each argument.
+pub record IsFact (p : Pack) (f : Atom) : Type 0 where
+  pub predicate : Predicate
+  pub declared : declaredAs (atomKey f) (p .predicates) ≡ some predicate
+  pub full : arity (f .terms) ≡ predicate .arguments
+  pub ground : AllGround (f .terms)
+
+-- each coefficient times the size of its argument, added up
+unfoldable pub weightedSizes : List ℤ → List ℕ → ℤ
+weightedSizes [] sizes = pos 0
+weightedSizes (c ∷ cs) [] = pos 0
+weightedSizes (c ∷ cs) (s ∷ sizes) = c *ℤ pos s +ℤ weightedSizes cs sizes
+
+-- A fact meets a claim when the claim holds at the sizes of its arguments.
+pub record Meets (f : Atom) (c : Claim) : Type 0 where
+  pub holds : pos 0 ≤ℤ (c .constant +ℤ weightedSizes (c .coefficients) (argumentSizes (f .terms)))
+
+-- it meets every claim on its predicate
+pub record MeetsAll (p : Pack) (f : Atom) : Type 0 where
+  pub meets : (c : Claim) → c ∈ claimsOn (atomKey f) (p .claims) → Meets f c
+
+-- A fact of a given predicate that meets the claims on it.
+pub record GivenFact (p : Pack) (f : Atom) : Type 0 where
+  pub fact : IsFact p f
+  pub isGiven : fact .predicate .kind ≡ given
+  pub meets : MeetsAll p f
+
+abbrev pub atomUnder : Substitution → Atom → Atom
+atomUnder σ a = record { name = a .name; terms = allUnder σ (a .terms) }
+
+-- What has a derivation, by the rules of a pack, from the facts that are given. Nothing else has.
+pub data Derivable (p : Pack) (Given : Atom → Type 0) : Atom → Type 0 where
+  isGiven : {f : Atom} → Given f → Derivable p Given f
+  byRule : (r : Rule) → r ∈ p .rules → (σ : Substitution)
+      → ((a : Atom) → a ∈ r .subgoals → Derivable p Given (atomUnder σ a))
+      → Derivable p Given (atomUnder σ (r .head))
+
+-- the size of the argument at a place, from 0
+abbrev pub sizeAt : ℕ → Atom → ℕ
+sizeAt i f = getD (argumentSizes (f .terms)) i 0
+
+-- A fact has the query's known sizes when it is of the query's predicate and each argument whose size the query gives has that size.
+pub record HasKnownSizes (q : Query) (f : Atom) : Type 0 where
+  pub ofPredicate : atomKey f ≡ queryKey q
+  pub known : (i s : ℕ) → sizeGiven i q ≡ some s → sizeAt i f ≡ s

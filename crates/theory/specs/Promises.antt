@@ -1,0 +1,30 @@
+-- Demands 2 and 3, as statements about what check and reserve return. Proved in proofs/Acceptance.antt and proofs/DemandThree.antt.
+use mathlib.Core.Path.{_≡_}
+use mathlib.Core.Logic.{_↔_}
+use mathlib.Core.List.{List}
+use Prim.Native.Nat.{ℕ, _≤_}
+use Prim.Native.Char.{code}
+use lib.IntN.{ℤ}
+use Rattle.theory.specs.Text.{Bytes}
+use Rattle.theory.specs.Packs.{Pack, Atom}
+use Rattle.theory.specs.Written.{packOf}
+use Rattle.theory.specs.Check.{checkOf}
+use Rattle.theory.specs.Reserve.{Query, queryOf, fields, reserveOf}
+use Rattle.theory.specs.Limits.{Acceptable}
+use Rattle.theory.specs.Derivations.{MeetsAll, GivenFact, Derivable, sizeAt, HasKnownSizes}
+
+-- Demand 2: a pack is accepted exactly when area, text and lines have 01's form and limits and every residual number is at least 0.
+pub record DemandTwo (text : Bytes) (area : List ℤ) : Type 0 where
+  pub exactly : (checkOf text area .returned .number ≡ 0) ↔ Acceptable text area
+
+-- Demand 3, of a text and of some given facts: whatever has a derivation from the pack that the text's lines write.
+pub record DemandThree (text : Bytes) (Given : Atom → Type 0) : Type 0 where
+  -- check accepts: every fact with a derivation meets every claim on its predicate
+  pub claimsMet : (area : List ℤ) → checkOf text area .returned .number ≡ 0
+      → (f : Atom) → Derivable (packOf text) Given f → MeetsAll (packOf text) f
+  -- reserve returns a bound: every fact with a derivation and the query's known sizes has an asked size no larger
+  pub boundKept : (query : Bytes) (bound claim : ℕ) → reserveOf text query ≡ fields (code "B") bound claim
+      → (f : Atom) → Derivable (packOf text) Given f → HasKnownSizes (queryOf query) f → sizeAt (queryOf query .asked) f ≤ bound
+  -- reserve replies "impossible": there is no such fact
+  pub noneSuch : (query : Bytes) (claim : ℕ) → reserveOf text query ≡ fields (code "I") 0 claim
+      → (f : Atom) → Derivable (packOf text) Given f → HasKnownSizes (queryOf query) f → ⊥
