@@ -1,0 +1,1 @@
+-- What a usable claim says of a fact with a query's known sizes.

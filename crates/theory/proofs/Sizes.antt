@@ -1,0 +1,1 @@
+-- Size and substitution: the size of a term under a substitution is the term's form at the sizes substituted.

@@ -1,0 +1,1 @@
+-- From justified claims to whole derivations.
