@@ -7,6 +7,8 @@ pub mod Steps
 pub mod LineReading
 pub mod Runs
 pub mod Examples
+pub mod Judging
+pub mod Acceptance
 pub mod Sizes
 pub mod Soundness
 pub mod Bounds

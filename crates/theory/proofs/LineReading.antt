@@ -5,9 +5,10 @@ use mathlib.Core.List.{List}
 use Prim.Native.Nat.{ℕ, _≤_}
 use lib.ListN.{length}
 use Rattle.theory.specs.Text.{Bytes, fieldsOf}
-use Rattle.theory.specs.Packs.{Pack, line, endLine, lineLimit}
+use Rattle.theory.specs.Packs.{Pack, line, endLine, lineLimit, variableLimit}
 use Rattle.theory.specs.Written.{Written, write}
-use Rattle.theory.specs.Faults.{fault, isComplete}
+use Rattle.theory.specs.Faults.{fault, isComplete, lastRule}
+use Rattle.theory.specs.Residuals.{ruleVariables}
 use Rattle.theory.proofs.Steps.{Step}
 
 abbrev pub before : Pack → Written
@@ -21,8 +22,8 @@ pub data Fine (p : Pack) : List Bytes → Written → Type 0 where
   step : {fields : List Bytes} {q : Pack} → Step p fields q → Fine p fields (before q)
   end : isComplete p ≡ true → Fine p endLine (behind p)
 
-pub fine-from-fault : (p : Pack) (l : Bytes) → fault (before p) l ≡ 0 → Fine p (fieldsOf l) (write (before p) l)
-fine-from-fault p l e = ?
+pub fine-from-fault : (p : Pack) (l : Bytes) → length (ruleVariables (lastRule p .head) (lastRule p .subgoals)) ≤ variableLimit → fault (before p) l ≡ 0 → Fine p (fieldsOf l) (write (before p) l)
+fine-from-fault p l few e = ?
 
 pub short-from-fault : (w : Written) (l : Bytes) → fault w l ≡ 0 → length l ≤ lineLimit
 short-from-fault w l e = ?
