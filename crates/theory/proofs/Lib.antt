@@ -2,6 +2,7 @@
 pub mod Bytes
 pub mod Separators
 pub mod Spelling
+pub mod Tokens
 pub mod TermReading
 pub mod Steps
 pub mod LineReading
