@@ -10,6 +10,7 @@ pub mod Runs
 pub mod Examples
 pub mod Judging
 pub mod Acceptance
+pub mod Locality
 pub mod Sizes
 pub mod Soundness
 pub mod Bounds
