@@ -2,9 +2,9 @@
 use mathlib.Core.Path.{_≡_, refl, _∙_, ap, ap₂}
 use mathlib.Core.Bool.{Bool, true, false, not, _&&_, false≢true}
 use mathlib.Core.List.{List, [], _∷_, _++_}
-use Prim.Native.Nat.{ℕ}
-use lib.Dec.{eqb}
-use Rattle.integers.proofs.Truth.{and-left, and-right, and-both, eqb-equal, eqb-same, never-both}
+use Prim.Native.Nat.{ℕ, _≤_}
+use lib.Dec.{eqb, leb}
+use Rattle.integers.proofs.Truth.{and-left, and-right, and-both, eqb-equal, eqb-same, leb-le, le-leb, never-both}
 use Rattle.theory.specs.Text.{Bytes, same, every, between}
 
 pub same-refl : (x : Bytes) → same x x ≡ true
@@ -22,6 +22,15 @@ same-equal (a ∷ rest) (b ∷ bs) e =
 
 pub same-unequal : (x y : Bytes) → same x y ≡ false → x ≡ y → ⊥
 same-unequal x y e h = never-both (same-refl x) (ap (same x) h ∙ e)
+
+pub between-from : (low high b : ℕ) → low ≤ b → b ≤ high → between low high b ≡ true
+between-from low high b h k = and-both (leb low b) (leb b high) (le-leb low b h) (le-leb b high k)
+
+pub between-low : (low high b : ℕ) → between low high b ≡ true → low ≤ b
+between-low low high b e = leb-le low b (and-left (leb low b) (leb b high) e)
+
+pub between-high : (low high b : ℕ) → between low high b ≡ true → b ≤ high
+between-high low high b e = leb-le b high (and-right (leb low b) (leb b high) e)
 
 -- a byte that may stand in a field: 32 to 126, and no comma
 abbrev pub isFieldByte : ℕ → Bool
