@@ -1,6 +1,7 @@
 -- What is proved of the definitions.
 pub mod Bytes
 pub mod Separators
+pub mod Decimals
 pub mod Spelling
 pub mod Tokens
 pub mod TermReading
