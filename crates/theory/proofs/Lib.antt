@@ -7,6 +7,10 @@ pub mod Steps
 pub mod LineReading
 pub mod Runs
 pub mod Examples
+pub mod Variables
+pub mod FormValues
 pub mod Sizes
+pub mod SubgoalForms
 pub mod Soundness
+pub mod FormBounds
 pub mod Bounds

@@ -1,0 +1,1 @@
+-- How large the numbers of forms are: a residual's fit 64 bits.
