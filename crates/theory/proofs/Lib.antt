@@ -12,5 +12,6 @@ pub mod FormValues
 pub mod Sizes
 pub mod SubgoalForms
 pub mod Soundness
+pub mod TermLengths
 pub mod FormBounds
 pub mod Bounds
