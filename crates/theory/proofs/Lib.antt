@@ -12,6 +12,11 @@ pub mod Examples
 pub mod Judging
 pub mod Acceptance
 pub mod Locality
+pub mod Variables
+pub mod FormValues
 pub mod Sizes
+pub mod SubgoalForms
 pub mod Soundness
+pub mod TermLengths
+pub mod FormBounds
 pub mod Bounds
