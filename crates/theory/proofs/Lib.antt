@@ -7,6 +7,15 @@ pub mod Tokens
 pub mod TermReading
 pub mod Steps
 pub mod LineReading
+pub mod ListEnds
+pub mod LastRule
+pub mod Completeness
+pub mod ClaimsOn
+pub mod RuleVariables
+pub mod OpenLines
+pub mod Begun
+pub mod Reached
+pub mod Built
 pub mod Runs
 pub mod Examples
 pub mod Judging
