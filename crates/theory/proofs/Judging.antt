@@ -1,7 +1,7 @@
 -- Judging lines from the top: it ends without a refusal exactly on the lines of a run that ends with `E`.
 use mathlib.Core.Path.{_≡_, refl, sym, _∙_, ap}
 use mathlib.Core.Bool.{Bool, true, false, cond}
-use mathlib.Core.List.{List, [], _∷_, _++_, map, cons≢nil, List·Memᴰ·head, List·Memᴰ·tail, List·Memᴰ·cases-cons, List·Memᴰ·not-nil}
+use mathlib.Core.List.{List, [], _∷_, _++_, map, dropLast, List·Memᴰ·head, List·Memᴰ·tail, List·Memᴰ·cases-cons, List·Memᴰ·not-nil}
 use mathlib.Core.Logic.{⊎-elim}
 use Prim.Native.Nat.{ℕ, zero, suc, _+_, _≤_}
 use native.Mathlib.Omega.{arith}
@@ -19,38 +19,27 @@ use Rattle.theory.specs.Check.{Judgement, numbers, plain, multiplierLine
 use Rattle.theory.specs.Limits.{_∈_}
 use Rattle.theory.proofs.Separators.{joined-of-parts}
 use Rattle.theory.proofs.Steps.{withPredicate, withClaim, Step, predicateStep, claimStep, headStep, subgoalStep, multiplierStep, Run, stay, go}
+use Rattle.theory.proofs.LastRule.{lastOf-end, onLast-parts}
+use Rattle.theory.proofs.Completeness.{rule-from-incomplete}
 use Rattle.theory.proofs.LineReading.{before, behind, Fine, step, end, fine-from-fault, short-from-fault, fault-behind-end, Read, read-fine}
 
 -- the last rule so far has few enough variables
 abbrev pub Few : Pack → Type 0
 Few p = length (ruleVariables (lastRule p .head) (lastRule p .subgoals)) ≤ variableLimit
 
--- the last rule, where one was put at the end or the last one was changed
-last-added : (d r : Rule) (rs : List Rule) → lastOf d (rs ++ (r ∷ [])) ≡ r
-unfolding lastOf
-last-added d r [] = refl
-last-added d r (s ∷ rs) = last-added s r rs
-
-last-changed : (d : Rule) (change : Rule → Rule) (rs : List Rule) → (rs ≡ [] → ⊥) → lastOf d (onLast change rs) ≡ change (lastOf d rs)
-unfolding lastOf onLast
-last-changed d change [] h = absurd (h refl)
-last-changed d change (r ∷ []) h = refl
-last-changed d change (r ∷ s ∷ rs) h = last-changed r change (s ∷ rs) cons≢nil
+last-changed : (change : Rule → Rule) (rs : List Rule) → (rs ≡ [] → ⊥) → lastOf noRule (onLast change rs) ≡ change (lastOf noRule rs)
+last-changed change rs started = rw (onLast-parts change noRule rs started) (lastOf-end noRule (dropLast rs) (change (lastOf noRule rs)))
 
 pub no-rule-few : (p : Pack) → p .rules ≡ [] → Few p
 unfolding lastOf noRule ruleVariables numbered atomsVariables allVariables
 no-rule-few p e = rw e (omega arith)
 
-incomplete-started : (p : Pack) → isComplete p ≡ false → p .rules ≡ [] → ⊥
-unfolding isEmpty
-incomplete-started p h e = never-both refl (rw e at h)
-
 few-after : {p q : Pack} {fields : List Bytes} → Step p fields q → Few p → Few q
 few-after {p} (predicateStep x c r f d l) few = no-rule-few (withPredicate x p) r
 few-after {p} (claimStep c r f l) few = no-rule-few (withClaim c p) r
-few-after {p} (headStep a c f k l v) few = rw (last-added noRule (record { head = a; subgoals = []; multipliers = [] }) (p .rules)) v
-few-after {p} (subgoalStep a s m f l v) few = rw (last-changed noRule (withSubgoal a) (p .rules) s) v
-few-after {p} (multiplierStep ms c f n) few = rw (last-changed noRule (withMultipliers ms) (p .rules) (incomplete-started p c)) few
+few-after {p} (headStep a c f k l v) few = rw (lastOf-end noRule (p .rules) (record { head = a; subgoals = []; multipliers = [] })) v
+few-after {p} (subgoalStep a s m f l v) few = rw (last-changed (withSubgoal a) (p .rules) s) v
+few-after {p} (multiplierStep ms c f n) few = rw (last-changed (withMultipliers ms) (p .rules) (rule-from-incomplete p c)) few
 
 -- lines that are those of a run from p to q, and then `E`
 pub record Accepted (p : Pack) (ls : List Bytes) : Type 0 where
