@@ -10,3 +10,9 @@ pub mod Examples
 pub mod Sizes
 pub mod Soundness
 pub mod Bounds
+pub mod Kept
+pub mod Keys
+pub mod UsableClaims
+pub mod Reservations
+pub mod ReserveAnswers
+pub mod ReserveSound
