@@ -29,3 +29,9 @@ pub mod Soundness
 pub mod TermLengths
 pub mod FormBounds
 pub mod Bounds
+pub mod Kept
+pub mod Keys
+pub mod UsableClaims
+pub mod Reservations
+pub mod ReserveAnswers
+pub mod ReserveSound
