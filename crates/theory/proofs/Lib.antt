@@ -17,6 +17,7 @@ pub mod Begun
 pub mod Reached
 pub mod Built
 pub mod Runs
+pub mod DemandThree
 pub mod Examples
 pub mod Judging
 pub mod Acceptance
