@@ -7,15 +7,7 @@ use native.Mathlib.Omega.{arith}
 use lib.ListN.{length, length-append}
 use Rattle.integers.proofs.Truth.{by-truth}
 use Rattle.theory.specs.Packs.{Claim, Key, sameKey, claimKey, claimsOn}
-use Rattle.theory.proofs.Bytes.{same-refl, same-equal}
-
-same-key : (k : Key) → sameKey k k ≡ true
-unfolding sameKey
-same-key k = same-refl k
-
-equal-keys : (k l : Key) → sameKey k l ≡ true → k ≡ l
-unfolding sameKey
-equal-keys k l h = same-equal k l h
+use Rattle.theory.proofs.Keys.{sameKey-refl, sameKey-equal}
 
 claimsOn-kept : (k : Key) (c : Claim) (cs : List Claim) → sameKey k (claimKey c) ≡ true → claimsOn k (c ∷ cs) ≡ c ∷ claimsOn k cs
 unfolding claimsOn
@@ -43,11 +35,11 @@ unfolding claimsOn
 fewClaims-end limit cs c few room k = by-truth (λ (b : Bool). length (claimsOn k (cs ++ (c ∷ []))) ≤ limit) (sameKey k (claimKey c)) kept left-out
   where
     kept : sameKey k (claimKey c) ≡ true → length (claimsOn k (cs ++ (c ∷ []))) ≤ limit
-    kept e = omega (arith, length-claimsOn k cs (c ∷ []), ap length (claimsOn-kept k c [] e), subst (λ (l : Key). length (claimsOn l cs) < limit) (sym (equal-keys k (claimKey c) e)) room)
+    kept e = omega (arith, length-claimsOn k cs (c ∷ []), ap length (claimsOn-kept k c [] e), subst (λ (l : Key). length (claimsOn l cs) < limit) (sym (sameKey-equal k (claimKey c) e)) room)
 
     left-out : sameKey k (claimKey c) ≡ false → length (claimsOn k (cs ++ (c ∷ []))) ≤ limit
     left-out e = omega (arith, length-claimsOn k cs (c ∷ []), ap length (claimsOn-left-out k c [] e), few k)
 
 -- a claim counts among those on its own key
 pub claims-before : (before behind : List Claim) (c : Claim) → length (claimsOn (claimKey c) before) < length (claimsOn (claimKey c) (before ++ (c ∷ behind)))
-claims-before before behind c = omega (arith, length-claimsOn (claimKey c) before (c ∷ behind), ap length (claimsOn-kept (claimKey c) c behind (same-key (claimKey c))))
+claims-before before behind c = omega (arith, length-claimsOn (claimKey c) before (c ∷ behind), ap length (claimsOn-kept (claimKey c) c behind (sameKey-refl (claimKey c))))
