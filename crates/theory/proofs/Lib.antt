@@ -3,6 +3,7 @@
 -- what bytes spell, and that reading is the inverse of writing
 pub mod Bytes
 pub mod Separators
+pub mod Every
 pub mod Decimals
 pub mod Spelling
 pub mod Tokens
@@ -27,6 +28,18 @@ pub mod Built
 pub mod Runs
 
 -- lines without a fault; demand 2
+pub mod Presence
+pub mod Tests
+pub mod Letters
+pub mod FieldValues
+pub mod TermFields
+pub mod PlainFields
+pub mod ResidualNumbers
+pub mod Faultless
+pub mod PredicateLines
+pub mod ClaimLines
+pub mod AtomLines
+pub mod MultiplierLines
 pub mod LineReading
 pub mod Judging
 pub mod Acceptance
