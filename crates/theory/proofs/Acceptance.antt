@@ -1,0 +1,115 @@
+-- Demand 2: a pack is accepted exactly when area, text and lines have document 01's form and limits and all is justified.
+-- And the lines of such a pack write that pack.
+use mathlib.Core.Path.{_≡_, refl, sym, _∙_, ap}
+use mathlib.Core.Logic.{_↔_, ⊎-elim}
+use mathlib.Core.Bool.{Bool, true, false, cond}
+use mathlib.Core.List.{List, [], _∷_, _++_, map, List·Memᴰ·cases-cons, List·Memᴰ·not-nil}
+use Prim.Native.Nat.{ℕ, suc, _+_, _≤_}
+use native.Mathlib.Omega.{arith}
+use native.Mathlib.Nat.{zero-add}
+use lib.Dec.{ltb}
+use lib.IntN.{ℤ}
+use lib.ListN.{length, drop}
+use Rattle.integers.proofs.Truth.{ltb-ge, ge-ltb}
+use Rattle.theory.specs.Text.{Bytes, linesOf}
+use Rattle.theory.specs.Packs.{Pack, line, endLine, openLines, packLines, textOf, written, textLimit, lineLimit}
+use Rattle.theory.specs.Written.{Written, nothing, writeAll, packOf}
+use Rattle.theory.specs.Faults.{isComplete}
+use Rattle.theory.specs.Check.{Checked, numbers, plain, judge, isFinished, verdictOf, checkOf, areaNeeded}
+use Rattle.theory.specs.Limits.{_∈_, Fits, Justified, Acceptable}
+use Rattle.theory.specs.Promises.{DemandTwo}
+use Rattle.theory.proofs.Separators.{AllFree, lines-of-text, text-of-lines, finished-text}
+use Rattle.theory.proofs.Steps.{Run, stay, go}
+use Rattle.theory.proofs.LineReading.{before, behind, step, end, fine-free}
+use Rattle.theory.proofs.Runs.{emptyPack, run-lines, run-fits, run-justified, fits-run, fits-complete}
+use Rattle.theory.proofs.Judging.{Accepted, accepted-from-judge, Judged, judged-run, counted, no-rule-few}
+
+-- ## Accepted, so acceptable
+
+pub record FromVerdict (text : Bytes) : Type 0 where
+  pub short : length text ≤ textLimit
+  pub finished : isFinished text ≡ true
+  pub judged : judge nothing 0 (linesOf text) .returned .number ≡ 0
+
+verdict-accepts : (text : Bytes) → verdictOf text .returned .number ≡ 0 → FromVerdict text
+unfolding verdictOf
+verdict-accepts text e = long (ltb textLimit (length text)) refl e
+  where
+    open-end : (b : Bool) → ltb textLimit (length text) ≡ false → isFinished text ≡ b → cond b (judge nothing 0 (linesOf text)) (plain (numbers 3 0 0 0)) .returned .number ≡ 0 → FromVerdict text
+    open-end true h k e = record { short = ltb-ge textLimit (length text) h; finished = k; judged = e }
+    open-end false h k e = absurd (omega arith)
+    long : (b : Bool) → ltb textLimit (length text) ≡ b → cond b (plain (numbers 2 0 0 0)) (cond (isFinished text) (judge nothing 0 (linesOf text)) (plain (numbers 3 0 0 0))) .returned .number ≡ 0 → FromVerdict text
+    long true h e = absurd (omega arith)
+    long false h e = open-end (isFinished text) h refl e
+
+-- what the text of an accepted verdict is
+pub record Accepts (text : Bytes) : Type 0 where
+  pub pack : Pack
+  pub isWritten : text ≡ written pack
+  pub fits : Fits pack
+  pub justified : Justified pack
+
+pub accepts-from-verdict : (text : Bytes) → verdictOf text .returned .number ≡ 0 → Accepts text
+unfolding nothing written packLines
+accepts-from-verdict text e = from (verdict-accepts text e)
+  where
+    from : FromVerdict text → Accepts text
+    from v = record { pack = p; isWritten = is; fits = run-fits (a .fields) p (a .run) (a .complete) short (rw (← is) (v .short)); justified = run-justified (a .fields) p (a .run) (a .complete) }
+      where
+        a : Accepted emptyPack (linesOf text)
+        a = accepted-from-judge emptyPack 0 (linesOf text) (no-rule-few emptyPack refl) (v .judged)
+        p : Pack
+        p = a .end-pack
+        lines-are : linesOf text ≡ packLines p
+        lines-are = a .are ∙ ap (λ fields. map line (fields ++ (endLine ∷ []))) (run-lines (a .fields) p (a .run))
+        is : text ≡ written p
+        is = sym (text-of-lines text (v .finished)) ∙ ap textOf lines-are
+        short : (l : Bytes) → l ∈ packLines p → length l ≤ lineLimit
+        short l m = a .short l (rw (← lines-are) at m)
+
+-- ## Acceptable, so accepted, with the counts; and its lines write it
+
+run-free : (p q : Pack) (fields : List (List Bytes)) → Run p fields q → isComplete q ≡ true → AllFree 10 (map line (fields ++ (endLine ∷ [])))
+run-free p q fields stay c l m = ⊎-elim (λ (h : l ≡ line endLine). rw h (fine-free p endLine (behind p) (end c))) (λ n. absurd (List·Memᴰ·not-nil n)) (List·Memᴰ·cases-cons m)
+run-free p q fields (go {q = r} {fields = f} {rest = rest} s run) c l m = ⊎-elim (λ (h : l ≡ line f). rw h (fine-free p f (before r) (step s))) (run-free r q rest run c l) (List·Memᴰ·cases-cons m)
+
+pub record OfPack (p : Pack) : Type 0 where
+  pub verdict : verdictOf (written p) ≡ counted (length (packLines p)) p
+  pub pack : packOf (written p) ≡ p
+
+last-finished : (fields : List (List Bytes)) → isFinished (textOf (map line (fields ++ (endLine ∷ [])))) ≡ true
+last-finished [] = finished-text (line endLine) []
+last-finished (f ∷ fields) = finished-text (line f) (map line (fields ++ (endLine ∷ [])))
+
+pub of-pack : (p : Pack) → Fits p → Justified p → OfPack p
+unfolding written packLines verdictOf packOf nothing
+of-pack p fits justified = record
+  { verdict = rw (ge-ltb textLimit (length (written p)) (fits .shortText), last-finished (openLines p), lines-are) (judged .verdict ∙ rw zero-add)
+  ; pack = ap (λ (ls : List Bytes). writeAll nothing ls .pack) lines-are ∙ ap (λ (w : Written). w .pack) (judged .writes)
+  }
+  where
+    run : Run emptyPack (openLines p) p
+    run = fits-run p fits justified
+    lines-are : linesOf (written p) ≡ packLines p
+    lines-are = lines-of-text (packLines p) (run-free emptyPack p (openLines p) run (fits-complete p fits))
+    judged : Judged (before emptyPack) 0 (packLines p) p
+    judged = judged-run emptyPack p 0 (openLines p) run (fits-complete p fits) (fits .shortLines)
+
+-- ## Together
+
+check-accepts : (text : Bytes) (area : List ℤ) → checkOf text area .returned .number ≡ 0 → Acceptable text area
+unfolding checkOf
+check-accepts text area e = go (ltb (length area) areaNeeded) refl e
+  where
+    go : (b : Bool) → ltb (length area) areaNeeded ≡ b → cond {A = Checked} b (record { returned = numbers 1 0 0 0; area = area }) (record { returned = verdictOf text .returned; area = verdictOf text .residue ++ drop (length (verdictOf text .residue)) area }) .returned .number ≡ 0 → Acceptable text area
+    go true h e = absurd (omega arith)
+    go false h e =
+        let a = accepts-from-verdict text e in
+        record { room = ltb-ge (length area) areaNeeded h; pack = a .pack; isWritten = a .isWritten; fits = a .fits; justified = a .justified }
+
+acceptable-checks : (text : Bytes) (area : List ℤ) → Acceptable text area → checkOf text area .returned .number ≡ 0
+unfolding checkOf
+acceptable-checks text area a = rw (ge-ltb (length area) areaNeeded (a .room), a .isWritten, of-pack (a .pack) (a .fits) (a .justified) .verdict)
+
+pub accepted-exactly : (text : Bytes) (area : List ℤ) → DemandTwo text area
+accepted-exactly text area = record { exactly = (check-accepts text area, acceptable-checks text area) }

@@ -1,0 +1,40 @@
+-- The variables of a rule with fewer subgoals are no more.
+use mathlib.Core.Path.{_≡_, refl, sym, _∙_, ap, subst}
+use mathlib.Core.Bool.{Bool, true, false, cond}
+use mathlib.Core.List.{List, [], _∷_, _++_, append-assoc}
+use Prim.Native.Nat.{_≤_}
+use native.Mathlib.Omega.{arith}
+use native.Mathlib.Nat.{le-refl, le-trans}
+use lib.ListN.{length}
+use Rattle.theory.specs.Text.{Bytes, among}
+use Rattle.theory.specs.Terms.{allVariables}
+use Rattle.theory.specs.Packs.{Atom}
+use Rattle.theory.specs.Residuals.{numbered, atomsVariables, ruleVariables}
+use Rattle.theory.proofs.ListEnds.{length-end}
+
+seen-are-fewer : (seen xs : List Bytes) → length seen ≤ length (numbered seen xs)
+unfolding numbered
+seen-are-fewer seen [] = le-refl _
+seen-are-fewer seen (x ∷ xs) = le-trans (more (among x seen)) (seen-are-fewer (cond (among x seen) seen (seen ++ (x ∷ []))) xs)
+  where
+    more : (b : Bool) → length seen ≤ length (cond b seen (seen ++ (x ∷ [])))
+    more true = le-refl _
+    more false = omega (arith, length-end seen x)
+
+numbered-append : (seen xs ys : List Bytes) → numbered seen (xs ++ ys) ≡ numbered (numbered seen xs) ys
+unfolding numbered
+numbered-append seen [] ys = refl
+numbered-append seen (x ∷ xs) ys = numbered-append (cond (among x seen) seen (seen ++ (x ∷ []))) xs ys
+
+atomsVariables-append : (first rest : List Atom) → atomsVariables (first ++ rest) ≡ atomsVariables first ++ atomsVariables rest
+unfolding atomsVariables
+atomsVariables-append [] rest = refl
+atomsVariables-append (a ∷ first) rest = ap (λ (l : List Bytes). allVariables (a .terms) ++ l) (atomsVariables-append first rest) ∙ sym (append-assoc (allVariables (a .terms)) (atomsVariables first) (atomsVariables rest))
+
+pub variables-of-fewer : (head : Atom) (before behind : List Atom) → length (ruleVariables head before) ≤ length (ruleVariables head (before ++ behind))
+unfolding ruleVariables
+variables-of-fewer head before behind =
+    subst (λ (l : List Bytes). length (ruleVariables head before) ≤ length l) (sym appended) (seen-are-fewer (ruleVariables head before) (atomsVariables behind))
+  where
+    appended : ruleVariables head (before ++ behind) ≡ numbered (ruleVariables head before) (atomsVariables behind)
+    appended = ap (numbered []) (atomsVariables-append (head ∷ before) behind) ∙ numbered-append [] (atomsVariables (head ∷ before)) (atomsVariables behind)
