@@ -7,7 +7,7 @@ use Prim.Native.String.{String}
 use lib.IntN.{ℤ, pos, negsuc}
 use lib.ListN.{replicate}
 use Rattle.theory.specs.Text.{bytes, same, among, every, partsAt, joined, linesOf, isNameByte, isWord, valueBehind, isDecimal, natural, negated, integer}
-use Rattle.theory.specs.Terms.{arity, symbolFrom, tokenOf, firstTerms, behind, behindAll, termsOf, theOnly, readTerm, size, variables, occurrences}
+use Rattle.theory.specs.Terms.{arity, symbolFrom, tokenOf, firstTerms, behind, behindAll, termsOf, theOnly, readTerm, contribution, size, variables, occurrences}
 use Rattle.theory.specs.Forms.{zeroForm, plus, times, minus, constantForm, formOf}
 use Rattle.theory.specs.Packs.{key, sameKey, declaredAs, claimsOn}
 use Rattle.theory.specs.Written.{letterOf, termsFrom, kindFrom, predicateFrom, claimFrom, atomFrom, multipliersFrom, nothing, onLast, add, write, writeAll, packOf}
@@ -29,7 +29,7 @@ pub data Answer : Type 0 where
   sized : Measured → Answer
 
 unfoldable pub answerTo : Example → Answer
-unfolding bytes same among every partsAt joined linesOf isNameByte isWord valueBehind isDecimal natural negated integer arity symbolFrom tokenOf firstTerms behind behindAll termsOf theOnly readTerm size variables occurrences zeroForm plus times minus constantForm formOf key sameKey declaredAs claimsOn letterOf termsFrom kindFrom predicateFrom claimFrom atomFrom multipliersFrom nothing onLast add write writeAll packOf weighted claimForm subgoalForms combined residual numbered atomsVariables ruleVariables residualNumbers isJustified firstOf isSome isUnfit arityIn isGiven givenIn isEmpty noRule lastOf mayStand noClaim residualDue predicateTests claimTests atomTests headTests subgoalTests multiplierTests tests fault multiplierLines refused judge isFinished verdictOf checkOf measureTerm measureOf sizeFrom queryFrom queryOf queryFault unknownsAtMostZero knownPart isUsable numerator boundBy usableFrom impossibles smallest bounded impossibleOr reservation refusal reserveOf flatMap
+unfolding bytes same among every partsAt joined linesOf isNameByte isWord valueBehind isDecimal natural negated integer arity symbolFrom tokenOf firstTerms behind behindAll termsOf theOnly readTerm contribution size variables occurrences zeroForm plus times minus constantForm formOf key sameKey declaredAs claimsOn letterOf termsFrom kindFrom predicateFrom claimFrom atomFrom multipliersFrom nothing onLast add write writeAll packOf weighted claimForm subgoalForms combined residual numbered atomsVariables ruleVariables residualNumbers isJustified firstOf isSome isUnfit arityIn isGiven givenIn isEmpty noRule lastOf mayStand noClaim residualDue predicateTests claimTests atomTests headTests subgoalTests multiplierTests tests fault multiplierLines refused judge isFinished verdictOf checkOf measureTerm measureOf sizeFrom queryFrom queryOf queryFault unknownsAtMostZero knownPart isUsable numerator boundBy usableFrom impossibles smallest bounded impossibleOr reservation refusal reserveOf flatMap
 answerTo (check pack area) = checked (checkOf (bytes pack) area)
 answerTo (reserve pack query) = reserved (reserveOf (bytes pack) (bytes query))
 answerTo (measure term) = sized (measureOf (bytes term))

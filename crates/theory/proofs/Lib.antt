@@ -60,6 +60,6 @@ pub mod Reservations
 pub mod ReserveAnswers
 pub mod ReserveSound
 
--- demand 3, and the starred examples
+-- demand 3, and document 01's starred examples
 pub mod DemandThree
 pub mod Examples

@@ -9,7 +9,7 @@ use native.Mathlib.Omega.{arith}
 use lib.IntN.{ℤ, pos, _+ℤ_}
 use Rattle.integers.proofs.Truth.{by-truth}
 use Rattle.theory.specs.Text.{Bytes, same}
-use Rattle.theory.specs.Terms.{Term, Terms, variable, symbol, nil, cons, arity, size, sizes, argumentSizes, variables, allVariables, occurrences, AllGround, IsGround, Substitution, under, allUnder}
+use Rattle.theory.specs.Terms.{Term, Terms, variable, symbol, nil, cons, arity, contribution, size, sizes, argumentSizes, variables, allVariables, occurrences, AllGround, IsGround, Substitution, under, allUnder}
 use Rattle.theory.specs.Forms.{Form, plus, constantForm, formOf, valueAt}
 use Rattle.theory.specs.Packs.{Claim, Atom, atomKey, key}
 use Rattle.theory.specs.Residuals.{weighted, claimForm}
@@ -53,7 +53,7 @@ occurrences-append x (y ∷ xs) ys =
     by-truth (λ b. cond b (suc (occurrences x (xs ++ ys))) (occurrences x (xs ++ ys)) ≡ cond b (suc (occurrences x xs)) (occurrences x xs) + occurrences x ys)
     (same x y) (λ h. omega (arith, occurrences-append x xs ys)) (λ h. occurrences-append x xs ys)
 
-symbol-form : (f : Bytes) (ts : Terms) → formOf (symbol f ts) ≡ plus (constantForm (pos (arity ts))) (allForm ts)
+symbol-form : (f : Bytes) (ts : Terms) → formOf (symbol f ts) ≡ plus (constantForm (pos (contribution (arity ts)))) (allForm ts)
 unfolding formOf plus constantForm allForm size variables
 symbol-form f ts = form-path refl (λ x. ap pos (omega arith))
 

@@ -8,7 +8,7 @@ use native.Mathlib.Omega.{arith}
 use lib.ListN.{length, length-append}
 use Rattle.integers.proofs.Truth.{never-both}
 use Rattle.theory.specs.Text.{Bytes, joined, isWord, isVariable, decimal}
-use Rattle.theory.specs.Terms.{Term, Terms, variable, symbol, nil, cons, arity, symbolToken, tokens, allTokens, writtenTerm, WellFormed, size, sizes, variables, allVariables}
+use Rattle.theory.specs.Terms.{Term, Terms, variable, symbol, nil, cons, arity, symbolToken, tokens, allTokens, writtenTerm, WellFormed, contribution, size, sizes, variables, allVariables}
 use Rattle.theory.specs.Packs.{Atom, termFields, line}
 
 -- ---- parts with separators between them
@@ -37,7 +37,7 @@ joined-count separator (part ∷ parts) = omega (arith, joined-length separator 
 
 -- Every token but the first is an argument of one symbol: there is one token more than the size.
 mutual
-  unfolding tokens allTokens size sizes arity
+  unfolding tokens allTokens contribution size sizes arity
 
   pub tokens-count : (t : Term) → length (tokens t) ≡ suc (size t)
   tokens-count (variable x) = refl
@@ -48,7 +48,7 @@ mutual
   all-tokens-count (cons t ts) = omega (arith, length-append (tokens t) (allTokens ts), tokens-count t, all-tokens-count ts)
 
 mutual
-  unfolding variables allVariables size sizes arity
+  unfolding variables allVariables contribution size sizes arity
 
   pub variables-count : (t : Term) → length (variables t) ≤ suc (size t)
   variables-count (variable x) = omega arith

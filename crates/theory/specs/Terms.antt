@@ -100,11 +100,15 @@ readTerm field = theOnly (termsOf (partsAt (code " ") field))
 
 -- ## Sizes (000, section 1.4)
 
+-- what a symbol of arity k adds to a size
+unfoldable pub contribution : ℕ → ℕ
+contribution k = k
+
 -- The sum of the arities of a term's symbols: the size of a ground term, and the constant of any term's size.
 unfoldable mutual
   pub size : Term → ℕ
   size (variable x) = 0
-  size (symbol f ts) = arity ts + sizes ts
+  size (symbol f ts) = contribution (arity ts) + sizes ts
 
   pub sizes : Terms → ℕ
   sizes nil = 0
