@@ -38,6 +38,7 @@ verdict-accepts text e = long (ltb textLimit (length text)) refl e
     open-end : (b : Bool) → ltb textLimit (length text) ≡ false → isFinished text ≡ b → cond b (judge nothing 0 (linesOf text)) (plain (numbers 3 0 0 0)) .returned .number ≡ 0 → FromVerdict text
     open-end true h k e = record { short = ltb-ge textLimit (length text) h; finished = k; judged = e }
     open-end false h k e = absurd (omega arith)
+
     long : (b : Bool) → ltb textLimit (length text) ≡ b → cond b (plain (numbers 2 0 0 0)) (cond (isFinished text) (judge nothing 0 (linesOf text)) (plain (numbers 3 0 0 0))) .returned .number ≡ 0 → FromVerdict text
     long true h e = absurd (omega arith)
     long false h e = open-end (isFinished text) h refl e
@@ -58,12 +59,16 @@ accepts-from-verdict text e = from (verdict-accepts text e)
       where
         a : Accepted emptyPack (linesOf text)
         a = accepted-from-judge emptyPack 0 (linesOf text) (no-rule-few emptyPack refl) (v .judged)
+
         p : Pack
         p = a .end-pack
+
         lines-are : linesOf text ≡ packLines p
         lines-are = a .are ∙ ap (λ fields. map line (fields ++ (endLine ∷ []))) (run-lines (a .fields) p (a .run))
+
         is : text ≡ written p
         is = sym (text-of-lines text (v .finished)) ∙ ap textOf lines-are
+
         short : (l : Bytes) → l ∈ packLines p → length l ≤ lineLimit
         short l m = a .short l (rw (← lines-are) at m)
 
@@ -83,15 +88,17 @@ last-finished (f ∷ fields) = finished-text (line f) (map line (fields ++ (endL
 
 pub of-pack : (p : Pack) → Fits p → Justified p → OfPack p
 unfolding written packLines verdictOf packOf nothing
-of-pack p fits justified = record
-  { verdict = rw (ge-ltb textLimit (length (written p)) (fits .shortText), last-finished (openLines p), lines-are) (judged .verdict ∙ rw zero-add)
-  ; pack = ap (λ (ls : List Bytes). writeAll nothing ls .pack) lines-are ∙ ap (λ (w : Written). w .pack) (judged .writes)
-  }
+of-pack p fits justified = record {
+  verdict = rw (ge-ltb textLimit (length (written p)) (fits .shortText), last-finished (openLines p), lines-are) (judged .verdict ∙ rw zero-add);
+  pack = ap (λ (ls : List Bytes). writeAll nothing ls .pack) lines-are ∙ ap (λ (w : Written). w .pack) (judged .writes);
+}
   where
     run : Run emptyPack (openLines p) p
     run = fits-run p fits justified
+
     lines-are : linesOf (written p) ≡ packLines p
     lines-are = lines-of-text (packLines p) (run-free emptyPack p (openLines p) run (fits-complete p fits))
+
     judged : Judged (before emptyPack) 0 (packLines p) p
     judged = judged-run emptyPack p 0 (openLines p) run (fits-complete p fits) (fits .shortLines)
 

@@ -34,17 +34,17 @@ sound-from-check text area e = let a = accepted-exactly text area .exactly .0 e 
 
 -- Of any given facts that meet the claims on their given predicates.
 pub demand-three : (text : Bytes) (Given : Atom → Type 0) → ((f : Atom) → Given f → GivenFact (packOf text) f) → DemandThree text Given
-demand-three text Given given = record
-  { claimsMet = λ area e. derivable-meets p Given given (sound-from-check text area e .justified)
-  ; boundKept = λ query bound claim e.
+demand-three text Given given = record {
+  claimsMet = λ area e. derivable-meets p Given given (sound-from-check text area e .justified);
+  boundKept = λ query bound claim e.
       let a = answered text query (fields (code "B") bound claim) refl e in
       let s = sound-from-verdict text (a .accepted) in
-      bound-kept p (Derivable p Given) (derivable-is-fact p Given given (s .fits)) (derivable-meets p Given given (s .justified)) (s .fits .claims) (queryOf query) (asks p (s .fits .predicates) query (a .faultless)) bound claim (bound-exactly p (queryOf query) bound claim .0 (a .says))
-  ; noneSuch = λ query claim e.
+      bound-kept p (Derivable p Given) (derivable-is-fact p Given given (s .fits)) (derivable-meets p Given given (s .justified)) (s .fits .claims) (queryOf query) (asks p (s .fits .predicates) query (a .faultless)) bound claim (bound-exactly p (queryOf query) bound claim .0 (a .says));
+  noneSuch = λ query claim e.
       let a = answered text query (fields (code "I") 0 claim) refl e in
       let s = sound-from-verdict text (a .accepted) in
-      none-such p (Derivable p Given) (derivable-is-fact p Given given (s .fits)) (derivable-meets p Given given (s .justified)) (s .fits .claims) (queryOf query) (asks p (s .fits .predicates) query (a .faultless)) claim (impossible-exactly p (queryOf query) claim .0 (a .says))
-  }
+      none-such p (Derivable p Given) (derivable-is-fact p Given given (s .fits)) (derivable-meets p Given given (s .justified)) (s .fits .claims) (queryOf query) (asks p (s .fits .predicates) query (a .faultless)) claim (impossible-exactly p (queryOf query) claim .0 (a .says));
+}
   where
     p : Pack
     p = packOf text

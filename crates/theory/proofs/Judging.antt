@@ -78,22 +78,22 @@ accepted-behind : (p : Pack) (k : ℕ) (l : Bytes) (ls fields : List Bytes) (w :
 accepted-behind p k l ls fields w few (step {q = q} s) is short e ih = after (ih q (few-after s few) e)
   where
     after : Accepted q ls → Accepted p (l ∷ ls)
-    after a = record
-      { end-pack = a .end-pack
-      ; fields = fields ∷ a .fields
-      ; run = go s (a .run)
-      ; complete = a .complete
-      ; are = rw (← is, a .are)
-      ; short = λ x m. ⊎-elim (λ (h : x ≡ l). rw h short) (a .short x) (List·Memᴰ·cases-cons m)
-      }
-accepted-behind p k l ls fields w few (end c) is short e ih = record
-  { end-pack = p
-  ; fields = []
-  ; run = stay
-  ; complete = c
-  ; are = rw (judged-end p k ls e, is)
-  ; short = λ x m. ⊎-elim (λ (h : x ≡ l). rw h short) (λ (h : x ∈ ls). absurd (List·Memᴰ·not-nil (rw (judged-end p k ls e) at h))) (List·Memᴰ·cases-cons m)
-  }
+    after a = record {
+      end-pack = a .end-pack;
+      fields = fields ∷ a .fields;
+      run = go s (a .run);
+      complete = a .complete;
+      are = rw (← is, a .are);
+      short = λ x m. ⊎-elim (λ (h : x ≡ l). rw h short) (a .short x) (List·Memᴰ·cases-cons m);
+    }
+accepted-behind p k l ls fields w few (end c) is short e ih = record {
+  end-pack = p;
+  fields = [];
+  run = stay;
+  complete = c;
+  are = rw (judged-end p k ls e, is);
+  short = λ x m. ⊎-elim (λ (h : x ≡ l). rw h short) (λ (h : x ∈ ls). absurd (List·Memᴰ·not-nil (rw (judged-end p k ls e) at h))) (List·Memᴰ·cases-cons m);
+}
 
 pub accepted-from-judge : (p : Pack) (k : ℕ) (ls : List Bytes) → Few p → judge (before p) k ls .returned .number ≡ 0 → Accepted p ls
 unfolding judge
@@ -113,10 +113,10 @@ pub record Judged (w : Written) (k : ℕ) (ls : List Bytes) (q : Pack) : Type 0 
 
 judged-behind : (p q : Pack) (k : ℕ) (fields : List Bytes) (ls : List Bytes) (w : Written) → Read p fields w → Judged w (k + 1) ls q → Judged (before p) k (line fields ∷ ls) q
 unfolding judge writeAll
-judged-behind p q k fields ls w read j = record
-  { verdict = rw (read .faultless, read .writes, j .verdict) (ap (λ (n : ℕ). counted n q) (omega arith))
-  ; writes = rw (read .writes) (j .writes)
-  }
+judged-behind p q k fields ls w read j = record {
+  verdict = rw (read .faultless, read .writes, j .verdict) (ap (λ (n : ℕ). counted n q) (omega arith));
+  writes = rw (read .writes) (j .writes);
+}
 
 judged-last : (q : Pack) (k : ℕ) → Judged (behind q) k [] q
 unfolding judge writeAll

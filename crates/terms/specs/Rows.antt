@@ -1,0 +1,77 @@
+-- The variables of a rule in a table of words, and a row of a table that counts their occurrences in a term.
+use mathlib.Core.Path.{_≡_}
+use mathlib.Core.List.{List, []}
+use mathlib.Core.Option.{some}
+use Prim.Native.Nat.{ℕ, _+_, _*_, _≤_, _<_}
+use lib.IntN.{ℤ, pos, natAbs, _+ℤ_}
+use lib.ListN.{length, getD, set}
+use Rattle.theory.specs.Text.{Bytes}
+use Rattle.theory.specs.Terms.{Term, readTerm, variables}
+use Rattle.theory.specs.Terms.{occurrences}
+use Rattle.theory.specs.Packs.{lineLimit, variableLimit}
+use Rattle.theory.specs.Residuals.{numbered}
+use Rattle.text.specs.Words.{wordsOf}
+use Rattle.text.specs.declared.Words.{Words}
+
+-- the words at a place of the table
+abbrev pub wordsAt : List ℕ → ℕ → Words
+wordsAt names i = record { first = getD names (2 * i) 0; second = getD names (2 * i + 1) 0 }
+
+-- r is the first place of the words among the first `known`, or `known`
+pub record PlaceOf (names : List ℕ) (known : ℕ) (words : Words) (r : ℕ) : Type 0 where
+  pub high : r ≤ known
+  pub before : (i : ℕ) → i < r → wordsAt names i ≡ words → ⊥
+  pub found : r < known → wordsAt names r ≡ words
+
+-- the table holds the words of these variables
+pub record Holds (names : List ℕ) (seen : List Bytes) : Type 0 where
+  pub few : length seen ≤ variableLimit
+  pub words : (i : ℕ) → i < length seen → wordsAt names i ≡ wordsOf (getD seen i [])
+  -- each of them is a variable: so two with the same words are the same
+  pub proper : (i : ℕ) → i < length seen → Rattle.theory.specs.Text.isVariable (getD seen i []) ≡ mathlib.Core.Bool.true
+
+-- the sixteen numbers behind base are 0, the others as they were
+pub record Cleared (rows₀ : List ℤ) (base : ℕ) (rows : List ℤ) : Type 0 where
+  pub size : length rows ≡ length rows₀
+  pub zeros : (i : ℕ) → i < variableLimit → getD rows (base + 1 + i) (pos 0) ≡ pos 0
+  pub below : (i : ℕ) → i ≤ base → getD rows i (pos 0) ≡ getD rows₀ i (pos 0)
+  pub above : (i : ℕ) → base + 17 ≤ i → getD rows i (pos 0) ≡ getD rows₀ i (pos 0)
+
+-- no number is as large as the bound
+pub record Below (bound : ℕ) (rows : List ℤ) : Type 0 where
+  pub small : (i : ℕ) → natAbs (getD rows i (pos 0)) < bound
+
+-- one occurrence more of the variable with these words: it has a place already, or takes the next one, or there is none left
+pub data CountsOne (words : Words) (names₀ : List ℕ) (known : ℕ) (rows₀ : List ℤ) (base : ℕ) : ℕ → List ℕ → List ℤ → Type 0 where
+  known-already : {rows : List ℤ} (at : ℕ) → at < known → known ≤ variableLimit → PlaceOf names₀ known words at
+      → rows ≡ set rows₀ (base + 1 + at) (getD rows₀ (base + 1 + at) (pos 0) +ℤ pos 1) → CountsOne words names₀ known rows₀ base known names₀ rows
+  one-more : {names : List ℕ} {rows : List ℤ} → known < variableLimit → PlaceOf names₀ known words known
+      → names ≡ set (set names₀ (2 * known) (words .first)) (2 * known + 1) (words .second) → rows ≡ set rows₀ (base + 1 + known) (pos 1)
+      → CountsOne words names₀ known rows₀ base (known + 1) names rows
+  none-left : known ≡ variableLimit → PlaceOf names₀ known words known → CountsOne words names₀ known rows₀ base (variableLimit + 1) names₀ rows₀
+  past : variableLimit < known → CountsOne words names₀ known rows₀ base (variableLimit + 1) names₀ rows₀
+
+pub record RowFits (field : Bytes) (known base : ℕ) : Type 0 where
+  pub short : length field ≤ lineLimit
+  pub few : known ≤ variableLimit + 1
+  pub room : base + 17 ≤ 1224
+
+-- the row at base counts the occurrences of these variables in a term, with zeros behind
+pub record RowCounts (rows : List ℤ) (base : ℕ) (all : List Bytes) (t : Term) : Type 0 where
+  pub counts : (i : ℕ) → i < length all → getD rows (base + 1 + i) (pos 0) ≡ pos (occurrences (getD all i []) (variables t))
+  pub zeros : (i : ℕ) → i < variableLimit → length all ≤ i → getD rows (base + 1 + i) (pos 0) ≡ pos 0
+
+-- what counting leaves, where the table held the variables `seen`
+pub record CountedFrom (field : Bytes) (seen : List Bytes) (base r : ℕ) (names : List ℕ) (rows : List ℤ) (t : Term) : Type 0 where
+  pub few : length (numbered seen (variables t)) ≤ variableLimit → r ≡ length (numbered seen (variables t))
+  pub many : variableLimit < length (numbered seen (variables t)) → r ≡ variableLimit + 1
+  pub holds : r ≤ variableLimit → Holds names (numbered seen (variables t))
+  pub row : r ≤ variableLimit → RowCounts rows base (numbered seen (variables t)) t
+
+pub record Counted (field : Bytes) (names₀ : List ℕ) (known : ℕ) (rows₀ : List ℤ) (base r : ℕ) (names : List ℕ) (rows : List ℤ) : Type 0 where
+  pub high : r ≤ variableLimit + 1
+  pub full : variableLimit < known → r ≡ variableLimit + 1
+  pub others : (i : ℕ) → (i ≤ base → getD rows i (pos 0) ≡ getD rows₀ i (pos 0)) × (base + 17 ≤ i → getD rows i (pos 0) ≡ getD rows₀ i (pos 0))
+  pub size : length rows ≡ length rows₀
+  pub nameSize : length names ≡ length names₀
+  pub from : (seen : List Bytes) → Holds names₀ seen → length seen ≡ known → (t : Term) → readTerm field ≡ some t → CountedFrom field seen base r names rows t

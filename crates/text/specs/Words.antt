@@ -1,0 +1,30 @@
+-- A name or a variable as two words of eight bytes, so that two are compared at once.
+use mathlib.Core.Path.{_≡_}
+use mathlib.Core.Bool.{Bool, true, false}
+use mathlib.Core.List.{List, [], _∷_}
+use Prim.Native.Nat.{ℕ, _+_, _*_}
+use lib.ListN.{take, drop}
+use Rattle.theory.specs.Text.{Bytes, every, isNameByte, isName, isVariable}
+use Rattle.text.specs.declared.Words.{Words}
+use Rattle.text.specs.declared.Packed.{Packed}
+use Rattle.text.specs.declared.Word.{Word}
+use Rattle.text.specs.declared.Word.the-variants.{Name, Variable, Neither}
+
+-- bytes as a number, the first byte the lowest
+unfoldable pub number : Bytes → ℕ
+number [] = 0
+number (b ∷ bs) = b + 256 * number bs
+
+-- the first eight bytes and the others
+unfoldable pub wordsOf : Bytes → Words
+wordsOf bs = record { first = number (take 8 bs); second = number (drop 8 bs) }
+
+pub record PacksInto (bs : Bytes) (r : Packed) : Type 0 where
+  pub fine : r .fine ≡ every isNameByte bs
+  pub word : r .fine ≡ true → r .word ≡ number bs
+
+-- what the word reader found
+pub data WordRead (bs : Bytes) : Word → Type 0 where
+  name : isName bs ≡ true → WordRead bs (Name (wordsOf bs))
+  variable : isVariable bs ≡ true → WordRead bs (Variable (wordsOf bs))
+  neither : isName bs ≡ false → isVariable bs ≡ false → WordRead bs Neither

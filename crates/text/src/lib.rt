@@ -1,0 +1,268 @@
+// Scanners over bytes, and the readers of names, variables and decimal numbers. Fields are handed on as parts of their
+// line; nothing is copied.
+ghost use mathlib.Core.Path.{_≡_};
+ghost use mathlib.Core.Bool.{true};
+ghost use Prim.Native.Nat.{ℕ, _+_, _-_, _≤_, _<_, min};
+ghost use lib.ListN.{length};
+ghost use lib.IntN.{pos, negsuc};
+ghost use Rattle.theory.specs.Text.{partsAt, isLower, isUpper, isNameByte, natural, integer};
+ghost use Rattle.theory.specs.Faults.{isUnfit};
+ghost use Rattle.text.specs.Scans.{part, Finds};
+ghost use Rattle.text.specs.Words.{PacksInto, WordRead};
+ghost use Rattle.text.specs.Numbers.{naturalOf, integerOf};
+
+/// The first place at or behind `from` where `wanted` stands, or the length.
+pub fn find(bytes: &[u8], wanted: u8, from: usize) -> usize
+    requires { ⌜ from ≤ length (now bytes) ⌝ }
+    ensures { λ r. ⌜ Finds (now (bytes .entry)) wanted from r ⌝ }
+{
+    let mut i = from;
+    while i < bytes.len() {
+        if bytes[i] == wanted {
+            return i;
+        }
+        i += 1;
+    }
+    i
+}
+
+/// How often `wanted` stands in `bytes`: one less than there are parts.
+pub fn count(bytes: &[u8], wanted: u8) -> usize
+    ensures { λ r. ⌜ r + 1 ≡ length (partsAt wanted (now (bytes .entry))) ⌝ }
+{
+    let mut n: usize = 0;
+    let mut i: usize = 0;
+    while i < bytes.len() {
+        if bytes[i] == wanted {
+            n += 1;
+        }
+        i += 1;
+    }
+    n
+}
+
+/// Whether a line is over 1,024 bytes or has a byte outside 32 to 126.
+pub fn is_unfit(line: &[u8]) -> bool
+    ensures { λ r. ⌜ r ≡ isUnfit (now (line .entry)) ⌝ }
+{
+    if 1024 < line.len() {
+        return true;
+    }
+    let mut unfit = false;
+    let mut i: usize = 0;
+    while i < line.len() {
+        let b = line[i];
+        unfit = unfit | (b < 32) | (126 < b);
+        i += 1;
+    }
+    unfit
+}
+
+fn is_lower(b: u8) -> bool
+    ensures { λ r. ⌜ r ≡ isLower b ⌝ }
+{
+    if 97 <= b { b <= 122 } else { false }
+}
+
+fn is_upper(b: u8) -> bool
+    ensures { λ r. ⌜ r ≡ isUpper b ⌝ }
+{
+    if 65 <= b { b <= 90 } else { false }
+}
+
+/// A letter, a digit or an underscore.
+fn is_name_byte(b: u8) -> bool
+    ensures { λ r. ⌜ r ≡ isNameByte b ⌝ }
+{
+    if is_lower(b) {
+        return true;
+    }
+    if is_upper(b) {
+        return true;
+    }
+    if 48 <= b {
+        if b <= 57 {
+            return true;
+        }
+    }
+    b == 95
+}
+
+fn wide(b: u8) -> u64
+    ensures { λ r. ⌜ (r ≡ b) × (r < 256) ⌝ }
+{
+    b as u64
+}
+
+/// Up to eight bytes as one number, the first byte the lowest, and whether all may stand in a name.
+pub struct Packed {
+    pub fine: bool,
+    pub word: u64,
+}
+
+fn pack(bytes: &[u8]) -> Packed
+    requires { ⌜ length (now bytes) ≤ 8 ⌝ }
+    ensures { λ r. ⌜ PacksInto (now (bytes .entry)) r ⌝ }
+{
+    let mut word: u64 = 0;
+    let mut i = bytes.len();
+    while 0 < i {
+        i -= 1;
+        let b = bytes[i];
+        if !is_name_byte(b) {
+            return Packed {
+                fine: false,
+                word: 0,
+            };
+        }
+        word = word * 256 + wide(b);
+    }
+    Packed { fine: true, word }
+}
+
+/// A name or a variable as two words of eight bytes.
+pub struct Words {
+    pub first: u64,
+    pub second: u64,
+}
+
+pub enum Word {
+    Name(Words),
+    Variable(Words),
+    Neither,
+}
+
+fn up_to_eight(n: usize) -> usize
+    ensures { λ r. ⌜ r ≡ min 8 n ⌝ }
+{
+    if n < 8 { n } else { 8 }
+}
+
+/// A field or a token as a name or a variable.
+pub fn read_word(bytes: &[u8]) -> Word
+    ensures { λ r. ⌜ WordRead (now (bytes .entry)) r ⌝ }
+{
+    let n = bytes.len();
+    if n == 0 {
+        return Word::Neither;
+    }
+    if 16 < n {
+        return Word::Neither;
+    }
+    let lower = is_lower(bytes[0]);
+    let upper = is_upper(bytes[0]);
+    let middle = up_to_eight(n);
+    let front = pack(&bytes[..middle]);
+    if !front.fine {
+        return Word::Neither;
+    }
+    let back = pack(&bytes[middle..]);
+    if !back.fine {
+        return Word::Neither;
+    }
+    if lower {
+        return Word::Name(Words {
+            first: front.word,
+            second: back.word,
+        });
+    }
+    if upper {
+        return Word::Variable(Words {
+            first: front.word,
+            second: back.word,
+        });
+    }
+    Word::Neither
+}
+
+/// A decimal number, or what is none: malformed or out of range.
+pub enum Natural {
+    Whole(u32),
+    NoNatural,
+}
+
+pub enum Integer {
+    Signed(i64),
+    NoInteger,
+}
+
+fn digit(b: u8) -> u32
+    requires { ⌜ (48 ≤ b) × (b ≤ 57) ⌝ }
+    ensures { λ r. ⌜ (r ≡ b - 48) × (r < 10) ⌝ }
+{
+    (b - 48) as u32
+}
+
+/// A number from 0 to a limit, without leading zeros.
+pub fn read_natural(field: &[u8], limit: u32) -> Natural
+    requires { ⌜ limit ≤ 99999 ⌝ }
+    ensures { λ r. ⌜ naturalOf r ≡ natural limit (now (field .entry)) ⌝ }
+{
+    let n = field.len();
+    if n == 0 {
+        return Natural::NoNatural;
+    }
+    if 1 < n {
+        if field[0] == 48 {
+            return Natural::NoNatural;
+        }
+    }
+    let mut value: u32 = 0;
+    let mut i: usize = 0;
+    while i < n {
+        let b = field[i];
+        if b < 48 {
+            return Natural::NoNatural;
+        }
+        if 57 < b {
+            return Natural::NoNatural;
+        }
+        value = value * 10 + digit(b);
+        if limit < value {
+            return Natural::NoNatural;
+        }
+        i += 1;
+    }
+    Natural::Whole(value)
+}
+
+fn positive(n: u32) -> i64
+    ensures { λ r. ⌜ r ≡ pos n ⌝ }
+{
+    n as i64
+}
+
+fn negative(n: u32) -> i64
+    requires { ⌜ 0 < n ⌝ }
+    ensures { λ r. ⌜ r ≡ negsuc (n - 1) ⌝ }
+{
+    0 - (n as i64)
+}
+
+/// A number from -limit to limit, without leading zeros, `-0` or a plus sign.
+pub fn read_integer(field: &[u8], limit: u32) -> Integer
+    requires { ⌜ limit ≤ 99999 ⌝ }
+    ensures { λ r. ⌜ integerOf r ≡ integer limit (now (field .entry)) ⌝ }
+{
+    if field.len() == 0 {
+        return Integer::NoInteger;
+    }
+    if field[0] == 45 {
+        let size = read_natural(&field[1..], limit);
+        match size {
+            Natural::Whole(n) => {
+                if n == 0 {
+                    return Integer::NoInteger;
+                }
+                Integer::Signed(negative(n))
+            }
+            Natural::NoNatural => Integer::NoInteger,
+        }
+    } else {
+        let value = read_natural(field, limit);
+        match value {
+            Natural::Whole(n) => Integer::Signed(positive(n)),
+            Natural::NoNatural => Integer::NoInteger,
+        }
+    }
+}
