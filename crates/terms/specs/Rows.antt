@@ -10,18 +10,8 @@ use Rattle.theory.specs.Terms.{Term, readTerm, variables}
 use Rattle.theory.specs.Terms.{occurrences}
 use Rattle.theory.specs.Packs.{lineLimit, variableLimit}
 use Rattle.theory.specs.Residuals.{numbered}
-use Rattle.text.specs.Words.{wordsOf}
+use Rattle.text.specs.Words.{wordsOf, wordsAt, PlaceOf}
 use Rattle.text.specs.declared.Words.{Words}
-
--- the words at a place of the table
-abbrev pub wordsAt : List ℕ → ℕ → Words
-wordsAt names i = record { first = getD names (2 * i) 0; second = getD names (2 * i + 1) 0 }
-
--- r is the first place of the words among the first `known`, or `known`
-pub record PlaceOf (names : List ℕ) (known : ℕ) (words : Words) (r : ℕ) : Type 0 where
-  pub high : r ≤ known
-  pub before : (i : ℕ) → i < r → wordsAt names i ≡ words → ⊥
-  pub found : r < known → wordsAt names r ≡ words
 
 -- the table holds the words of these variables
 pub record Holds (names : List ℕ) (seen : List Bytes) : Type 0 where

@@ -8,7 +8,7 @@ ghost use Rattle.theory.specs.Faults.{isTerm};
 ghost use Rattle.theory.specs.Measure.{measureOf};
 ghost use Rattle.theory.specs.Answers.{measuredOf};
 ghost use Rattle.terms.specs.Tokens.{TokenRead, ArityRead, ConstantRead, VariableFound};
-ghost use Rattle.terms.specs.Rows.{PlaceOf, Cleared, Below, CountsOne, RowFits, Counted};
+ghost use Rattle.terms.specs.Rows.{Cleared, Below, CountsOne, RowFits, Counted};
 use text::Word;
 use text::Words;
 use theory::Measurement;
@@ -164,25 +164,6 @@ pub fn measure(term: &[u8]) -> Measurement
     sized(constant(term))
 }
 
-/// Where a variable's words stand among the first variables of the table, or how many those are.
-fn place(names: &[u64; 32], known: usize, words: Words) -> usize
-    requires { ⌜ known ≤ 16 ⌝ }
-    ensures { λ r. ⌜ PlaceOf (now (names .entry)) known words r ⌝ }
-{
-    let first = words.first;
-    let second = words.second;
-    let mut i: usize = 0;
-    while i < known {
-        if names[2 * i] == first {
-            if names[2 * i + 1] == second {
-                return i;
-            }
-        }
-        i += 1;
-    }
-    i
-}
-
 fn clear_row(rows: &mut [i64; 1224], base: usize)
     requires { ⌜ base + 17 ≤ 1224 ⌝ }
     ensures { λ r. ⌜ Cleared (now (rows .entry)) base (now (rows .exit)) ⌝ }
@@ -197,7 +178,7 @@ fn clear_row(rows: &mut [i64; 1224], base: usize)
 /// One occurrence more of a variable. Gives how many variables there are then, or 17.
 fn count_variable(
     words: Words,
-    names: &mut [u64; 32],
+    names: &mut [u64; 64],
     known: usize,
     rows: &mut [i64; 1224],
     base: usize,
@@ -208,7 +189,7 @@ fn count_variable(
     if 16 < known {
         return 17;
     }
-    let at = place(names, known, words);
+    let at = text::place(names, known, words);
     if at < known {
         let before = rows[base + 1 + at];
         rows[base + 1 + at] = before + 1;
@@ -228,7 +209,7 @@ fn count_variable(
 /// many are in it then, or 17 where there would be more than 16.
 pub fn occurrences(
     field: &[u8],
-    names: &mut [u64; 32],
+    names: &mut [u64; 64],
     known: usize,
     rows: &mut [i64; 1224],
     base: usize,

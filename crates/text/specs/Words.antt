@@ -2,8 +2,8 @@
 use mathlib.Core.Path.{_≡_}
 use mathlib.Core.Bool.{Bool, true, false}
 use mathlib.Core.List.{List, [], _∷_}
-use Prim.Native.Nat.{ℕ, _+_, _*_}
-use lib.ListN.{take, drop}
+use Prim.Native.Nat.{ℕ, _+_, _*_, _≤_, _<_}
+use lib.ListN.{getD, take, drop}
 use Rattle.theory.specs.Text.{Bytes, every, isNameByte, isName, isVariable}
 use Rattle.text.specs.declared.Words.{Words}
 use Rattle.text.specs.declared.Packed.{Packed}
@@ -28,3 +28,13 @@ pub data WordRead (bs : Bytes) : Word → Type 0 where
   name : isName bs ≡ true → WordRead bs (Name (wordsOf bs))
   variable : isVariable bs ≡ true → WordRead bs (Variable (wordsOf bs))
   neither : isName bs ≡ false → isVariable bs ≡ false → WordRead bs Neither
+
+-- a table of words, two numbers for each: the words at a place
+abbrev pub wordsAt : List ℕ → ℕ → Words
+wordsAt names i = record { first = getD names (2 * i) 0; second = getD names (2 * i + 1) 0 }
+
+-- r is the first place of the words among the first `known`, or `known`
+pub record PlaceOf (names : List ℕ) (known : ℕ) (words : Words) (r : ℕ) : Type 0 where
+  pub high : r ≤ known
+  pub before : (i : ℕ) → i < r → wordsAt names i ≡ words → ⊥
+  pub found : r < known → wordsAt names r ≡ words

@@ -8,7 +8,7 @@ ghost use lib.IntN.{pos, negsuc};
 ghost use Rattle.theory.specs.Text.{partsAt, isLower, isUpper, isNameByte, natural, integer};
 ghost use Rattle.theory.specs.Faults.{isUnfit};
 ghost use Rattle.text.specs.Scans.{part, Finds};
-ghost use Rattle.text.specs.Words.{PacksInto, WordRead};
+ghost use Rattle.text.specs.Words.{PacksInto, WordRead, PlaceOf};
 ghost use Rattle.text.specs.Numbers.{naturalOf, integerOf};
 
 /// The first place at or behind `from` where `wanted` stands, or the length.
@@ -173,6 +173,25 @@ pub fn read_word(bytes: &[u8]) -> Word
         });
     }
     Word::Neither
+}
+
+/// Where the words of a name stand among the first of a table, or how many those are.
+pub fn place(names: &[u64; 64], known: usize, words: Words) -> usize
+    requires { ⌜ known ≤ 32 ⌝ }
+    ensures { λ r. ⌜ PlaceOf (now (names .entry)) known words r ⌝ }
+{
+    let first = words.first;
+    let second = words.second;
+    let mut i: usize = 0;
+    while i < known {
+        if names[2 * i] == first {
+            if names[2 * i + 1] == second {
+                return i;
+            }
+        }
+        i += 1;
+    }
+    i
 }
 
 /// A decimal number, or what is none: malformed or out of range.
