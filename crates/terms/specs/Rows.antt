@@ -44,7 +44,7 @@ pub data CountsOne (words : Words) (names₀ : List ℕ) (known : ℕ) (rows₀ 
 pub record RowFits (field : Bytes) (known base : ℕ) : Type 0 where
   pub short : length field ≤ lineLimit
   pub few : known ≤ variableLimit + 1
-  pub room : base + 17 ≤ 1224
+  pub room : base + 17 ≤ 1305
 
 -- the row at base counts the occurrences of these variables in a term, with zeros behind
 pub record RowCounts (rows : List ℤ) (base : ℕ) (all : List Bytes) (t : Term) : Type 0 where

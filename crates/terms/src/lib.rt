@@ -164,8 +164,8 @@ pub fn measure(term: &[u8]) -> Measurement
     sized(constant(term))
 }
 
-fn clear_row(rows: &mut [i64; 1224], base: usize)
-    requires { ⌜ base + 17 ≤ 1224 ⌝ }
+fn clear_row(rows: &mut [i64; 1305], base: usize)
+    requires { ⌜ base + 17 ≤ 1305 ⌝ }
     ensures { λ r. ⌜ Cleared (now (rows .entry)) base (now (rows .exit)) ⌝ }
 {
     let mut i: usize = 0;
@@ -180,10 +180,10 @@ fn count_variable(
     words: Words,
     names: &mut [u64; 64],
     known: usize,
-    rows: &mut [i64; 1224],
+    rows: &mut [i64; 1305],
     base: usize,
 ) -> usize
-    requires { ⌜ (base + 17 ≤ 1224) × (Below 65536 (now rows)) ⌝ }
+    requires { ⌜ (base + 17 ≤ 1305) × (Below 65536 (now rows)) ⌝ }
     ensures { λ r. ⌜ CountsOne words (now (names .entry)) known (now (rows .entry)) base r (now (names .exit)) (now (rows .exit)) ⌝ }
 {
     if 16 < known {
@@ -211,7 +211,7 @@ pub fn occurrences(
     field: &[u8],
     names: &mut [u64; 64],
     known: usize,
-    rows: &mut [i64; 1224],
+    rows: &mut [i64; 1305],
     base: usize,
 ) -> usize
     requires { ⌜ (isTerm (now field) ≡ true) × (RowFits (now field) known base) ⌝ }
