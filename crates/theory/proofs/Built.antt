@@ -12,7 +12,7 @@ use Rattle.theory.specs.Written.{withSubgoal, withMultipliers}
 use Rattle.theory.specs.Residuals.{ruleVariables}
 use Rattle.theory.specs.Faults.{noRule, lastOf}
 use Rattle.theory.specs.Limits.{_∈_, AtomFits, MultipliersFit, RuleFits, Fits, Justified}
-use Rattle.theory.proofs.ListEnds.{member-unempty, split-member, split-shorter, grown}
+use Rattle.integers.proofs.Lists.{member-unempty, split-member, split-shorter, grown}
 use Rattle.theory.proofs.LastRule.{lastOf-end, onLast-end}
 use Rattle.theory.proofs.Completeness.{complete-from-whole, incomplete-from-due}
 use Rattle.theory.proofs.ClaimsOn.{claims-before}

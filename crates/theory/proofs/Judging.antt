@@ -1,13 +1,13 @@
 -- Judging lines from the top: it ends without a refusal exactly on the lines of a run that ends with `E`.
 use mathlib.Core.Path.{_≡_, refl, sym, _∙_, ap}
 use mathlib.Core.Bool.{Bool, true, false, cond}
-use mathlib.Core.List.{List, [], _∷_, _++_, map, dropLast, List·Memᴰ·head, List·Memᴰ·tail, List·Memᴰ·cases-cons, List·Memᴰ·not-nil}
-use mathlib.Core.Logic.{⊎-elim}
+use mathlib.Core.List.{List, [], _∷_, _++_, map, dropLast, List·Memᴰ·head, List·Memᴰ·tail}
 use Prim.Native.Nat.{ℕ, zero, suc, _+_, _≤_}
 use native.Mathlib.Omega.{arith}
 use native.Mathlib.Nat.{add-zero}
 use lib.Dec.{eqb}
 use lib.ListN.{length}
+use Rattle.integers.proofs.Lists.{member-unempty, all-cons}
 use Rattle.integers.proofs.Truth.{by-truth, never-both, eqb-equal, equal-eqb}
 use Rattle.theory.specs.Text.{Bytes, fieldsOf}
 use Rattle.theory.specs.Terms.{allVariables}
@@ -84,7 +84,7 @@ accepted-behind p k l ls fields w few (step {q = q} s) is short e ih = after (ih
       ; run = go s (a .run)
       ; complete = a .complete
       ; are = rw (← is, a .are)
-      ; short = λ x m. ⊎-elim (λ (h : x ≡ l). rw h short) (a .short x) (List·Memᴰ·cases-cons m)
+      ; short = all-cons (λ x. length x ≤ lineLimit) short (a .short)
       }
 accepted-behind p k l ls fields w few (end c) is short e ih = record
   { end-pack = p
@@ -92,7 +92,7 @@ accepted-behind p k l ls fields w few (end c) is short e ih = record
   ; run = stay
   ; complete = c
   ; are = rw (judged-end p k ls e, is)
-  ; short = λ x m. ⊎-elim (λ (h : x ≡ l). rw h short) (λ (h : x ∈ ls). absurd (List·Memᴰ·not-nil (rw (judged-end p k ls e) at h))) (List·Memᴰ·cases-cons m)
+  ; short = all-cons (λ x. length x ≤ lineLimit) short (λ x m. absurd (member-unempty m (judged-end p k ls e)))
   }
 
 pub accepted-from-judge : (p : Pack) (k : ℕ) (ls : List Bytes) → Few p → judge (before p) k ls .returned .number ≡ 0 → Accepted p ls

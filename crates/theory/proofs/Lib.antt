@@ -1,16 +1,15 @@
 -- What is proved of the definitions.
 
 -- what bytes spell, and that reading is the inverse of writing
+pub mod Every
 pub mod Bytes
 pub mod Separators
-pub mod Every
 pub mod Decimals
 pub mod Spelling
 pub mod Tokens
 pub mod TermReading
 
 -- lists, look-ups, variables
-pub mod ListEnds
 pub mod LastRule
 pub mod Keys
 pub mod Kept
