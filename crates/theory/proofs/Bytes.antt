@@ -5,7 +5,8 @@ use mathlib.Core.List.{[], _∷_}
 use Prim.Native.Nat.{ℕ, _≤_}
 use lib.Dec.{eqb, leb}
 use Rattle.integers.proofs.Truth.{and-left, and-right, and-both, eqb-equal, eqb-same, leb-le, le-leb, never-both}
-use Rattle.theory.specs.Text.{Bytes, same, between}
+use Rattle.theory.specs.Text.{Bytes, same, every, between}
+use Rattle.theory.proofs.Every.{every-within}
 
 pub same-refl : (x : Bytes) → same x x ≡ true
 unfolding same
@@ -39,3 +40,6 @@ isFieldByte b = between 32 126 b && not (eqb b 44)
 -- a byte that may stand in a token: no space either
 abbrev pub isTokenByte : ℕ → Bool
 isTokenByte b = isFieldByte b && not (eqb b 32)
+
+pub token-field : (bs : Bytes) → every isTokenByte bs ≡ true → every isFieldByte bs ≡ true
+token-field bs h = every-within isTokenByte isFieldByte (λ b e. and-left (isFieldByte b) _ e) bs h

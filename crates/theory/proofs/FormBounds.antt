@@ -1,8 +1,7 @@
 -- How large the numbers of forms are; under document 01's limits a residual's fit 64 bits.
-use mathlib.Core.Path.{_≡_, refl}
-use mathlib.Core.Logic.{⊎-elim}
+use mathlib.Core.Path.{refl}
 use mathlib.Core.Bool.{cond}
-use mathlib.Core.List.{List, [], _∷_, map, List·Memᴰ·head, List·Memᴰ·tail, List·Memᴰ·cases-cons, Memᴰ·append-left, Memᴰ·append-right, Memᴰ·map}
+use mathlib.Core.List.{List, [], _∷_, map, List·Memᴰ·head, List·Memᴰ·tail, Memᴰ·append-left, Memᴰ·append-right, Memᴰ·map}
 use Prim.Native.Nat.{ℕ, suc, _+_, _*_, _^_, _≤_, _<_}
 use native.Mathlib.Omega.{arith}
 use native.Mathlib.Nat.{mul-le-mul, mul-le-mul-left, le-trans}
@@ -14,7 +13,7 @@ use Rattle.integers.proofs.Lists.{flatMap-member, length-flatMap}
 use Rattle.theory.specs.Text.{Bytes, same}
 use Rattle.theory.specs.Terms.{Term, Terms, nil, cons, arity, size, sizes, variables, occurrences}
 use Rattle.theory.specs.Forms.{Form, zeroForm, plus, times, minus, constantForm, formOf}
-use Rattle.theory.specs.Packs.{Claim, Atom, Rule, Pack, lineLimit, claimLimit, subgoalLimit, numberLimit, Key, claimKey, atomKey, sameKey, claimsOn, termFields, headLine, subgoalLine, claimLine, predicateLine, ruleLines, endLine, line, openLines, packLines}
+use Rattle.theory.specs.Packs.{Claim, Atom, Rule, Pack, lineLimit, claimLimit, subgoalLimit, numberLimit, atomKey, claimsOn, termFields, headLine, subgoalLine, claimLine, predicateLine, ruleLines, endLine, line, openLines, packLines}
 use Rattle.theory.specs.Residuals.{weighted, claimForm, subgoalForms, combined, residual}
 use Rattle.theory.specs.Limits.{_∈_, Fits, MultipliersFit}
 use Rattle.theory.proofs.Keys.{on-member}

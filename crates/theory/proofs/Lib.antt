@@ -8,7 +8,6 @@ pub mod Decimals
 pub mod Spelling
 pub mod Tokens
 pub mod TermReading
-
 -- lists, look-ups, variables
 pub mod LastRule
 pub mod Keys
@@ -17,7 +16,6 @@ pub mod ClaimsOn
 pub mod Completeness
 pub mod Variables
 pub mod RuleVariables
-
 -- runs of lines, as what they add, and packs within the limits
 pub mod Steps
 pub mod OpenLines
@@ -25,7 +23,6 @@ pub mod Begun
 pub mod Reached
 pub mod Built
 pub mod Runs
-
 -- lines without a fault; demand 2
 pub mod Presence
 pub mod Tests
@@ -40,10 +37,10 @@ pub mod ClaimLines
 pub mod AtomLines
 pub mod MultiplierLines
 pub mod LineReading
+pub mod PackReading
 pub mod Judging
 pub mod Acceptance
 pub mod Locality
-
 -- sizes, substitution, derivations, ranges
 pub mod FormValues
 pub mod Sizes
@@ -51,14 +48,12 @@ pub mod SubgoalForms
 pub mod Soundness
 pub mod TermLengths
 pub mod FormBounds
-
 -- reserving
 pub mod Bounds
 pub mod UsableClaims
 pub mod Reservations
 pub mod ReserveAnswers
 pub mod ReserveSound
-
 -- demand 3, and the starred examples
 pub mod DemandThree
 pub mod Examples

@@ -13,7 +13,7 @@ use Rattle.theory.specs.Faults.{isUnfit}
 use Rattle.theory.specs.Limits.{_∈_}
 use Rattle.integers.proofs.Lists.{all-cons}
 use Rattle.integers.proofs.Truth.{and-left, or-neither, ge-ltb}
-use Rattle.theory.proofs.Bytes.{isFieldByte, isTokenByte}
+use Rattle.theory.proofs.Bytes.{isFieldByte, token-field}
 use Rattle.theory.proofs.Every.{every-within}
 use Rattle.theory.proofs.Letters.{letterField}
 use Rattle.theory.proofs.Spelling.{name-bytes, decimal-bytes, signed-bytes}
@@ -32,17 +32,14 @@ pub plain-map : {A : Type 0} (writing : A → Bytes) → ((a : A) → every isFi
 plain-map writing h [] = plain-nil
 plain-map writing h (a ∷ l) = plain-cons (h a) (plain-map writing h l)
 
-token-plain : (f : Bytes) → every isTokenByte f ≡ true → every isFieldByte f ≡ true
-token-plain f h = every-within isTokenByte isFieldByte (λ b e. and-left (isFieldByte b) _ e) f h
-
 pub name-plain : (name : Bytes) → isName name ≡ true → every isFieldByte name ≡ true
-name-plain name h = token-plain name (name-bytes name h)
+name-plain name h = token-field name (name-bytes name h)
 
 pub decimal-plain : (n : ℕ) → every isFieldByte (decimal n) ≡ true
-decimal-plain n = token-plain (decimal n) (decimal-bytes n)
+decimal-plain n = token-field (decimal n) (decimal-bytes n)
 
 pub signed-plain : (z : ℤ) → every isFieldByte (signedDecimal z) ≡ true
-signed-plain z = token-plain (signedDecimal z) (signed-bytes z)
+signed-plain z = token-field (signedDecimal z) (signed-bytes z)
 
 pub letter-plain : (letter : Letter) → every isFieldByte (letterField letter) ≡ true
 unfolding letterField every bytes

@@ -8,13 +8,11 @@ use Rattle.theory.specs.Text.{Bytes, every, partsAt, joined}
 use Rattle.theory.specs.Terms.{Term, variable, symbol, Terms, nil, cons, arity, symbolToken, tokens, allTokens, writtenTerm, WellFormed, AllWellFormed}
 use Rattle.theory.specs.Terms.{Token, tokenOf, firstTerms, behind, behindAll, termsOf, theOnly, readTerm}
 use Rattle.theory.specs.Limits.{_∈_}
-use Rattle.theory.proofs.Bytes.{isFieldByte, isTokenByte}
-use Rattle.theory.proofs.Every.{every-within}
+use Rattle.theory.proofs.Bytes.{isFieldByte, isTokenByte, token-field}
 use Rattle.theory.proofs.Separators.{AllFree, free-from, parts-of-joined, joined-of-parts, every-joined}
 use Rattle.theory.proofs.Spelling.{variable-bytes}
 use Rattle.theory.proofs.Tokens.{ReadAs, as-variable, as-symbol, as-none, token-of-variable, token-of-symbol, read-as, symbol-bytes}
 use Rattle.integers.proofs.Lists.{all-cons, all-append}
-use Rattle.integers.proofs.Truth.{and-left}
 
 -- ---- terms behind terms
 
@@ -137,4 +135,4 @@ written-of-read bs t e = only (terms-of-reads (partsAt 32 bs)) e
 
 pub term-bytes : (t : Term) → WellFormed t → every isFieldByte (writtenTerm t) ≡ true
 unfolding writtenTerm
-term-bytes t h = every-joined isFieldByte 32 refl (tokens t) (λ part m. every-within isTokenByte isFieldByte (λ b k. and-left _ _ k) part (every-token t h part m))
+term-bytes t h = every-joined isFieldByte 32 refl (tokens t) (λ part m. token-field part (every-token t h part m))
