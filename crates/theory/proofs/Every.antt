@@ -41,7 +41,6 @@ module _ {A : Type 0} (test : A → Bool) where
   -- ---- parts of the list
 
   pub every-append : (l k : List A) → every test l ≡ true → every test k ≡ true → every test (l ++ k) ≡ true
-  unfolding every
   every-append [] k h g = g
   every-append (a ∷ l) k h g = every-cons a (l ++ k) (every-first a l h) (every-append l k (every-rest a l h) g)
 
