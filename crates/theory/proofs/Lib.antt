@@ -9,6 +9,7 @@ pub mod Spelling
 pub mod Tokens
 pub mod TermReading
 -- lists, look-ups, variables
+pub mod Presence
 pub mod LastRule
 pub mod Keys
 pub mod Kept
@@ -24,12 +25,11 @@ pub mod Reached
 pub mod Built
 pub mod Runs
 -- lines without a fault; demand 2
-pub mod Presence
 pub mod Tests
 pub mod Letters
 pub mod FieldValues
-pub mod TermFields
 pub mod PlainFields
+pub mod TermFields
 pub mod ResidualNumbers
 pub mod Faultless
 pub mod PredicateLines
