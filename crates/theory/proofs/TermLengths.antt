@@ -75,12 +75,12 @@ variables-written (symbol f ts) formed =
 
 -- ---- the terms of a line
 
-pub terms-written : (ts : Terms) → arity ts + sizes ts ≤ lengthsBehind (termFields ts)
+pub terms-length : (ts : Terms) → arity ts + sizes ts ≤ lengthsBehind (termFields ts)
 unfolding lengthsBehind termFields arity size
-terms-written nil = omega arith
-terms-written (cons t ts) = omega (arith, size-written t, terms-written ts)
+terms-length nil = omega arith
+terms-length (cons t ts) = omega (arith, size-written t, terms-length ts)
 
 -- a head's or a subgoal's line
 pub atom-line-length : (letter : Bytes) (a : Atom) → arity (a .terms) + sizes (a .terms) ≤ length (line (letter ∷ a .name ∷ termFields (a .terms)))
 unfolding lengthsBehind
-atom-line-length letter a = omega (arith, terms-written (a .terms), joined-length (code ",") letter (a .name ∷ termFields (a .terms)))
+atom-line-length letter a = omega (arith, terms-length (a .terms), joined-length (code ",") letter (a .name ∷ termFields (a .terms)))

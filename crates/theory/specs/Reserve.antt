@@ -30,10 +30,11 @@ unfoldable pub sizeFrom : Bytes → Option (Option ℕ)
 sizeFrom f = cond (same f (bytes "-")) (some none) (Option·map some (natural 65535 f))
 
 unfoldable pub queryFrom : List Bytes → Query
-queryFrom fields = record
-  { name = field 0 fields
-  ; asked = Option·getD (natural 8 (field 1 fields)) 0 - 1
-  ; sizes = map (λ (f : Bytes). Option·getD (sizeFrom f) none) (drop 2 fields) }
+queryFrom fields = record {
+  name = field 0 fields;
+  asked = Option·getD (natural 8 (field 1 fields)) 0 - 1;
+  sizes = map (λ (f : Bytes). Option·getD (sizeFrom f) none) (drop 2 fields);
+}
 
 unfoldable pub queryOf : Bytes → Query
 queryOf query = queryFrom (fieldsOf query)
