@@ -6,9 +6,8 @@ use Prim.Native.Nat.{ℕ, suc, _+_, _≤_}
 use Prim.Native.Char.{code}
 use native.Mathlib.Omega.{arith}
 use lib.ListN.{length, length-append}
-use Rattle.integers.proofs.Truth.{never-both}
-use Rattle.theory.specs.Text.{Bytes, joined, isWord, isVariable, decimal}
-use Rattle.theory.specs.Terms.{Term, Terms, variable, symbol, nil, cons, arity, symbolToken, tokens, allTokens, writtenTerm, WellFormed, contribution, size, sizes, variables, allVariables}
+use Rattle.theory.specs.Text.{Bytes, joined}
+use Rattle.theory.specs.Terms.{Term, Terms, variable, symbol, nil, cons, arity, tokens, allTokens, writtenTerm, contribution, size, sizes, variables, allVariables}
 use Rattle.theory.specs.Packs.{Atom, termFields, line}
 
 -- ---- parts with separators between them
@@ -61,17 +60,6 @@ mutual
 pub size-written : (t : Term) → size t ≤ length (writtenTerm t)
 unfolding writtenTerm
 size-written t = omega (arith, tokens-count t, joined-count (code " ") (tokens t))
-
-some-byte : (x : Bytes) → isVariable x ≡ true → 1 ≤ length x
-unfolding isWord
-some-byte [] e = never-both e refl
-some-byte (b ∷ bs) e = omega arith
-
-pub variables-written : (t : Term) → WellFormed t → length (variables t) ≤ length (writtenTerm t)
-unfolding writtenTerm tokens variables joined symbolToken
-variables-written (variable x) formed = some-byte x formed
-variables-written (symbol f ts) formed =
-    omega (arith, all-variables-count ts, all-tokens-count ts, joined-length (code " ") (symbolToken f (arity ts)) (allTokens ts), count-behind (allTokens ts), length-append f (code "/" ∷ decimal (arity ts)))
 
 -- ---- the terms of a line
 
