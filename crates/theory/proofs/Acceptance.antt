@@ -1,10 +1,9 @@
 -- Demand 2: a pack is accepted exactly when area, text and lines have document 01's form and limits and all is justified.
 -- And the lines of such a pack write that pack.
 use mathlib.Core.Path.{_≡_, refl, sym, _∙_, ap}
-use mathlib.Core.Logic.{_↔_, ⊎-elim}
 use mathlib.Core.Bool.{Bool, true, false, cond}
-use mathlib.Core.List.{List, [], _∷_, _++_, map, List·Memᴰ·cases-cons, List·Memᴰ·not-nil}
-use Prim.Native.Nat.{ℕ, suc, _+_, _≤_}
+use mathlib.Core.List.{List, [], _∷_, _++_, map}
+use Prim.Native.Nat.{_≤_}
 use native.Mathlib.Omega.{arith}
 use native.Mathlib.Nat.{zero-add}
 use lib.Dec.{ltb}
@@ -13,16 +12,14 @@ use lib.ListN.{length, drop}
 use Rattle.integers.proofs.Truth.{ltb-ge, ge-ltb}
 use Rattle.theory.specs.Text.{Bytes, linesOf}
 use Rattle.theory.specs.Packs.{Pack, line, endLine, openLines, packLines, textOf, written, textLimit, lineLimit}
-use Rattle.theory.specs.Written.{Written, nothing, writeAll, packOf}
-use Rattle.theory.specs.Faults.{isComplete}
+use Rattle.theory.specs.Written.{nothing, packOf}
 use Rattle.theory.specs.Check.{Checked, numbers, plain, judge, isFinished, verdictOf, checkOf, areaNeeded}
 use Rattle.theory.specs.Limits.{_∈_, Fits, Justified, Acceptable}
 use Rattle.theory.specs.Promises.{DemandTwo}
-use Rattle.theory.proofs.Separators.{AllFree, lines-of-text, text-of-lines, finished-text}
-use Rattle.theory.proofs.Steps.{Run, stay, go}
-use Rattle.theory.proofs.LineReading.{before, behind, step, end, fine-free}
+use Rattle.theory.proofs.Separators.{text-of-lines, finished-text}
+use Rattle.theory.proofs.PackReading.{fits-spelled, lines-again, lines-write}
 use Rattle.theory.proofs.Runs.{emptyPack, run-lines, run-fits, run-justified, fits-run, fits-complete}
-use Rattle.theory.proofs.Judging.{Accepted, accepted-from-judge, Judged, judged-run, counted, no-rule-few}
+use Rattle.theory.proofs.Judging.{Accepted, accepted-from-judge, judged-run, counted, no-rule-few}
 
 -- ## Accepted, so acceptable
 
@@ -74,10 +71,6 @@ accepts-from-verdict text e = from (verdict-accepts text e)
 
 -- ## Acceptable, so accepted, with the counts; and its lines write it
 
-run-free : (p q : Pack) (fields : List (List Bytes)) → Run p fields q → isComplete q ≡ true → AllFree 10 (map line (fields ++ (endLine ∷ [])))
-run-free p q fields stay c l m = ⊎-elim (λ (h : l ≡ line endLine). rw h (fine-free p endLine (behind p) (end c))) (λ n. absurd (List·Memᴰ·not-nil n)) (List·Memᴰ·cases-cons m)
-run-free p q fields (go {q = r} {fields = f} {rest = rest} s run) c l m = ⊎-elim (λ (h : l ≡ line f). rw h (fine-free p f (before r) (step s))) (run-free r q rest run c l) (List·Memᴰ·cases-cons m)
-
 pub record OfPack (p : Pack) : Type 0 where
   pub verdict : verdictOf (written p) ≡ counted (length (packLines p)) p
   pub pack : packOf (written p) ≡ p
@@ -87,20 +80,14 @@ last-finished [] = finished-text (line endLine) []
 last-finished (f ∷ fields) = finished-text (line f) (map line (fields ++ (endLine ∷ [])))
 
 pub of-pack : (p : Pack) → Fits p → Justified p → OfPack p
-unfolding written packLines verdictOf packOf nothing
-of-pack p fits justified = record {
-  verdict = rw (ge-ltb textLimit (length (written p)) (fits .shortText), last-finished (openLines p), lines-are) (judged .verdict ∙ rw zero-add);
-  pack = ap (λ (ls : List Bytes). writeAll nothing ls .pack) lines-are ∙ ap (λ (w : Written). w .pack) (judged .writes);
-}
-  where
-    run : Run emptyPack (openLines p) p
-    run = fits-run p fits justified
-
-    lines-are : linesOf (written p) ≡ packLines p
-    lines-are = lines-of-text (packLines p) (run-free emptyPack p (openLines p) run (fits-complete p fits))
-
-    judged : Judged (before emptyPack) 0 (packLines p) p
-    judged = judged-run emptyPack p 0 (openLines p) run (fits-complete p fits) (fits .shortLines)
+unfolding written packLines verdictOf nothing
+of-pack p fits justified =
+    let spelled = fits-spelled p fits in
+    let judged = judged-run emptyPack p 0 (openLines p) (fits-run p fits justified) (fits-complete p fits) (fits .shortLines) in
+    record {
+      verdict = rw (ge-ltb textLimit (length (written p)) (fits .shortText), last-finished (openLines p), lines-again p spelled) (judged ∙ rw zero-add);
+      pack = lines-write p spelled;
+    }
 
 -- ## Together
 

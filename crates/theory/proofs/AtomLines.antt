@@ -8,14 +8,15 @@ use native.Mathlib.Omega.{arith}
 use lib.Dec.{leb}
 use lib.ListN.{length, length-drop, drop}
 use lib.Seq.{drop-cons}
-use Rattle.theory.specs.Text.{Bytes, every}
+use Rattle.theory.specs.Text.{Bytes, every, isName}
+use Rattle.theory.specs.Terms.{AllWellFormed}
 use Rattle.theory.specs.Packs.{Kind, given, ruled, Predicate, Atom, Pack, ruleLimit, subgoalLimit, variableLimit, atomKey, declaredAs, termFields, headLine, subgoalLine}
 use Rattle.theory.specs.Written.{Letter, H, B, field, atomFrom, withSubgoal, add}
 use Rattle.theory.specs.Residuals.{ruleVariables}
 use Rattle.theory.specs.Faults.{isSome, isTerm, arityIn, isGiven, givenIn, isEmpty, lastRule, isComplete, manyVariables, mayStand, atomTests, headTests, subgoalTests, tests}
 use Rattle.theory.specs.Limits.{AtomFits}
 use Rattle.integers.proofs.Truth.{not-true, not-false, never-both, and-left, and-right, and-both, or-not-left, or-not-right, or-neither, eqb-equal, equal-eqb, leb-gt, gt-leb, ltb-ge, ge-ltb}
-use Rattle.theory.proofs.Faultless.{Faultless, Readable}
+use Rattle.theory.proofs.Faultless.{Faultless, Adds, Readable}
 use Rattle.theory.proofs.Letters.{letterField}
 use Rattle.theory.proofs.PlainFields.{Plain, plain-cons, name-plain, letter-plain}
 use Rattle.theory.proofs.Presence.{is-some, is-empty, empty-is, is-filled, filled-is, arity-in}
@@ -103,15 +104,27 @@ subgoal-step p fields h =
 
 -- ---- to a line
 
-module _ (letter : Letter) (p : Pack) (a : Atom) (fits : AtomFits (p .predicates) a) where
-  atom-again : atomFrom (atomLine letter a) ≡ a
+module _ (a : Atom) (formed : AllWellFormed (a .terms)) where
+  atom-again : (letter : Letter) → atomFrom (atomLine letter a) ≡ a
   unfolding atomFrom
-  atom-again = rw (written-terms (a .terms) (fits .formed))
+  atom-again letter = rw (written-terms (a .terms) formed)
 
+  atom-plain : (letter : Letter) → isName (a .name) ≡ true → Plain (atomLine letter a)
+  atom-plain letter named = plain-cons (letter-plain letter) (plain-cons (name-plain (a .name) named) (terms-plain (a .terms) formed))
+
+  pub head-adds : (p : Pack) → isName (a .name) ≡ true → Adds H p (headLine a) (withHead a p)
+  unfolding add headLine letterField
+  head-adds p named = record { starts = refl; is = ap (λ (b : Atom). withHead b p) (atom-again H); plain = atom-plain H named }
+
+  pub subgoal-adds : (p : Pack) → isName (a .name) ≡ true → Adds B p (subgoalLine a) (withLast (withSubgoal a) p)
+  unfolding add subgoalLine letterField
+  subgoal-adds p named = record { starts = refl; is = ap (λ (b : Atom). withLast (withSubgoal b) p) (atom-again B); plain = atom-plain B named }
+
+module _ (letter : Letter) (p : Pack) (a : Atom) (fits : AtomFits (p .predicates) a) where
   atom-clear : (isRefused isPastLimit : Bool) → isRefused ≡ false → isPastLimit ≡ false → Clear (atomTests isRefused isPastLimit (atomLine letter a) p)
   unfolding atomTests isSome arityIn
   atom-clear isRefused isPastLimit allowed within =
-      rw (atom-again, fits .declared)
+      rw (atom-again a (fits .formed) letter, fits .declared)
       (ap not (fits .named)
       then allowed
       then ap not (equal-eqb (length (atomLine letter a)) (fits .predicate .arguments + 2) (omega (arith, written-arity (a .terms), fits .full)))
@@ -119,35 +132,30 @@ module _ (letter : Letter) (p : Pack) (a : Atom) (fits : AtomFits (p .predicates
       then within
       then tt)
 
-  atom-plain : Plain (atomLine letter a)
-  atom-plain = plain-cons (letter-plain letter) (plain-cons (name-plain (a .name) (fits .named)) (terms-plain (a .terms) (fits .formed)))
-
 pub head-readable : (p : Pack) (a : Atom) → isComplete p ≡ true → (fits : AtomFits (p .predicates) a) → fits .predicate .kind ≡ ruled
     → length (p .rules) < ruleLimit → length (ruleVariables a []) ≤ variableLimit → Readable H p (headLine a) (withHead a p)
-unfolding add tests headTests mayStand headLine letterField isGiven
+unfolding tests headTests mayStand headLine letterField isGiven
 head-readable p a complete fits isRuled room few =
     record {
       faultless = record {
         first = refl;
         stands = complete;
-        clear = rw (atom-again H p a fits) (atom-clear H p a fits _ _ (given-in _ (fits .predicate) (fits .declared) ∙ rw isRuled) (or-neither _ _ (gt-leb ruleLimit _ room) (ge-ltb variableLimit _ few)));
+        clear = rw (atom-again a (fits .formed) H) (atom-clear H p a fits _ _ (given-in _ (fits .predicate) (fits .declared) ∙ rw isRuled) (or-neither _ _ (gt-leb ruleLimit _ room) (ge-ltb variableLimit _ few)));
       };
-      adds = ap (λ (b : Atom). withHead b p) (atom-again H p a fits);
-      plain = atom-plain H p a fits;
+      adds = head-adds a (fits .formed) p (fits .named);
     }
 
 pub subgoal-readable : (p : Pack) (a : Atom) → (p .rules ≡ [] → ⊥) → lastRule p .multipliers ≡ [] → AtomFits (p .predicates) a
     → length (lastRule p .subgoals) < subgoalLimit → length (ruleVariables (lastRule p .head) (lastRule p .subgoals ++ (a ∷ []))) ≤ variableLimit
     → Readable B p (subgoalLine a) (withLast (withSubgoal a) p)
-unfolding add tests subgoalTests mayStand subgoalLine letterField
+unfolding tests subgoalTests mayStand subgoalLine letterField
 subgoal-readable p a ruleful unmultiplied fits room few =
     let r = lastRule p in
     record {
       faultless = record {
         first = refl;
         stands = and-both (not (isEmpty (p .rules))) (isEmpty (r .multipliers)) (ap not (filled-is (p .rules) ruleful)) (empty-is (r .multipliers) unmultiplied);
-        clear = rw (atom-again B p a fits) (atom-clear B p a fits _ _ refl (or-neither _ _ (gt-leb subgoalLimit _ room) (ge-ltb variableLimit _ few)));
+        clear = rw (atom-again a (fits .formed) B) (atom-clear B p a fits _ _ refl (or-neither _ _ (gt-leb subgoalLimit _ room) (ge-ltb variableLimit _ few)));
       };
-      adds = ap (λ (b : Atom). withLast (withSubgoal b) p) (atom-again B p a fits);
-      plain = atom-plain B p a fits;
+      adds = subgoal-adds a (fits .formed) p (fits .named);
     }

@@ -13,7 +13,7 @@ use Rattle.theory.specs.Written.{withSubgoal, withMultipliers}
 use Rattle.theory.specs.Residuals.{residual, ruleVariables}
 use Rattle.theory.specs.Faults.{noClaim}
 use Rattle.theory.specs.Limits.{_∈_, AtomFits, MultipliersFit, NonNegative, JustifiedAt}
-use Rattle.theory.proofs.ListEnds.{member-unempty, length-end, all-end}
+use Rattle.integers.proofs.Lists.{member-unempty, length-end, all-end}
 
 -- these multipliers justify the claim numbered i, from 0, on the rule's head
 abbrev pub JustifiedBy : List Claim → Rule → ℕ → List ℕ → Type 0

@@ -1,5 +1,5 @@
 -- What a usable claim says of a fact with a query's known sizes.
-use mathlib.Core.Path.{_≡_, refl, sym, _∙_, ap, subst}
+use mathlib.Core.Path.{_≡_, refl, sym, _∙_, subst}
 use mathlib.Core.Bool.{true}
 use mathlib.Core.List.{List, [], _∷_}
 use mathlib.Core.Option.{Option, some, none, Option·some-ne-none}
@@ -11,10 +11,11 @@ use lib.Signed.{_≤ℤ_, leZ, ltZ, leZ-yes, ≤ℤ-refl}
 use Rattle.integers.proofs.Truth.{ltb-lt, holds-from, and-left, and-right}
 use Rattle.integers.proofs.Difference.{to-diff, by-naturals, by-diff₂, by-diff₃}
 use Rattle.integers.proofs.Order.{≤ℤ-trans, +ℤ-mono, nonneg-rest, nonneg-pos, mul-nonneg, floor-bound, never-below}
-use Rattle.theory.specs.Terms.{Terms, nil, cons, arity, argumentSizes}
+use Rattle.theory.specs.Terms.{arity, argumentSizes}
 use Rattle.theory.specs.Packs.{Claim, Atom}
 use Rattle.theory.specs.Reserve.{Query, sizeGiven, unknownsAtMostZero, knownPart, askedNumber, isUsable, numerator, boundBy}
 use Rattle.theory.specs.Derivations.{weightedSizes, Meets, sizeAt}
+use Rattle.theory.proofs.Sizes.{length-sizes}
 
 -- ---- sums over the arguments
 
@@ -67,11 +68,6 @@ at-most-with (suc place) (known {c = c} {s = s} {cs = cs} {qs = qs} {ss = ss} sz
     rw (+ℤ-assoc (c *ℤ pos s) (knownPart cs qs) (getD cs place (pos 0) *ℤ pos (getD ss place 0))) (+ℤ-mono (≤ℤ-refl (c *ℤ pos s)) (at-most-with place sz e u))
 at-most-with (suc place) (unknown {c = c} {s = s} sz) e u =
     add-at-most _ _ _ (product-at-most c s (leZ-yes (holds-from _ (and-left (leZ c (pos 0)) _ e)))) (at-most-with place sz (and-right (leZ c (pos 0)) _ e) u)
-
-length-sizes : (ts : Terms) → length (argumentSizes ts) ≡ arity ts
-unfolding argumentSizes arity
-length-sizes nil = refl
-length-sizes (cons t ts) = ap suc (length-sizes ts)
 
 -- ---- what a usable claim says
 

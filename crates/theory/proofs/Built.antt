@@ -12,13 +12,13 @@ use Rattle.theory.specs.Written.{withSubgoal, withMultipliers}
 use Rattle.theory.specs.Residuals.{ruleVariables}
 use Rattle.theory.specs.Faults.{noRule, lastOf}
 use Rattle.theory.specs.Limits.{_∈_, AtomFits, MultipliersFit, RuleFits, Fits, Justified}
-use Rattle.theory.proofs.ListEnds.{member-unempty, split-member, split-shorter, grown}
+use Rattle.integers.proofs.Lists.{member-unempty, split-member, split-shorter, grown}
 use Rattle.theory.proofs.LastRule.{lastOf-end, onLast-end}
 use Rattle.theory.proofs.Completeness.{complete-from-whole, incomplete-from-due}
 use Rattle.theory.proofs.ClaimsOn.{claims-before}
 use Rattle.theory.proofs.RuleVariables.{variables-of-fewer}
 use Rattle.theory.proofs.Begun.{JustifiedBy}
-use Rattle.theory.proofs.Steps.{Step, predicateStep, claimStep, headStep, subgoalStep, multiplierStep, Run, stay, go}
+use Rattle.theory.proofs.Steps.{parts, Step, predicateStep, claimStep, headStep, subgoalStep, multiplierStep, Run, stay, go}
 
 -- some lines lead from one pack to another
 abbrev pub Built : Pack → Pack → Type 0
@@ -33,9 +33,6 @@ built-end {fields = fields} built step = (built .0 ++ (fields ∷ []), run-end (
 
 -- ---- steps on a rule that stands last
 
-abbrev parts : List Predicate → List Claim → List Rule → Pack
-parts ps cs rs = record { predicates = ps; claims = cs; rules = rs }
-
 module _ (ps : List Predicate) (cs : List Claim) (before : List Rule) (r : Rule) where
   end-unempty : before ++ (r ∷ []) ≡ [] → ⊥
   end-unempty = member-unempty (split-member before [] r refl)
@@ -44,9 +41,9 @@ module _ (ps : List Predicate) (cs : List Claim) (before : List Rule) (r : Rule)
   of-last : (P : Rule → Type 0) → P r → P (lastOf noRule (before ++ (r ∷ [])))
   of-last P h = subst P (sym (lastOf-end noRule before r)) h
 
-  subgoal-step : (a : Atom) → r .multipliers ≡ [] → AtomFits ps a → length (r .subgoals) < subgoalLimit → length (ruleVariables (r .head) (r .subgoals ++ (a ∷ []))) ≤ variableLimit
+  last-subgoal-step : (a : Atom) → r .multipliers ≡ [] → AtomFits ps a → length (r .subgoals) < subgoalLimit → length (ruleVariables (r .head) (r .subgoals ++ (a ∷ []))) ≤ variableLimit
       → Step (parts ps cs (before ++ (r ∷ []))) (subgoalLine a) (parts ps cs (before ++ (withSubgoal a r ∷ [])))
-  subgoal-step a none fits room few =
+  last-subgoal-step a none fits room few =
       subst (λ (rs : List Rule). Step (parts ps cs (before ++ (r ∷ []))) (subgoalLine a) (parts ps cs rs)) (onLast-end (withSubgoal a) before r)
       (subgoalStep a end-unempty
       (of-last (λ (s : Rule). s .multipliers ≡ []) none)
@@ -54,10 +51,10 @@ module _ (ps : List Predicate) (cs : List Claim) (before : List Rule) (r : Rule)
       (of-last (λ (s : Rule). length (s .subgoals) < subgoalLimit) room)
       (of-last (λ (s : Rule). length (ruleVariables (s .head) (s .subgoals ++ (a ∷ []))) ≤ variableLimit) few))
 
-  multiplier-step : (ms : List ℕ) → length (r .multipliers) < length (claimsOn (atomKey (r .head)) cs) → MultipliersFit cs (r .subgoals) ms
+  last-multiplier-step : (ms : List ℕ) → length (r .multipliers) < length (claimsOn (atomKey (r .head)) cs) → MultipliersFit cs (r .subgoals) ms
       → JustifiedBy cs r (length (r .multipliers)) ms
       → Step (parts ps cs (before ++ (r ∷ []))) (multiplierLine ms) (parts ps cs (before ++ (withMultipliers ms r ∷ [])))
-  multiplier-step ms due fits left =
+  last-multiplier-step ms due fits left =
       subst (λ (rs : List Rule). Step (parts ps cs (before ++ (r ∷ []))) (multiplierLine ms) (parts ps cs rs)) (onLast-end (withMultipliers ms) before r)
       (multiplierStep ms
       (incomplete-from-due (parts ps cs (before ++ (r ∷ []))) end-unempty (of-last (λ (s : Rule). length (s .multipliers) < length (claimsOn (atomKey (s .head)) cs)) due))
@@ -113,7 +110,7 @@ module _ (start p : Pack) (fits : Fits p) where
         next-subgoal earlier later a h opened =
             let few = subst (λ (gs : List Atom). length (ruleVariables (r .head) gs) ≤ variableLimit) (h ∙ sym (append-assoc earlier (a ∷ []) later)) (ruleFits .fewVariables) in
             built-end opened
-            (subgoal-step (p .predicates) (p .claims) before _ a refl
+            (last-subgoal-step (p .predicates) (p .claims) before _ a refl
             (ruleFits .subgoals a (split-member earlier later a h))
             (le-trans (split-shorter earlier later a h) (ruleFits .fewSubgoals))
             (le-trans (variables-of-fewer (r .head) (earlier ++ (a ∷ [])) later) few))
@@ -123,7 +120,7 @@ module _ (start p : Pack) (fits : Fits p) where
             let due : length earlier < length (claimsOn (atomKey (r .head)) (p .claims)) = omega (arith, split-shorter earlier later ms h, ruleFits .everyClaim) in
             let found = ap (λ (mss : List (List ℕ)). getD mss (length earlier) []) h ∙ getD-append-seam earlier ms later [] in
             built-end opened
-            (multiplier-step (p .predicates) (p .claims) before _ ms due
+            (last-multiplier-step (p .predicates) (p .claims) before _ ms due
             (ruleFits .multipliers ms (split-member earlier later ms h))
             (subst (JustifiedBy (p .claims) r (length earlier)) found (justified .every r (split-member before behind r e) (length earlier) due .left)))
 

@@ -1,11 +1,12 @@
 -- Byte strings: equality as a test, and classes of bytes.
 use mathlib.Core.Path.{_≡_, refl, _∙_, ap, ap₂}
 use mathlib.Core.Bool.{Bool, true, false, not, _&&_, false≢true}
-use mathlib.Core.List.{List, [], _∷_, _++_}
+use mathlib.Core.List.{[], _∷_}
 use Prim.Native.Nat.{ℕ, _≤_}
 use lib.Dec.{eqb, leb}
 use Rattle.integers.proofs.Truth.{and-left, and-right, and-both, eqb-equal, eqb-same, leb-le, le-leb, never-both}
 use Rattle.theory.specs.Text.{Bytes, same, every, between}
+use Rattle.theory.proofs.Every.{every-within}
 
 pub same-refl : (x : Bytes) → same x x ≡ true
 unfolding same
@@ -40,15 +41,5 @@ isFieldByte b = between 32 126 b && not (eqb b 44)
 abbrev pub isTokenByte : ℕ → Bool
 isTokenByte b = isFieldByte b && not (eqb b 32)
 
-pub every-append {ℓ} : {A : Type ℓ} (test : A → Bool) (a b : List A) → every test a ≡ true → every test b ≡ true → every test (a ++ b) ≡ true
-unfolding every
-every-append test [] b h k = k
-every-append test (x ∷ a) b h k =
-    and-both (test x) (every test (a ++ b)) (and-left (test x) (every test a) h) (every-append test a b (and-right (test x) (every test a) h) k)
-
--- a class within another
-pub every-within : (test wider : ℕ → Bool) → ((b : ℕ) → test b ≡ true → wider b ≡ true) → (bs : Bytes) → every test bs ≡ true → every wider bs ≡ true
-unfolding every
-every-within test wider within [] h = refl
-every-within test wider within (b ∷ bs) h =
-    and-both (wider b) (every wider bs) (within b (and-left (test b) (every test bs) h)) (every-within test wider within bs (and-right (test b) (every test bs) h))
+pub token-field : (bs : Bytes) → every isTokenByte bs ≡ true → every isFieldByte bs ≡ true
+token-field bs h = every-within isTokenByte isFieldByte (λ b e. and-left (isFieldByte b) _ e) bs h

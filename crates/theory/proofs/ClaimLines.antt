@@ -1,22 +1,23 @@
 -- `C` lines: faultless exactly if they state a claim that fits.
 use mathlib.Core.Path.{_≡_, refl, sym, _∙_, ap, subst}
 use mathlib.Core.Bool.{true, not}
-use mathlib.Core.List.{List, [], _∷_, map, List·Memᴰ·head, List·Memᴰ·tail}
+use mathlib.Core.List.{List, [], _∷_, map, List·Memᴰ·tail}
 use mathlib.Core.Option.{some}
 use Prim.Native.Nat.{_+_, _≤_, _<_}
 use native.Mathlib.Omega.{arith}
 use lib.IntN.{ℤ, pos, natAbs}
 use lib.ListN.{length, length-map, length-drop, drop}
 use lib.Seq.{drop-cons}
-use Rattle.theory.specs.Text.{Bytes, bytes, every, integer, signedDecimal}
+use Rattle.theory.specs.Text.{Bytes, bytes, every, isName, integer, signedDecimal}
 use Rattle.theory.specs.Packs.{Claim, Pack, claimLimit, numberLimit, claimKey, declaredAs, claimsOn, claimLine}
 use Rattle.theory.specs.Written.{C, field, claimFrom, integerFrom, add}
 use Rattle.theory.specs.Faults.{isSome, isClaimNumber, arityIn, mayStand, claimTests, tests}
 use Rattle.theory.specs.Limits.{_∈_, ClaimFits}
+use Rattle.integers.proofs.Lists.{all-cons}
 use Rattle.integers.proofs.Truth.{not-false, eqb-equal, equal-eqb, leb-gt, gt-leb}
 use Rattle.theory.proofs.Every.{every-first, every-rest}
 use Rattle.theory.proofs.FieldValues.{value-read, values-written, values-within, written-read, written-values}
-use Rattle.theory.proofs.Faultless.{Faultless, Readable}
+use Rattle.theory.proofs.Faultless.{Faultless, Adds, Readable}
 use Rattle.theory.proofs.Letters.{letterField}
 use Rattle.theory.proofs.PlainFields.{plain-cons, plain-map, name-plain, signed-plain, letter-plain}
 use Rattle.theory.proofs.Presence.{is-some, is-empty, empty-is, arity-in}
@@ -70,31 +71,39 @@ claim-step p fields h =
     } in
     subst (λ (fs : List Bytes). Step p fs (withClaim d p)) (claim-line-again fields (omega arith) (h .first) numbers) (claimStep d (is-empty (p .rules) (h .stands)) fits room)
 
-module _ (p : Pack) (c : Claim) (fits : ClaimFits (p .predicates) c) where
+module _ (c : Claim) (constant : natAbs (c .constant) ≤ numberLimit) (coefficients : (z : ℤ) → z ∈ c .coefficients → natAbs z ≤ numberLimit) where
   numbers-again : (z : ℤ) → z ∈ c .constant ∷ c .coefficients → integer numberLimit (signedDecimal z) ≡ some z
-  numbers-again z (List·Memᴰ·head e) = integer-of-signed numberLimit z (rw e (fits .constant))
-  numbers-again z (List·Memᴰ·tail m) = integer-of-signed numberLimit z (fits .coefficients z m)
+  numbers-again z m = integer-of-signed numberLimit z (all-cons (λ (y : ℤ). natAbs y ≤ numberLimit) constant coefficients z m)
 
   claim-again : claimFrom (claimLine c) ≡ c
   unfolding claimFrom claimLine
-  claim-again = rw (integer-of-signed numberLimit (c .constant) (fits .constant), written-values (integer numberLimit) signedDecimal (pos 0) (c .coefficients) (λ z m. numbers-again z (List·Memᴰ·tail m)))
+  claim-again = rw (integer-of-signed numberLimit (c .constant) constant, written-values (integer numberLimit) signedDecimal (pos 0) (c .coefficients) (λ z m. numbers-again z (List·Memᴰ·tail m)))
 
+  pub claim-adds : (p : Pack) → isName (c .name) ≡ true → Adds C p (claimLine c) (withClaim c p)
+  unfolding add claimLine letterField
+  claim-adds p named =
+      record {
+        starts = refl;
+        is = ap (λ (d : Claim). withClaim d p) claim-again;
+        plain = plain-cons (letter-plain C) (plain-cons (name-plain (c .name) named) (plain-cons (signed-plain (c .constant)) (plain-map signedDecimal signed-plain (c .coefficients))));
+      }
+
+module _ (p : Pack) (c : Claim) (fits : ClaimFits (p .predicates) c) where
   claim-clear : length (claimsOn (claimKey c) (p .claims)) < claimLimit → Clear (claimTests (claimLine c) p)
   unfolding claimTests claimLine isSome arityIn
   claim-clear room =
-      rw (claim-again, fits .declared)
+      rw (claim-again c (fits .constant) (fits .coefficients), fits .declared)
       (ap not (fits .named)
       then refl
       then ap not (equal-eqb (length (claimLine c)) (fits .predicate .arguments + 3) (omega (arith, length-map (c .coefficients) signedDecimal, fits .full)))
-      then ap not (written-read (integer numberLimit) signedDecimal (c .constant ∷ c .coefficients) numbers-again)
+      then ap not (written-read (integer numberLimit) signedDecimal (c .constant ∷ c .coefficients) (numbers-again c (fits .constant) (fits .coefficients)))
       then gt-leb claimLimit _ room
       then tt)
 
   pub claim-readable : p .rules ≡ [] → length (claimsOn (claimKey c) (p .claims)) < claimLimit → Readable C p (claimLine c) (withClaim c p)
-  unfolding add tests mayStand claimLine letterField
+  unfolding tests mayStand claimLine letterField
   claim-readable ruleless room =
       record {
         faultless = record { first = refl; stands = empty-is (p .rules) ruleless; clear = claim-clear room };
-        adds = ap (λ (d : Claim). withClaim d p) claim-again;
-        plain = plain-cons (letter-plain C) (plain-cons (name-plain (c .name) (fits .named)) (plain-cons (signed-plain (c .constant)) (plain-map signedDecimal signed-plain (c .coefficients))));
+        adds = claim-adds c (fits .constant) (fits .coefficients) p (fits .named);
       }

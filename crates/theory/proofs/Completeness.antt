@@ -1,33 +1,20 @@
 -- When all `M` lines of the rules so far are there: `isComplete`, by the number of the last rule's multiplier lists.
-use mathlib.Core.Path.{_≡_, refl, ap}
+use mathlib.Core.Path.{_≡_, refl}
 use mathlib.Core.Bool.{Bool, true, false, _||_}
-use mathlib.Core.List.{List, [], _∷_}
+use mathlib.Core.List.{List, []}
 use Prim.Native.Nat.{_≤_, _<_}
 use lib.Dec.{leb}
 use lib.ListN.{length}
-use Rattle.integers.proofs.Truth.{never-both, by-truth, leb-le, leb-gt, le-leb, gt-leb, or-neither, or-not-left, or-not-right}
+use Rattle.integers.proofs.Truth.{by-truth, leb-le, leb-gt, le-leb, gt-leb, or-neither, or-not-left, or-not-right}
 use Rattle.theory.specs.Packs.{Claim, Rule, Pack, atomKey, claimsOn}
 use Rattle.theory.specs.Faults.{isEmpty, noRule, lastRule, headClaims, isComplete}
 use Rattle.theory.specs.Limits.{_∈_}
 use Rattle.theory.proofs.LastRule.{last-member}
+use Rattle.theory.proofs.Presence.{is-empty, is-filled, filled-is}
 
 -- every claim on the rule's head has its multipliers
 abbrev pub IsWhole : List Claim → Rule → Type 0
 IsWhole claims r = length (claimsOn (atomKey (r .head)) claims) ≤ length (r .multipliers)
-
-is-empty : {A : Type 0} (l : List A) → isEmpty l ≡ true → l ≡ []
-unfolding isEmpty
-is-empty [] h = refl
-is-empty (a ∷ l) h = never-both h refl
-
-is-unempty : {A : Type 0} (l : List A) → isEmpty l ≡ false → l ≡ [] → ⊥
-unfolding isEmpty
-is-unempty l h e = never-both (ap isEmpty e) h
-
-unempty-is : {A : Type 0} (l : List A) → (l ≡ [] → ⊥) → isEmpty l ≡ false
-unfolding isEmpty
-unempty-is [] h = absurd (h refl)
-unempty-is (a ∷ l) h = refl
 
 abbrev lastIsWhole : Pack → Bool
 lastIsWhole p = leb (length (headClaims p)) (length (lastRule p .multipliers))
@@ -40,13 +27,13 @@ whole-from-complete p complete h = leb-le _ _ (split (isEmpty (p .rules)) refl c
     split false e k = k
 
 pub complete-from-whole : (p : Pack) → ((r : Rule) → r ∈ p .rules → IsWhole (p .claims) r) → isComplete p ≡ true
-complete-from-whole p whole = by-truth (λ (b : Bool). (b || lastIsWhole p) ≡ true) (isEmpty (p .rules)) (λ e. refl) (λ e. le-leb _ _ (whole (lastRule p) (last-member noRule (p .rules) (is-unempty (p .rules) e))))
+complete-from-whole p whole = by-truth (λ (b : Bool). (b || lastIsWhole p) ≡ true) (isEmpty (p .rules)) (λ e. refl) (λ e. le-leb _ _ (whole (lastRule p) (last-member noRule (p .rules) (is-filled (p .rules) e))))
 
 pub rule-from-incomplete : (p : Pack) → isComplete p ≡ false → p .rules ≡ [] → ⊥
-rule-from-incomplete p h = is-unempty (p .rules) (or-not-left (isEmpty (p .rules)) (lastIsWhole p) h)
+rule-from-incomplete p h = is-filled (p .rules) (or-not-left (isEmpty (p .rules)) (lastIsWhole p) h)
 
 pub due-from-incomplete : (p : Pack) → isComplete p ≡ false → length (lastRule p .multipliers) < length (headClaims p)
 due-from-incomplete p h = leb-gt _ _ (or-not-right (isEmpty (p .rules)) (lastIsWhole p) h)
 
 pub incomplete-from-due : (p : Pack) → (p .rules ≡ [] → ⊥) → length (lastRule p .multipliers) < length (headClaims p) → isComplete p ≡ false
-incomplete-from-due p h k = or-neither (isEmpty (p .rules)) (lastIsWhole p) (unempty-is (p .rules) h) (gt-leb _ _ k)
+incomplete-from-due p h k = or-neither (isEmpty (p .rules)) (lastIsWhole p) (filled-is (p .rules) h) (gt-leb _ _ k)

@@ -8,7 +8,8 @@ use native.Mathlib.Omega.{arith}
 use lib.Dec.{eqb, ltb}
 use Rattle.integers.proofs.Truth.{and-left, and-right, and-both, not-true, eqb-unequal, eqb-different, ltb-lt, ltb-ge, lt-ltb, ge-ltb}
 use Rattle.theory.specs.Text.{Bytes, every, isDigit, isDecimal, valueBehind, lastDigits, decimal}
-use Rattle.theory.proofs.Bytes.{between-from, between-low, between-high, every-append}
+use Rattle.theory.proofs.Bytes.{between-from, between-low, between-high}
+use Rattle.theory.proofs.Every.{every-append}
 
 -- the digit of d
 abbrev digit : ℕ → ℕ

@@ -1,21 +1,20 @@
 -- Demand 3: one theorem, from the bytes handed in to whole derivations.
-use mathlib.Core.Path.{_≡_, refl, sym, _∙_, ap}
+use mathlib.Core.Path.{_≡_, refl}
 use mathlib.Core.List.{List}
-use Prim.Native.Nat.{ℕ, _≤_}
 use Prim.Native.Char.{code}
 use lib.IntN.{ℤ}
 use Rattle.theory.specs.Text.{Bytes}
 use Rattle.theory.specs.Packs.{Pack, Atom, written}
 use Rattle.theory.specs.Written.{packOf}
 use Rattle.theory.specs.Check.{verdictOf, checkOf}
-use Rattle.theory.specs.Reserve.{Fields, queryOf, fields, reserveOf}
-use Rattle.theory.specs.Limits.{Fits, Justified, Acceptable}
-use Rattle.theory.specs.Derivations.{MeetsAll, GivenFact, IsFact, Derivable, HasKnownSizes, sizeAt}
-use Rattle.theory.specs.Promises.{DemandTwo, DemandThree}
-use Rattle.theory.proofs.Acceptance.{Accepts, accepts-from-verdict, of-pack, accepted-exactly}
+use Rattle.theory.specs.Reserve.{queryOf, fields}
+use Rattle.theory.specs.Limits.{Fits, Justified}
+use Rattle.theory.specs.Derivations.{GivenFact, Derivable}
+use Rattle.theory.specs.Promises.{DemandThree}
+use Rattle.theory.proofs.Acceptance.{accepts-from-verdict, of-pack, accepted-exactly}
 use Rattle.theory.proofs.Soundness.{derivable-meets, derivable-is-fact}
 use Rattle.theory.proofs.Reservations.{bound-exactly, impossible-exactly}
-use Rattle.theory.proofs.ReserveAnswers.{Answered, answered, Asks, asks}
+use Rattle.theory.proofs.ReserveAnswers.{answered, asks}
 use Rattle.theory.proofs.ReserveSound.{bound-kept, none-such}
 
 -- the pack that an accepted text's lines write is within the limits, its claims justified

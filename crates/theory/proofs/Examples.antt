@@ -13,7 +13,7 @@ use Rattle.theory.specs.Packs.{key, sameKey, declaredAs, claimsOn}
 use Rattle.theory.specs.Written.{letterOf, termsFrom, kindFrom, predicateFrom, claimFrom, atomFrom, multipliersFrom, nothing, onLast, add, write, writeAll, packOf}
 use Rattle.theory.specs.Residuals.{weighted, claimForm, subgoalForms, combined, residual, numbered, atomsVariables, ruleVariables, residualNumbers, isJustified}
 use Rattle.theory.specs.Faults.{firstOf, isSome, isUnfit, arityIn, isGiven, givenIn, isEmpty, noRule, lastOf, mayStand, noClaim, residualDue, predicateTests, claimTests, atomTests, headTests, subgoalTests, multiplierTests, tests, fault}
-use Rattle.theory.specs.Check.{Numbers, numbers, Checked, multiplierLines, refused, judge, isFinished, verdictOf, checkOf}
+use Rattle.theory.specs.Check.{numbers, Checked, multiplierLines, refused, judge, isFinished, verdictOf, checkOf}
 use Rattle.theory.specs.Measure.{Measured, measured, measureTerm, measureOf}
 use Rattle.theory.specs.Reserve.{Fields, fields, sizeFrom, queryFrom, queryOf, queryFault, unknownsAtMostZero, knownPart, isUsable, numerator, boundBy, usableFrom, impossibles, smallest, bounded, impossibleOr, reservation, refusal, reserveOf}
 

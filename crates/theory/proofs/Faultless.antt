@@ -1,7 +1,8 @@
--- Lines by letter: fields that have no fault, and fields that write what they add.
+-- Lines by letter: fields that have no fault, and fields whose line writes what they add.
 use mathlib.Core.Path.{_≡_}
 use mathlib.Core.Bool.{true}
-use mathlib.Core.List.{List}
+use mathlib.Core.List.{List, _∷_}
+use lib.ListN.{drop}
 use Rattle.theory.specs.Text.{Bytes}
 use Rattle.theory.specs.Packs.{Pack}
 use Rattle.theory.specs.Written.{Letter, field, add}
@@ -16,8 +17,13 @@ pub record Faultless (letter : Letter) (p : Pack) (fields : List Bytes) : Type 0
   pub stands : mayStand p letter ≡ true
   pub clear : Clear (tests letter fields p)
 
--- and their line can be read again, and makes q of p
+-- the line of fields with this letter has these fields again, and makes q of p, with a fault or without
+pub record Adds (letter : Letter) (p : Pack) (fields : List Bytes) (q : Pack) : Type 0 where
+  pub starts : fields ≡ letterField letter ∷ drop 1 fields
+  pub is : add letter fields p ≡ q
+  pub plain : Plain fields
+
+-- both
 pub record Readable (letter : Letter) (p : Pack) (fields : List Bytes) (q : Pack) : Type 0 where
   pub faultless : Faultless letter p fields
-  pub adds : add letter fields p ≡ q
-  pub plain : Plain fields
+  pub adds : Adds letter p fields q

@@ -1,8 +1,7 @@
 -- How large the numbers of forms are; under document 01's limits a residual's fit 64 bits.
-use mathlib.Core.Path.{_≡_, refl}
-use mathlib.Core.Logic.{⊎-elim}
+use mathlib.Core.Path.{refl}
 use mathlib.Core.Bool.{cond}
-use mathlib.Core.List.{List, [], _∷_, map, List·Memᴰ·head, List·Memᴰ·tail, List·Memᴰ·cases-cons, Memᴰ·append-left, Memᴰ·append-right, Memᴰ·map}
+use mathlib.Core.List.{List, [], _∷_, map, List·Memᴰ·head, List·Memᴰ·tail, Memᴰ·append-left, Memᴰ·append-right, Memᴰ·map}
 use Prim.Native.Nat.{ℕ, suc, _+_, _*_, _^_, _≤_, _<_}
 use native.Mathlib.Omega.{arith}
 use native.Mathlib.Nat.{mul-le-mul, mul-le-mul-left, le-trans}
@@ -14,9 +13,10 @@ use Rattle.integers.proofs.Lists.{flatMap-member, length-flatMap}
 use Rattle.theory.specs.Text.{Bytes, same}
 use Rattle.theory.specs.Terms.{Term, Terms, nil, cons, arity, size, sizes, variables, occurrences}
 use Rattle.theory.specs.Forms.{Form, zeroForm, plus, times, minus, constantForm, formOf}
-use Rattle.theory.specs.Packs.{Claim, Atom, Rule, Pack, lineLimit, claimLimit, subgoalLimit, numberLimit, Key, claimKey, atomKey, sameKey, claimsOn, termFields, headLine, subgoalLine, claimLine, predicateLine, ruleLines, endLine, line, openLines, packLines}
+use Rattle.theory.specs.Packs.{Claim, Atom, Rule, Pack, lineLimit, claimLimit, subgoalLimit, numberLimit, atomKey, claimsOn, termFields, headLine, subgoalLine, claimLine, predicateLine, ruleLines, endLine, line, openLines, packLines}
 use Rattle.theory.specs.Residuals.{weighted, claimForm, subgoalForms, combined, residual}
 use Rattle.theory.specs.Limits.{_∈_, Fits, MultipliersFit}
+use Rattle.theory.proofs.Keys.{on-member}
 use Rattle.theory.proofs.SubgoalForms.{of-subgoal}
 use Rattle.theory.proofs.TermLengths.{variables-count, atom-line-length}
 
@@ -113,14 +113,6 @@ claimFormLimit = numberLimit + numberLimit * lineLimit
 abbrev pub residualLimit : ℕ
 residualLimit = claimFormLimit + subgoalLimit * claimLimit * (numberLimit * claimFormLimit)
 
-claim-of : (k : Key) (cs : List Claim) {c : Claim} → c ∈ claimsOn k cs → c ∈ cs
-unfolding claimsOn
-claim-of k [] m = m
-claim-of k (d ∷ cs) {c} m =
-    by-truth (λ b. c ∈ cond b (d ∷ claimsOn k cs) (claimsOn k cs) → c ∈ (d ∷ cs)) (sameKey k (claimKey d))
-    (λ h n. ⊎-elim (λ (e : c ≡ d). List·Memᴰ·head e) (λ l. List·Memᴰ·tail (claim-of k cs l)) (List·Memᴰ·cases-cons n))
-    (λ h n. List·Memᴰ·tail (claim-of k cs n)) m
-
 module _ (p : Pack) (fits : Fits p) where
   atom-few-symbols : (letter : Bytes) (a : Atom) → line (letter ∷ a .name ∷ termFields (a .terms)) ∈ packLines p → arity (a .terms) + sizes (a .terms) ≤ lineLimit
   atom-few-symbols letter a m = le-trans (atom-line-length letter a) (fits .shortLines _ m)
@@ -146,7 +138,7 @@ module _ (p : Pack) (fits : Fits p) where
   subgoal-form-fits r m f n =
       let found = of-subgoal (p .claims) (r .subgoals) f n in
       let few = subgoal-few-symbols r m (found .subgoal) (found .isSubgoal) in
-      rw (found .is) (claim-form-fits (found .subgoal) few (found .claim) (claim-of (atomKey (found .subgoal)) (p .claims) (found .isClaim)))
+      rw (found .is) (claim-form-fits (found .subgoal) few (found .claim) (on-member (atomKey (found .subgoal)) (p .claims) (found .claim) (found .isClaim) .0))
 
   pub multipliers-few : (r : Rule) → r ∈ p .rules → (ms : List ℕ) → MultipliersFit (p .claims) (r .subgoals) ms → length ms ≤ subgoalLimit * claimLimit
   multipliers-few r m ms multipliers =

@@ -1,34 +1,31 @@
 -- Judging lines from the top: it ends without a refusal exactly on the lines of a run that ends with `E`.
 use mathlib.Core.Path.{_≡_, refl, sym, _∙_, ap}
 use mathlib.Core.Bool.{Bool, true, false, cond}
-use mathlib.Core.List.{List, [], _∷_, _++_, map, dropLast, List·Memᴰ·head, List·Memᴰ·tail, List·Memᴰ·cases-cons, List·Memᴰ·not-nil}
-use mathlib.Core.Logic.{⊎-elim}
-use Prim.Native.Nat.{ℕ, zero, suc, _+_, _≤_}
+use mathlib.Core.List.{List, [], _∷_, _++_, map, List·Memᴰ·head, List·Memᴰ·tail}
+use Prim.Native.Nat.{ℕ, _+_, _≤_}
 use native.Mathlib.Omega.{arith}
 use native.Mathlib.Nat.{add-zero}
 use lib.Dec.{eqb}
 use lib.ListN.{length}
-use Rattle.integers.proofs.Truth.{by-truth, never-both, eqb-equal, equal-eqb}
+use Rattle.integers.proofs.Lists.{member-unempty, all-cons}
+use Rattle.integers.proofs.Truth.{never-both, eqb-equal, equal-eqb}
 use Rattle.theory.specs.Text.{Bytes, fieldsOf}
 use Rattle.theory.specs.Terms.{allVariables}
-use Rattle.theory.specs.Packs.{Rule, Pack, line, endLine, lineLimit, variableLimit}
-use Rattle.theory.specs.Written.{Written, write, writeAll, onLast, withSubgoal, withMultipliers}
+use Rattle.theory.specs.Packs.{Pack, line, endLine, lineLimit, variableLimit}
+use Rattle.theory.specs.Written.{Written, multipliersFrom, write, withSubgoal, withMultipliers}
 use Rattle.theory.specs.Residuals.{numbered, atomsVariables, ruleVariables}
-use Rattle.theory.specs.Faults.{fault, isComplete, lastRule, lastOf, noRule, isEmpty}
+use Rattle.theory.specs.Faults.{residualDue, fault, isComplete, lastRule, lastOf, noRule}
 use Rattle.theory.specs.Check.{Judgement, numbers, plain, multiplierLines, refused, judge}
 use Rattle.theory.specs.Limits.{_∈_}
 use Rattle.theory.proofs.Separators.{joined-of-parts}
 use Rattle.theory.proofs.Steps.{withPredicate, withClaim, Step, predicateStep, claimStep, headStep, subgoalStep, multiplierStep, Run, stay, go}
-use Rattle.theory.proofs.LastRule.{lastOf-end, onLast-parts}
+use Rattle.theory.proofs.LastRule.{lastOf-end, last-changed}
 use Rattle.theory.proofs.Completeness.{rule-from-incomplete}
 use Rattle.theory.proofs.LineReading.{before, behind, Fine, step, end, fine-from-fault, short-from-fault, fault-behind-end, Read, read-fine}
 
 -- the last rule so far has few enough variables
 abbrev pub Few : Pack → Type 0
 Few p = length (ruleVariables (lastRule p .head) (lastRule p .subgoals)) ≤ variableLimit
-
-last-changed : (change : Rule → Rule) (rs : List Rule) → (rs ≡ [] → ⊥) → lastOf noRule (onLast change rs) ≡ change (lastOf noRule rs)
-last-changed change rs started = rw (onLast-parts change noRule rs started) (lastOf-end noRule (dropLast rs) (change (lastOf noRule rs)))
 
 pub no-rule-few : (p : Pack) → p .rules ≡ [] → Few p
 unfolding lastOf noRule ruleVariables numbered atomsVariables allVariables
@@ -38,8 +35,8 @@ few-after : {p q : Pack} {fields : List Bytes} → Step p fields q → Few p →
 few-after {p} (predicateStep x c r f d l) few = no-rule-few (withPredicate x p) r
 few-after {p} (claimStep c r f l) few = no-rule-few (withClaim c p) r
 few-after {p} (headStep a c f k l v) few = rw (lastOf-end noRule (p .rules) (record { head = a; subgoals = []; multipliers = [] })) v
-few-after {p} (subgoalStep a s m f l v) few = rw (last-changed (withSubgoal a) (p .rules) s) v
-few-after {p} (multiplierStep ms c f n) few = rw (last-changed (withMultipliers ms) (p .rules) (rule-from-incomplete p c)) few
+few-after {p} (subgoalStep a s m f l v) few = rw (last-changed (withSubgoal a) noRule (p .rules) s) v
+few-after {p} (multiplierStep ms c f n) few = rw (last-changed (withMultipliers ms) noRule (p .rules) (rule-from-incomplete p c)) few
 
 -- lines that are those of a run from p to q, and then `E`
 pub record Accepted (p : Pack) (ls : List Bytes) : Type 0 where
@@ -55,7 +52,7 @@ refused-number : (w : Written) (k : ℕ) (l : Bytes) (n : ℕ) → refused w k l
 unfolding refused
 refused-number w k l n = go (eqb n 13) refl
   where
-    go : (b : Bool) → eqb n 13 ≡ b → cond b (record { returned = numbers 13 k (length (w .pack .rules)) (length (lastRule (w .pack) .multipliers) + 1); residue = Rattle.theory.specs.Faults.residualDue (w .pack) (Rattle.theory.specs.Written.multipliersFrom (fieldsOf l)) }) (plain (numbers n k 0 0)) .returned .number ≡ n
+    go : (b : Bool) → eqb n 13 ≡ b → cond b (record { returned = numbers 13 k (length (w .pack .rules)) (length (lastRule (w .pack) .multipliers) + 1); residue = residualDue (w .pack) (multipliersFrom (fieldsOf l)) }) (plain (numbers n k 0 0)) .returned .number ≡ n
     go true e = sym (eqb-equal n 13 e)
     go false e = refl
 
@@ -84,7 +81,7 @@ accepted-behind p k l ls fields w few (step {q = q} s) is short e ih = after (ih
       run = go s (a .run);
       complete = a .complete;
       are = rw (← is, a .are);
-      short = λ x m. ⊎-elim (λ (h : x ≡ l). rw h short) (a .short x) (List·Memᴰ·cases-cons m);
+      short = all-cons (λ x. length x ≤ lineLimit) short (a .short);
     }
 accepted-behind p k l ls fields w few (end c) is short e ih = record {
   end-pack = p;
@@ -92,7 +89,7 @@ accepted-behind p k l ls fields w few (end c) is short e ih = record {
   run = stay;
   complete = c;
   are = rw (judged-end p k ls e, is);
-  short = λ x m. ⊎-elim (λ (h : x ≡ l). rw h short) (λ (h : x ∈ ls). absurd (List·Memᴰ·not-nil (rw (judged-end p k ls e) at h))) (List·Memᴰ·cases-cons m);
+  short = all-cons (λ x. length x ≤ lineLimit) short (λ x m. absurd (member-unempty m (judged-end p k ls e)));
 }
 
 pub accepted-from-judge : (p : Pack) (k : ℕ) (ls : List Bytes) → Few p → judge (before p) k ls .returned .number ≡ 0 → Accepted p ls
@@ -106,24 +103,20 @@ accepted-from-judge p k (l ∷ ls) few e =
 abbrev pub counted : ℕ → Pack → Judgement
 counted k p = plain (numbers 0 k (length (p .rules)) (multiplierLines (p .rules)))
 
--- what judging and writing lines come to
-pub record Judged (w : Written) (k : ℕ) (ls : List Bytes) (q : Pack) : Type 0 where
-  pub verdict : judge w k ls ≡ counted (k + length ls) q
-  pub writes : writeAll w ls ≡ behind q
+-- behind k lines that write w, the verdict on these lines and on q, which they write
+abbrev Judged : Written → ℕ → List Bytes → Pack → Type 0
+Judged w k ls q = judge w k ls ≡ counted (k + length ls) q
 
 judged-behind : (p q : Pack) (k : ℕ) (fields : List Bytes) (ls : List Bytes) (w : Written) → Read p fields w → Judged w (k + 1) ls q → Judged (before p) k (line fields ∷ ls) q
-unfolding judge writeAll
-judged-behind p q k fields ls w read j = record {
-  verdict = rw (read .faultless, read .writes, j .verdict) (ap (λ (n : ℕ). counted n q) (omega arith));
-  writes = rw (read .writes) (j .writes);
-}
+unfolding judge
+judged-behind p q k fields ls w read judged = rw (read .faultless, read .writes, judged) (ap (λ (n : ℕ). counted n q) (omega arith))
 
 judged-last : (q : Pack) (k : ℕ) → Judged (behind q) k [] q
-unfolding judge writeAll
-judged-last q k = record { verdict = rw (add-zero k); writes = refl }
+unfolding judge
+judged-last q k = rw (add-zero k)
 
 pub judged-run : (p q : Pack) (k : ℕ) (fields : List (List Bytes)) → Run p fields q → isComplete q ≡ true
-    → ((l : Bytes) → l ∈ map line (fields ++ (endLine ∷ [])) → length l ≤ lineLimit) → Judged (before p) k (map line (fields ++ (endLine ∷ []))) q
+    → ((l : Bytes) → l ∈ map line (fields ++ (endLine ∷ [])) → length l ≤ lineLimit) → judge (before p) k (map line (fields ++ (endLine ∷ []))) ≡ counted (k + length (map line (fields ++ (endLine ∷ [])))) q
 judged-run p q k fields stay c short = judged-behind p p k endLine [] (behind p) (read-fine p endLine (behind p) (end c) (short _ (List·Memᴰ·head refl))) (judged-last p (k + 1))
 judged-run p q k fields (go {q = r} {fields = f} {rest = rest} s run) c short =
     judged-behind p q k f _ (before r) (read-fine p f (before r) (step s) (short _ (List·Memᴰ·head refl))) (judged-run r q (k + 1) rest run c (λ l m. short l (List·Memᴰ·tail m)))

@@ -6,7 +6,7 @@ use Rattle.theory.specs.Packs.{Rule}
 use Rattle.theory.specs.Written.{onLast}
 use Rattle.theory.specs.Faults.{lastOf}
 use Rattle.theory.specs.Limits.{_∈_}
-use Rattle.theory.proofs.ListEnds.{member-unempty, end-cases}
+use Rattle.integers.proofs.Lists.{member-unempty, end-cases}
 
 pub lastOf-end : (before : Rule) (rs : List Rule) (r : Rule) → lastOf before (rs ++ (r ∷ [])) ≡ r
 unfolding lastOf
@@ -29,6 +29,9 @@ last-parts before (r ∷ s ∷ rs) h = ap (λ l. r ∷ l) (last-parts r (s ∷ r
 
 pub onLast-parts : (change : Rule → Rule) (before : Rule) (rs : List Rule) → (rs ≡ [] → ⊥) → onLast change rs ≡ dropLast rs ++ (change (lastOf before rs) ∷ [])
 onLast-parts change before rs h = ap (onLast change) (last-parts before rs h) ∙ onLast-end change (dropLast rs) (lastOf before rs)
+
+pub last-changed : (change : Rule → Rule) (before : Rule) (rs : List Rule) → (rs ≡ [] → ⊥) → lastOf before (onLast change rs) ≡ change (lastOf before rs)
+last-changed change before rs h = ap (lastOf before) (onLast-parts change before rs h) ∙ lastOf-end before (dropLast rs) (change (lastOf before rs))
 
 pub last-member : (before : Rule) (rs : List Rule) → (rs ≡ [] → ⊥) → lastOf before rs ∈ rs
 last-member before rs h = subst (λ (l : List Rule). lastOf before rs ∈ l) (sym (last-parts before rs h)) (Memᴰ·append-right (dropLast rs) (List·Memᴰ·head refl))

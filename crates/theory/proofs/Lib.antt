@@ -1,15 +1,15 @@
 -- What is proved of the definitions.
 
 -- what bytes spell, and that reading is the inverse of writing
+pub mod Every
 pub mod Bytes
 pub mod Separators
-pub mod Every
 pub mod Decimals
 pub mod Spelling
 pub mod Tokens
 pub mod TermReading
 -- lists, look-ups, variables
-pub mod ListEnds
+pub mod Presence
 pub mod LastRule
 pub mod Keys
 pub mod Kept
@@ -25,12 +25,11 @@ pub mod Reached
 pub mod Built
 pub mod Runs
 -- lines without a fault; demand 2
-pub mod Presence
 pub mod Tests
 pub mod Letters
 pub mod FieldValues
-pub mod TermFields
 pub mod PlainFields
+pub mod TermFields
 pub mod ResidualNumbers
 pub mod Faultless
 pub mod PredicateLines
@@ -38,6 +37,7 @@ pub mod ClaimLines
 pub mod AtomLines
 pub mod MultiplierLines
 pub mod LineReading
+pub mod PackReading
 pub mod Judging
 pub mod Acceptance
 pub mod Locality

@@ -1,25 +1,24 @@
 -- A line has no fault exactly if it may come next, and then it writes what it adds.
 use mathlib.Core.Path.{_≡_, refl, sym, _∙_, ap, subst}
 use mathlib.Core.Bool.{true, false, not, _||_}
-use mathlib.Core.List.{List, [], _∷_}
+use mathlib.Core.List.{List, [], _∷_, nil≢cons}
 use Prim.Native.Nat.{_≤_}
 use native.Mathlib.Omega.{arith}
 use lib.ListN.{length, drop-of-length-le}
 use lib.Seq.{drop-cons}
 use Rattle.theory.specs.Text.{Bytes, bytes, same, every, between, fieldsOf}
 use Rattle.theory.specs.Packs.{Pack, variableLimit, line, endLine, lineLimit}
-use Rattle.theory.specs.Written.{Letter, P, C, H, B, M, E, noLetter, letterOf, lineLetter, field, Written, add, write}
+use Rattle.theory.specs.Written.{Letter, P, C, H, B, M, E, noLetter, lineLetter, field, Written, add, write}
 use Rattle.theory.specs.Residuals.{ruleVariables}
 use Rattle.theory.specs.Faults.{test, isUnfit, lastRule, isComplete, mayStand, predicateTests, claimTests, atomTests, headTests, subgoalTests, multiplierTests, tests, fault}
 use Rattle.integers.proofs.Truth.{not-false, never-both, or-not-left, or-not-right, ltb-ge, eqb-equal}
 use Rattle.theory.proofs.AtomLines.{head-step, subgoal-step, head-readable, subgoal-readable}
 use Rattle.theory.proofs.ClaimLines.{claim-step, claim-readable}
-use Rattle.theory.proofs.Faultless.{Faultless, Readable}
+use Rattle.theory.proofs.Faultless.{Faultless, Adds, Readable}
 use Rattle.theory.proofs.Letters.{letterField, letter-of-field, by-letter}
 use Rattle.theory.proofs.MultiplierLines.{multiplier-step, multiplier-readable}
-use Rattle.theory.proofs.PlainFields.{plain-nil, plain-cons, letter-plain, fields-of-line, line-fit, line-free}
+use Rattle.theory.proofs.PlainFields.{plain-nil, plain-cons, letter-plain, fields-of-line, line-fit}
 use Rattle.theory.proofs.PredicateLines.{predicate-step, predicate-readable}
-use Rattle.theory.proofs.Separators.{isFree}
 use Rattle.theory.proofs.Steps.{Step, predicateStep, claimStep, headStep, subgoalStep, multiplierStep}
 use Rattle.theory.proofs.Tests.{Clear, _then_, Numbered, clear-zero, zero-clear}
 
@@ -114,14 +113,13 @@ pub record Read (p : Pack) (fields : List Bytes) (w : Written) : Type 0 where
   pub faultless : fault (before p) (line fields) ≡ 0
   pub writes : write (before p) (line fields) ≡ w
 
+pub end-adds : (p : Pack) → Adds E p endLine p
+unfolding add endLine letterField
+end-adds p = record { starts = refl; is = refl; plain = plain-cons (letter-plain E) plain-nil }
+
 end-readable : (p : Pack) → isComplete p ≡ true → Readable E p endLine p
-unfolding add tests mayStand endLine letterField
-end-readable p complete =
-    record {
-      faultless = record { first = refl; stands = complete; clear = (refl, tt) };
-      adds = refl;
-      plain = plain-cons (letter-plain E) plain-nil;
-    }
+unfolding tests mayStand endLine letterField
+end-readable p complete = record { faultless = record { first = refl; stands = complete; clear = (refl, tt) }; adds = end-adds p }
 
 -- a line that may come next, by its letter
 record Lettered (p : Pack) (fields : List Bytes) (w : Written) : Type 0 where
@@ -142,33 +140,25 @@ unfolding letterField same bytes
 fine-lettered (step s) = step-lettered s
 fine-lettered {p} (end complete) = record { letter = E; readable = end-readable p complete; ends = refl }
 
-lettered-some : (letter : Letter) (p : Pack) (fields : List Bytes) → Faultless letter p fields → fields ≡ [] → ⊥
-unfolding letterOf same bytes mayStand
-lettered-some letter p fields h e =
-    let none = sym (letter-of-field letter) ∙ ap letterOf (sym (h .first)) ∙ ap (λ (fs : List Bytes). letterOf (field 0 fs)) e in
-    never-both (h .stands) (ap (mayStand p) none)
+-- the line of such fields has them again; so what is written and what is tested of it is known
+fields-again : {letter : Letter} {p q : Pack} {fields : List Bytes} → Adds letter p fields q → fieldsOf (line fields) ≡ fields
+fields-again {fields = fields} r = fields-of-line fields (λ e. nil≢cons (sym e ∙ r .starts)) (r .plain)
 
--- what is tested and written of a line whose fields are known
-read-letter : (letter : Letter) (p : Pack) (fields : List Bytes) (l : Bytes) → fieldsOf l ≡ fields → isUnfit l ≡ false → Faultless letter p fields → fault (before p) l ≡ 0
-unfolding fault
-read-letter letter p fields l again fit h =
-    clear-zero _ (fit then rw (again, h .first, letter-of-field letter) (ap not (h .stands) then h .clear))
-
-write-letter : (letter : Letter) (p : Pack) (fields : List Bytes) (l : Bytes) → fieldsOf l ≡ fields → field 0 fields ≡ letterField letter
-    → write (before p) l ≡ record { pack = add letter fields p; ended = same (letterField letter) (bytes "E") }
+pub writes-line : {letter : Letter} {p q : Pack} {fields : List Bytes} → Adds letter p fields q
+    → write (before p) (line fields) ≡ record { pack = q; ended = same (letterField letter) (bytes "E") }
 unfolding write
-write-letter letter p fields l again first = rw (again, first, letter-of-field letter)
+writes-line {letter} r = rw (fields-again r, ap (field 0) (r .starts), letter-of-field letter, r .is)
+
+faultless-line : {letter : Letter} {p q : Pack} {fields : List Bytes} → Readable letter p fields q → length (line fields) ≤ lineLimit → fault (before p) (line fields) ≡ 0
+unfolding fault
+faultless-line {letter} {fields = fields} r short =
+    let h = r .faultless in
+    clear-zero _ (line-fit fields (r .adds .plain) short then rw (fields-again (r .adds), h .first, letter-of-field letter) (ap not (h .stands) then h .clear))
 
 pub read-fine : (p : Pack) (fields : List Bytes) (w : Written) → Fine p fields w → length (line fields) ≤ lineLimit → Read p fields w
 read-fine p fields w f short =
     let lettered = fine-lettered f in
-    let r = lettered .readable in
-    let again = fields-of-line fields (lettered-some (lettered .letter) p fields (r .faultless)) (r .plain) in
     record {
-      faultless = read-letter (lettered .letter) p fields (line fields) again (line-fit fields (r .plain) short) (r .faultless);
-      writes = write-letter (lettered .letter) p fields (line fields) again (r .faultless .first) ∙ λ i. record { pack = r .adds i; ended = lettered .ends i };
+      faultless = faultless-line (lettered .readable) short;
+      writes = writes-line (lettered .readable .adds) ∙ ap (λ ended. record { pack = w .pack; ended = ended }) (lettered .ends);
     }
-
--- a line of a pack has no byte 10 (for cutting the text into lines again)
-pub fine-free : (p : Pack) (fields : List Bytes) (w : Written) → Fine p fields w → isFree 10 (line fields) ≡ true
-fine-free p fields w f = line-free fields (fine-lettered f .readable .plain)

@@ -1,19 +1,16 @@
 -- The fault of an `H`, `B` or `M` line depends only on what it looks up and on its own rule's lines, not on other rules
 -- (but for the count of rules); and so does what it leaves.
-use mathlib.Core.Path.{_≡_, refl, sym, _∙_, ap}
-use mathlib.Core.Bool.{Bool, true, false, not, _||_, _&&_}
-use mathlib.Core.List.{List, [], _∷_, _++_, map, flatMap, List·Memᴰ·head, List·Memᴰ·tail}
-use Prim.Native.Nat.{ℕ, _+_}
-use lib.Dec.{eqb, leb}
-use lib.IntN.{ℤ}
-use lib.ListN.{length, getD}
-use Rattle.integers.proofs.Truth.{never-both}
+use mathlib.Core.Path.{_≡_, refl, ap}
+use mathlib.Core.Bool.{not}
+use mathlib.Core.List.{List, [], _∷_, flatMap, List·Memᴰ·head, List·Memᴰ·tail}
+use Prim.Native.Nat.{ℕ}
+use lib.Dec.{leb}
+use lib.ListN.{length}
 use Rattle.theory.specs.Text.{Bytes, fieldsOf}
-use Rattle.theory.specs.Forms.{Form}
-use Rattle.theory.specs.Packs.{Claim, Atom, Rule, Pack, ruleLimit, atomKey, declaredAs, claimsOn, claimsOnAll}
-use Rattle.theory.specs.Written.{Letter, P, C, H, B, M, E, noLetter, lineLetter, atomFrom, multipliersFrom}
-use Rattle.theory.specs.Residuals.{claimForm, subgoalForms, residual}
-use Rattle.theory.specs.Faults.{isEmpty, lastRule, headClaims, isComplete, claimDue, mayStand, residualDue, atomTests, headTests, subgoalTests, multiplierTests, tests, fault}
+use Rattle.theory.specs.Packs.{Claim, Atom, Pack, ruleLimit, atomKey, declaredAs, claimsOn, claimsOnAll}
+use Rattle.theory.specs.Written.{Letter, H, B, M, lineLetter, atomFrom, multipliersFrom}
+use Rattle.theory.specs.Residuals.{subgoalForms, residual}
+use Rattle.theory.specs.Faults.{isEmpty, lastRule, headClaims, isComplete, mayStand, residualDue, atomTests, headTests, subgoalTests, multiplierTests, tests, fault}
 use Rattle.theory.specs.Limits.{_∈_}
 use Rattle.theory.proofs.LineReading.{before}
 

@@ -15,7 +15,7 @@ use Rattle.theory.specs.Faults.{isMultiplier, lastRule, isComplete, clai
 use Rattle.theory.specs.Limits.{_∈_, MultipliersFit, NonNegative}
 use Rattle.integers.proofs.Truth.{not-true, not-false, eqb-equal, equal-eqb}
 use Rattle.theory.proofs.FieldValues.{values-written, values-within, written-read, written-values}
-use Rattle.theory.proofs.Faultless.{Faultless, Readable}
+use Rattle.theory.proofs.Faultless.{Faultless, Adds, Readable}
 use Rattle.theory.proofs.Letters.{letterField}
 use Rattle.theory.proofs.PlainFields.{plain-cons, plain-map, decimal-plain, letter-plain}
 use Rattle.theory.proofs.ResidualNumbers.{justified-nonnegative, nonnegative-justified}
@@ -49,31 +49,40 @@ multiplier-step p fields few h =
     let again = multiplier-line-again fields (omega arith) (h .first) valid in
     subst (λ (fs : List Bytes). Step p fs (withLast (withMultipliers ms) p)) again (multiplierStep ms (not-true _ (h .stands)) fits left)
 
-module _ (p : Pack) (ms : List ℕ) (fits : MultipliersFit (p .claims) (lastRule p .subgoals) ms) where
+module _ (ms : List ℕ) (small : (m : ℕ) → m ∈ ms → m ≤ numberLimit) where
   numbers-again : (m : ℕ) → m ∈ ms → natural numberLimit (decimal m) ≡ some m
-  numbers-again m here = natural-of-decimal numberLimit m (fits .small m here)
+  numbers-again m here = natural-of-decimal numberLimit m (small m here)
 
   multipliers-again : multipliersFrom (multiplierLine ms) ≡ ms
   unfolding multipliersFrom multiplierLine
   multipliers-again = written-values (natural numberLimit) decimal 0 ms numbers-again
 
+  pub multiplier-adds : (p : Pack) → Adds M p (multiplierLine ms) (withLast (withMultipliers ms) p)
+  unfolding add multiplierLine letterField
+  multiplier-adds p =
+      record {
+        starts = refl;
+        is = ap (λ (ns : List ℕ). withLast (withMultipliers ns) p) multipliers-again;
+        plain = plain-cons (letter-plain M) (plain-map decimal decimal-plain ms);
+      }
+
+module _ (p : Pack) (ms : List ℕ) (fits : MultipliersFit (p .claims) (lastRule p .subgoals) ms) where
   multiplier-clear : NonNegative (ruleVariables (lastRule p .head) (lastRule p .subgoals)) (residual (p .claims) (lastRule p .head) (lastRule p .subgoals) (claimDue p) ms)
       → Clear (multiplierTests (multiplierLine ms) p)
   unfolding multiplierTests multiplierLine residualDue
   multiplier-clear left =
-      rw multipliers-again
+      rw (multipliers-again ms (fits .small))
       (ap not (equal-eqb (length (multiplierLine ms)) (length (claimsOnAll (p .claims) (lastRule p .subgoals)) + 1) (omega (arith, length-map ms decimal, fits .full)))
-      then ap not (written-read (natural numberLimit) decimal ms numbers-again)
+      then ap not (written-read (natural numberLimit) decimal ms (numbers-again ms (fits .small)))
       then ap not (nonnegative-justified _ _ left)
       then tt)
 
   pub multiplier-readable : isComplete p ≡ false
       → NonNegative (ruleVariables (lastRule p .head) (lastRule p .subgoals)) (residual (p .claims) (lastRule p .head) (lastRule p .subgoals) (claimDue p) ms)
       → Readable M p (multiplierLine ms) (withLast (withMultipliers ms) p)
-  unfolding add tests mayStand multiplierLine letterField
+  unfolding tests mayStand multiplierLine letterField
   multiplier-readable due left =
       record {
         faultless = record { first = refl; stands = ap not due; clear = multiplier-clear left };
-        adds = ap (λ (ns : List ℕ). withLast (withMultipliers ns) p) multipliers-again;
-        plain = plain-cons (letter-plain M) (plain-map decimal decimal-plain ms);
+        adds = multiplier-adds ms (fits .small) p;
       }

@@ -2,7 +2,7 @@
 use mathlib.Core.Path.{_≡_, sym, _∙_, ap}
 use mathlib.Core.List.{List, [], _∷_, _++_, map, flatMap, append-assoc, append-nil, map-append, dropLast}
 use Prim.Native.Nat.{ℕ}
-use Rattle.integers.proofs.Lists.{flatMap-append}
+use Rattle.integers.proofs.Lists.{flatMap-end}
 use Rattle.theory.specs.Text.{Bytes}
 use Rattle.theory.specs.Packs.{Predicate, Claim, Atom, Rule, Pack, predicateLine, claimLine, headLine, subgoalLine, multiplierLine, ruleLines, openLines}
 use Rattle.theory.specs.Written.{withSubgoal, withMultipliers, onLast}
@@ -15,10 +15,6 @@ use Rattle.theory.proofs.Steps.{withPredicate, withClaim, Step, predica
 before-nothing : {A : Type 0} (l rest more : List A) → rest ≡ [] → l ++ more ++ rest ≡ l ++ rest ++ more
 before-nothing {A} l rest more e =
     ap (λ (r : List A). l ++ more ++ r) e ∙ append-nil (l ++ more) ∙ ap (λ (r : List A). r ++ more) (sym (append-nil l) ∙ ap (λ (r : List A). l ++ r) (sym e))
-
-flatMap-end : {A B : Type 0} (f : A → List B) (l : List A) (a : A) → flatMap f (l ++ (a ∷ [])) ≡ flatMap f l ++ f a
-unfolding flatMap
-flatMap-end {B = B} f l a = flatMap-append f l (a ∷ []) ∙ ap (λ (r : List B). flatMap f l ++ r) (append-nil (f a))
 
 -- ---- the lines of rules
 

@@ -1,7 +1,7 @@
 -- Fields of printable bytes without commas: the line of such fields has them again, and is fit if it is short.
 use mathlib.Core.Path.{_≡_, refl}
 use mathlib.Core.Bool.{true, false, not}
-use mathlib.Core.List.{List, [], _∷_, map, List·Memᴰ·head, List·Memᴰ·tail, List·Memᴰ·not-nil}
+use mathlib.Core.List.{List, [], _∷_, map, List·Memᴰ·not-nil}
 use Prim.Native.Nat.{ℕ, _≤_}
 use lib.Dec.{ltb}
 use lib.ListN.{length}
@@ -11,8 +11,10 @@ use Rattle.theory.specs.Packs.{line, lineLimit}
 use Rattle.theory.specs.Written.{Letter, P, C, H, B, M, E, noLetter}
 use Rattle.theory.specs.Faults.{isUnfit}
 use Rattle.theory.specs.Limits.{_∈_}
+use Rattle.integers.proofs.Lists.{all-cons}
 use Rattle.integers.proofs.Truth.{and-left, or-neither, ge-ltb}
-use Rattle.theory.proofs.Bytes.{isFieldByte, isTokenByte, every-within}
+use Rattle.theory.proofs.Bytes.{isFieldByte, token-field}
+use Rattle.theory.proofs.Every.{every-within}
 use Rattle.theory.proofs.Letters.{letterField}
 use Rattle.theory.proofs.Spelling.{name-bytes, decimal-bytes, signed-bytes}
 use Rattle.theory.proofs.Separators.{isFree, free-from, parts-of-joined, every-joined}
@@ -24,24 +26,20 @@ pub plain-nil : Plain []
 plain-nil f m = absurd (List·Memᴰ·not-nil m)
 
 pub plain-cons : {f : Bytes} {fields : List Bytes} → every isFieldByte f ≡ true → Plain fields → Plain (f ∷ fields)
-plain-cons h k g (List·Memᴰ·head e) = rw e h
-plain-cons h k g (List·Memᴰ·tail m) = k g m
+plain-cons = all-cons (λ f. every isFieldByte f ≡ true)
 
 pub plain-map : {A : Type 0} (writing : A → Bytes) → ((a : A) → every isFieldByte (writing a) ≡ true) → (l : List A) → Plain (map writing l)
 plain-map writing h [] = plain-nil
 plain-map writing h (a ∷ l) = plain-cons (h a) (plain-map writing h l)
 
-token-plain : (f : Bytes) → every isTokenByte f ≡ true → every isFieldByte f ≡ true
-token-plain f h = every-within isTokenByte isFieldByte (λ b e. and-left (isFieldByte b) _ e) f h
-
 pub name-plain : (name : Bytes) → isName name ≡ true → every isFieldByte name ≡ true
-name-plain name h = token-plain name (name-bytes name h)
+name-plain name h = token-field name (name-bytes name h)
 
 pub decimal-plain : (n : ℕ) → every isFieldByte (decimal n) ≡ true
-decimal-plain n = token-plain (decimal n) (decimal-bytes n)
+decimal-plain n = token-field (decimal n) (decimal-bytes n)
 
 pub signed-plain : (z : ℤ) → every isFieldByte (signedDecimal z) ≡ true
-signed-plain z = token-plain (signedDecimal z) (signed-bytes z)
+signed-plain z = token-field (signedDecimal z) (signed-bytes z)
 
 pub letter-plain : (letter : Letter) → every isFieldByte (letterField letter) ≡ true
 unfolding letterField every bytes

@@ -15,7 +15,7 @@ use Rattle.theory.specs.Limits.{PredicateFits}
 use Rattle.integers.proofs.Truth.{not-false, and-left, and-right, and-both, eqb-equal, leb-gt, gt-leb}
 use Rattle.theory.proofs.Bytes.{isFieldByte}
 use Rattle.theory.proofs.FieldValues.{value-read, kind-written, written-kind, written-is-kind}
-use Rattle.theory.proofs.Faultless.{Faultless, Readable}
+use Rattle.theory.proofs.Faultless.{Faultless, Adds, Readable}
 use Rattle.theory.proofs.Letters.{letterField}
 use Rattle.theory.proofs.PlainFields.{plain-nil, plain-cons, name-plain, decimal-plain, letter-plain}
 use Rattle.theory.proofs.Presence.{none-is, is-none, some-is, is-empty, empty-is}
@@ -60,6 +60,15 @@ unfolding every kindLetter bytes
 kind-plain given = refl
 kind-plain ruled = refl
 
+pub predicate-adds : (p : Pack) (x : Predicate) → PredicateFits x → Adds P p (predicateLine x) (withPredicate x p)
+unfolding add predicateLine letterField
+predicate-adds p x fits =
+    record {
+      starts = refl;
+      is = ap (λ (y : Predicate). withPredicate y p) (predicate-again x fits);
+      plain = plain-cons (letter-plain P) (plain-cons (name-plain (x .name) (fits .named)) (plain-cons (decimal-plain (x .arguments)) (plain-cons (kind-plain (x .kind)) plain-nil)));
+    }
+
 predicate-clear : (p : Pack) (x : Predicate) → PredicateFits x → declaredAs (keyOf x) (p .predicates) ≡ none → length (p .predicates) < predicateLimit
     → Clear (predicateTests (predicateLine x) p)
 unfolding predicateTests predicateLine
@@ -73,7 +82,7 @@ predicate-clear p x fits new room =
 
 pub predicate-readable : (p : Pack) (x : Predicate) → p .claims ≡ [] → p .rules ≡ [] → PredicateFits x → declaredAs (keyOf x) (p .predicates) ≡ none
     → length (p .predicates) < predicateLimit → Readable P p (predicateLine x) (withPredicate x p)
-unfolding add tests mayStand predicateLine letterField
+unfolding tests mayStand predicateLine letterField
 predicate-readable p x claimless ruleless fits new room =
     record {
       faultless = record {
@@ -81,6 +90,5 @@ predicate-readable p x claimless ruleless fits new room =
         stands = and-both (isEmpty (p .claims)) (isEmpty (p .rules)) (empty-is (p .claims) claimless) (empty-is (p .rules) ruleless);
         clear = predicate-clear p x fits new room;
       };
-      adds = ap (λ (y : Predicate). withPredicate y p) (predicate-again x fits);
-      plain = plain-cons (letter-plain P) (plain-cons (name-plain (x .name) (fits .named)) (plain-cons (decimal-plain (x .arguments)) (plain-cons (kind-plain (x .kind)) plain-nil)));
+      adds = predicate-adds p x fits;
     }

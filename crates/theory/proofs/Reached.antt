@@ -12,7 +12,7 @@ use Rattle.theory.specs.Packs.{Predicate, Claim, Rule, Pack, predicateLi
 use Rattle.theory.specs.Written.{withSubgoal, withMultipliers}
 use Rattle.theory.specs.Faults.{noRule, lastRule, isComplete}
 use Rattle.theory.specs.Limits.{_∈_, PredicateFits, ClaimFits}
-use Rattle.theory.proofs.ListEnds.{member-unempty, length-end, all-end, end-split, dropLast-end, dropLast-member}
+use Rattle.integers.proofs.Lists.{member-unempty, length-end, all-end, end-split, dropLast-end, dropLast-member}
 use Rattle.theory.proofs.LastRule.{last-parts, onLast-parts, last-member, last-cases}
 use Rattle.theory.proofs.Completeness.{IsWhole, whole-from-complete, rule-from-incomplete, due-from-incomplete}
 use Rattle.theory.proofs.ClaimsOn.{fewClaims-end}

@@ -10,7 +10,7 @@ use Rattle.theory.specs.Text.{Bytes, among}
 use Rattle.theory.specs.Terms.{allVariables}
 use Rattle.theory.specs.Packs.{Atom}
 use Rattle.theory.specs.Residuals.{numbered, atomsVariables, ruleVariables}
-use Rattle.theory.proofs.ListEnds.{length-end}
+use Rattle.integers.proofs.Lists.{length-end}
 
 seen-are-fewer : (seen xs : List Bytes) → length seen ≤ length (numbered seen xs)
 unfolding numbered

@@ -10,7 +10,7 @@ use Rattle.theory.specs.Text.{Bytes}
 use Rattle.theory.specs.Packs.{Rule, Pack, textLimit, lineLimit, claimsOn, openLines, packLines, written}
 use Rattle.theory.specs.Faults.{isComplete}
 use Rattle.theory.specs.Limits.{_∈_, RuleFits, Fits, Justified}
-use Rattle.theory.proofs.ListEnds.{split-member}
+use Rattle.integers.proofs.Lists.{split-member}
 use Rattle.theory.proofs.Completeness.{IsWhole, complete-from-whole}
 use Rattle.theory.proofs.OpenLines.{run-adds}
 use Rattle.theory.proofs.Begun.{Begun}

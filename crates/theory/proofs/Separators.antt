@@ -4,12 +4,13 @@ use mathlib.Core.Bool.{Bool, true, false, cond, not, false≢true}
 use mathlib.Core.List.{List, [], _∷_, _++_, List·Memᴰ·head, List·Memᴰ·tail, List·Memᴰ·not-nil}
 use Prim.Native.Nat.{ℕ}
 use lib.Dec.{eqb}
-use Rattle.integers.proofs.Truth.{by-truth, never-both, and-left, and-right, and-both, not-true, eqb-equal, eqb-same}
+use Rattle.integers.proofs.Lists.{all-cons}
+use Rattle.integers.proofs.Truth.{by-truth, never-both, and-both, not-true, eqb-equal, eqb-same}
 use Rattle.theory.specs.Text.{Bytes, every, onFirst, partsAt, joined, linesOf}
 use Rattle.theory.specs.Packs.{textOf}
 use Rattle.theory.specs.Check.{isFinished}
 use Rattle.theory.specs.Limits.{_∈_}
-use Rattle.theory.proofs.Bytes.{every-append, every-within}
+use Rattle.theory.proofs.Every.{every-first, every-rest, every-within, every-append}
 
 -- no byte of it is the separator
 abbrev pub isFree : ℕ → Bytes → Bool
@@ -26,12 +27,7 @@ free-from test separator h bs k = every-within test (λ (b : ℕ). not (eqb b se
     other b t = by-truth (λ (c : Bool). not c ≡ true) (eqb b separator) (λ e. never-both t (ap test (eqb-equal b separator e) ∙ h)) (λ e. refl)
 
 free-first : (separator b : ℕ) (bs : Bytes) → isFree separator (b ∷ bs) ≡ true → eqb b separator ≡ false
-unfolding every
-free-first separator b bs h = not-true (eqb b separator) (and-left (not (eqb b separator)) (isFree separator bs) h)
-
-free-rest : (separator b : ℕ) (bs : Bytes) → isFree separator (b ∷ bs) ≡ true → isFree separator bs ≡ true
-unfolding every
-free-rest separator b bs h = and-right (not (eqb b separator)) (isFree separator bs) h
+free-first separator b bs h = not-true (eqb b separator) (every-first _ b bs h)
 
 -- ---- cutting
 
@@ -69,7 +65,7 @@ module _ (separator : ℕ) (cut : Bytes → List Bytes) (cuts : Cuts separator c
   cut-off : (part bs : Bytes) → isFree separator part ≡ true → cut (part ++ separator ∷ bs) ≡ part ∷ cut bs
   cut-off [] bs h = cut-at separator bs (eqb-same separator)
   cut-off (b ∷ part) bs h =
-      cut-other b (part ++ separator ∷ bs) (free-first separator b part h) ∙ ap (onFirst b) (cut-off part bs (free-rest separator b part h))
+      cut-other b (part ++ separator ∷ bs) (free-first separator b part h) ∙ ap (onFirst b) (cut-off part bs (every-rest _ b part h))
 
   -- there is always a first part behind a byte
   cut-cons : (b : ℕ) (bs : Bytes) → Cons (cut (b ∷ bs))
@@ -81,22 +77,21 @@ unfolding partsAt
 parts-cons separator [] = ([], [], refl)
 parts-cons separator (b ∷ bs) = cut-cons separator (partsAt separator) (parts-cut separator) b bs
 
-free-cons : (separator : ℕ) (part : Bytes) (parts : List Bytes) → isFree separator part ≡ true → AllFree separator parts → AllFree separator (part ∷ parts)
-free-cons separator part parts h k other (List·Memᴰ·head e) = ap (isFree separator) e ∙ h
-free-cons separator part parts h k other (List·Memᴰ·tail m) = k other m
+free-cons : (separator : ℕ) {part : Bytes} {parts : List Bytes} → isFree separator part ≡ true → AllFree separator parts → AllFree separator (part ∷ parts)
+free-cons separator = all-cons (λ part. isFree separator part ≡ true)
 
 free-onFirst : (separator b : ℕ) (parts : List Bytes) → eqb b separator ≡ false → AllFree separator parts → AllFree separator (onFirst b parts)
 unfolding every
-free-onFirst separator b [] e k = free-cons separator (b ∷ []) [] (rw e) k
+free-onFirst separator b [] e k = free-cons separator (rw e) k
 free-onFirst separator b (part ∷ parts) e k =
-    free-cons separator (b ∷ part) parts (rw e (k part (List·Memᴰ·head refl))) (λ other m. k other (List·Memᴰ·tail m))
+    free-cons separator (rw e (k part (List·Memᴰ·head refl))) (λ other m. k other (List·Memᴰ·tail m))
 
 pub parts-free : (separator : ℕ) (bs : Bytes) → AllFree separator (partsAt separator bs)
 unfolding every partsAt
-parts-free separator [] = free-cons separator [] [] refl (λ part m. absurd (List·Memᴰ·not-nil m))
+parts-free separator [] = free-cons separator refl (λ part m. absurd (List·Memᴰ·not-nil m))
 parts-free separator (b ∷ bs) =
     cut-cases separator (partsAt separator) (parts-cut separator) (AllFree separator) b bs
-    (λ _. free-cons separator [] (partsAt separator bs) refl (parts-free separator bs))
+    (λ _. free-cons separator refl (parts-free separator bs))
     (λ e. free-onFirst separator b (partsAt separator bs) e (parts-free separator bs))
 
 -- ---- joining
@@ -107,7 +102,7 @@ unfolding partsAt
 parts-of-free separator [] h = refl
 parts-of-free separator (b ∷ bs) h =
     cut-other separator (partsAt separator) (parts-cut separator) b bs (free-first separator b bs h)
-    ∙ ap (onFirst b) (parts-of-free separator bs (free-rest separator b bs h))
+    ∙ ap (onFirst b) (parts-of-free separator bs (every-rest _ b bs h))
 
 pub parts-of-joined : (separator : ℕ) (first : Bytes) (rest : List Bytes) → AllFree separator (first ∷ rest) → partsAt separator (joined separator (first ∷ rest)) ≡ first ∷ rest
 unfolding joined

@@ -7,6 +7,7 @@ use mathlib.Core.Logic.{⊎-elim}
 use Prim.Native.Nat.{ℕ, suc, _+_}
 use native.Mathlib.Omega.{arith}
 use lib.IntN.{ℤ, pos, _+ℤ_}
+use lib.ListN.{length}
 use Rattle.integers.proofs.Truth.{by-truth}
 use Rattle.theory.specs.Text.{Bytes, same}
 use Rattle.theory.specs.Terms.{Term, Terms, variable, symbol, nil, cons, arity, contribution, size, sizes, argumentSizes, variables, allVariables, occurrences, AllGround, IsGround, Substitution, under, allUnder}
@@ -18,6 +19,11 @@ use Rattle.theory.specs.Derivations.{weightedSizes, atomUnder}
 use Rattle.theory.proofs.Bytes.{same-refl, same-equal}
 use Rattle.theory.proofs.Variables.{Once, once-none, once-more}
 use Rattle.theory.proofs.FormValues.{form-path, nothing-plus, value-plus, value-times, value-without, value-constant, value-zero}
+
+pub length-sizes : (ts : Terms) → length (argumentSizes ts) ≡ arity ts
+unfolding argumentSizes arity
+length-sizes nil = refl
+length-sizes (cons t ts) = ap suc (length-sizes ts)
 
 -- ---- substitution keeps arities, and leaves no variable
 

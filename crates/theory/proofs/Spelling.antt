@@ -10,7 +10,8 @@ use lib.IntN.{ℤ, pos, negsuc, natAbs}
 use lib.ListN.{length}
 use Rattle.integers.proofs.Truth.{by-truth, and-left, and-right, and-both, eqb-equal, eqb-different, leb-le, le-leb}
 use Rattle.theory.specs.Text.{Bytes, every, between, isLower, isUpper, isDigit, isNameByte, isWord, isName, isVariable, isDecimal, valueBehind, natural, negated, integer, decimal, signedDecimal}
-use Rattle.theory.proofs.Bytes.{isTokenByte, between-low, between-high, every-within}
+use Rattle.theory.proofs.Bytes.{isTokenByte, between-low, between-high}
+use Rattle.theory.proofs.Every.{every-within}
 use Rattle.theory.proofs.Separators.{isFree, free-from}
 use Rattle.theory.proofs.Decimals.{decimal-digits, decimal-formed, value-of-decimal, decimal-of-value}
 
@@ -36,6 +37,10 @@ decimal-of-natural limit bs n e = natural-reads limit bs n e .0
 
 pub natural-within : (limit : ℕ) (bs : Bytes) (n : ℕ) → natural limit bs ≡ some n → n ≤ limit
 natural-within limit bs n e = natural-reads limit bs n e .1
+
+-- a number within a limit is the same within a larger one
+pub natural-wider : (limit wider : ℕ) (bs : Bytes) (n : ℕ) → limit ≤ wider → natural limit bs ≡ some n → natural wider bs ≡ some n
+natural-wider limit wider bs n h e = let (is, small) = natural-reads limit bs n e in rw is (natural-of-decimal wider n (omega arith))
 
 -- ---- numbers with a sign
 

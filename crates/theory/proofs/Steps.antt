@@ -6,11 +6,14 @@ use mathlib.Core.Option.{none}
 use Prim.Native.Nat.{ℕ, _≤_, _<_}
 use lib.ListN.{length}
 use Rattle.theory.specs.Text.{Bytes}
-use Rattle.theory.specs.Packs.{ruled, Predicate, Claim, Atom, Rule, Pack, predicateLimit, claimLimit, ruleLimit, subgoalLimit, variableLimit, keyOf, claimKey, atomKey, declaredAs, claimsOn, predicateLine, claimLine, headLine, subgoalLine, multiplierLine}
+use Rattle.theory.specs.Packs.{ruled, Predicate, Claim, Atom, Rule, Pack, predicateLimit, claimLimit, ruleLimit, subgoalLimit, variableLimit, keyOf, claimKey, declaredAs, claimsOn, predicateLine, claimLine, headLine, subgoalLine, multiplierLine}
 use Rattle.theory.specs.Written.{withSubgoal, withMultipliers, onLast}
 use Rattle.theory.specs.Residuals.{residual, ruleVariables}
 use Rattle.theory.specs.Faults.{isComplete, lastRule, claimDue}
 use Rattle.theory.specs.Limits.{PredicateFits, ClaimFits, AtomFits, MultipliersFit, NonNegative}
+
+abbrev pub parts : List Predicate → List Claim → List Rule → Pack
+parts ps cs rs = record { predicates = ps; claims = cs; rules = rs }
 
 abbrev pub withPredicate : Predicate → Pack → Pack
 withPredicate x p = record { predicates = p .predicates ++ (x ∷ []); claims = p .claims; rules = p .rules }

@@ -1,7 +1,7 @@
 -- Fields that are terms: the terms read from them are the terms written, and back.
 use mathlib.Core.Path.{_≡_, refl, ap}
 use mathlib.Core.Bool.{true}
-use mathlib.Core.List.{List, [], _∷_, List·Memᴰ·head, List·Memᴰ·tail, List·Memᴰ·not-nil}
+use mathlib.Core.List.{List, [], _∷_}
 use Prim.Native.Nat.{suc}
 use lib.ListN.{length}
 use Rattle.theory.specs.Text.{Bytes, every}
@@ -9,10 +9,9 @@ use Rattle.theory.specs.Terms.{Terms, variable, nil, cons, arity, AllWel
 use Rattle.theory.specs.Packs.{termFields}
 use Rattle.theory.specs.Written.{termsFrom}
 use Rattle.theory.specs.Faults.{isTerm}
-use Rattle.theory.specs.Limits.{_∈_}
-use Rattle.theory.proofs.Bytes.{isFieldByte}
 use Rattle.theory.proofs.Every.{every-first, every-rest, every-cons}
 use Rattle.theory.proofs.FieldValues.{valueOf, value-read}
+use Rattle.theory.proofs.PlainFields.{Plain, plain-nil, plain-cons}
 use Rattle.theory.proofs.Presence.{some-is}
 use Rattle.theory.proofs.TermReading.{WrittenAs, read-of-written, written-of-read, term-bytes}
 
@@ -50,8 +49,7 @@ unfolding termFields arity
 written-arity nil = refl
 written-arity (cons t ts) = ap suc (written-arity ts)
 
-pub terms-plain : (ts : Terms) → AllWellFormed ts → (f : Bytes) → f ∈ termFields ts → every isFieldByte f ≡ true
+pub terms-plain : (ts : Terms) → AllWellFormed ts → Plain (termFields ts)
 unfolding termFields
-terms-plain nil h f m = absurd (List·Memᴰ·not-nil m)
-terms-plain (cons t ts) h f (List·Memᴰ·head e) = rw e (term-bytes t (h .0))
-terms-plain (cons t ts) h f (List·Memᴰ·tail m) = terms-plain ts (h .1) f m
+terms-plain nil h = plain-nil
+terms-plain (cons t ts) h = plain-cons (term-bytes t (h .0)) (terms-plain ts (h .1))

@@ -1,19 +1,18 @@
 -- A field is read as the term t exactly if it is t written.
 use mathlib.Core.Path.{_≡_, refl, sym, _∙_, ap, subst}
-use mathlib.Core.Logic.{⊎-elim}
 use mathlib.Core.Bool.{true}
-use mathlib.Core.List.{List, [], _∷_, _++_, append-nil, append-assoc, List·Memᴰ·not-nil, List·Memᴰ·eq-of-singleton, List·Memᴰ·cases-cons, List·Memᴰ·append-cases}
+use mathlib.Core.List.{List, [], _∷_, _++_, append-nil, append-assoc, List·Memᴰ·not-nil, List·Memᴰ·eq-of-singleton}
 use mathlib.Core.Option.{Option, some, none, Option·map, Option·some-injective, Option·none-ne-some}
 use Prim.Native.Nat.{ℕ, zero, suc, _≤_}
 use Rattle.theory.specs.Text.{Bytes, every, partsAt, joined}
 use Rattle.theory.specs.Terms.{Term, variable, symbol, Terms, nil, cons, arity, symbolToken, tokens, allTokens, writtenTerm, WellFormed, AllWellFormed}
 use Rattle.theory.specs.Terms.{Token, tokenOf, firstTerms, behind, behindAll, termsOf, theOnly, readTerm}
 use Rattle.theory.specs.Limits.{_∈_}
-use Rattle.theory.proofs.Bytes.{isFieldByte, isTokenByte, every-within}
+use Rattle.theory.proofs.Bytes.{isFieldByte, isTokenByte, token-field}
 use Rattle.theory.proofs.Separators.{AllFree, free-from, parts-of-joined, joined-of-parts, every-joined}
 use Rattle.theory.proofs.Spelling.{variable-bytes}
 use Rattle.theory.proofs.Tokens.{ReadAs, as-variable, as-symbol, as-none, token-of-variable, token-of-symbol, read-as, symbol-bytes}
-use Rattle.integers.proofs.Truth.{and-left}
+use Rattle.integers.proofs.Lists.{all-cons, all-append}
 
 -- ---- terms behind terms
 
@@ -96,12 +95,12 @@ mutual
   unfolding tokens
 
   every-token : (t : Term) → WellFormed t → (w : Bytes) → w ∈ tokens t → every isTokenByte w ≡ true
-  every-token (variable x) h w m = rw (List·Memᴰ·eq-of-singleton m) (variable-bytes x h)
-  every-token (symbol f ts) h w m = ⊎-elim (λ e. rw e (symbol-bytes f (arity ts) (h .0))) (λ n. every-token-of-all ts (h .2) w n) (List·Memᴰ·cases-cons m)
+  every-token (variable x) h = λ w m. rw (List·Memᴰ·eq-of-singleton m) (variable-bytes x h)
+  every-token (symbol f ts) h = all-cons (λ w. every isTokenByte w ≡ true) (symbol-bytes f (arity ts) (h .0)) (every-token-of-all ts (h .2))
 
   every-token-of-all : (ts : Terms) → AllWellFormed ts → (w : Bytes) → w ∈ allTokens ts → every isTokenByte w ≡ true
-  every-token-of-all nil h w m = absurd (List·Memᴰ·not-nil m)
-  every-token-of-all (cons t ts) h w m = ⊎-elim (λ n. every-token t (h .0) w n) (λ n. every-token-of-all ts (h .1) w n) (List·Memᴰ·append-cases (tokens t) m)
+  every-token-of-all nil h = λ w m. absurd (List·Memᴰ·not-nil m)
+  every-token-of-all (cons t ts) h = all-append (λ w. every isTokenByte w ≡ true) (tokens t) (allTokens ts) (every-token t (h .0)) (every-token-of-all ts (h .1))
 
 -- ---- fields
 
@@ -136,4 +135,4 @@ written-of-read bs t e = only (terms-of-reads (partsAt 32 bs)) e
 
 pub term-bytes : (t : Term) → WellFormed t → every isFieldByte (writtenTerm t) ≡ true
 unfolding writtenTerm
-term-bytes t h = every-joined isFieldByte 32 refl (tokens t) (λ part m. every-within isTokenByte isFieldByte (λ b k. and-left _ _ k) part (every-token t h part m))
+term-bytes t h = every-joined isFieldByte 32 refl (tokens t) (λ part m. token-field part (every-token t h part m))

@@ -10,7 +10,8 @@ use lib.ListN.{length, getD}
 use Rattle.integers.proofs.Truth.{by-truth, never-both, and-not-right, eqb-different}
 use Rattle.theory.specs.Text.{Bytes, every, partsAt, joined, isName, isVariable, natural, decimal}
 use Rattle.theory.specs.Terms.{symbolToken, Token, variableNamed, symbolOf, noToken, symbolFrom, tokenOf}
-use Rattle.theory.proofs.Bytes.{isTokenByte, every-append}
+use Rattle.theory.proofs.Bytes.{isTokenByte}
+use Rattle.theory.proofs.Every.{every-append}
 use Rattle.theory.proofs.Separators.{isFree, AllFree, parts-of-joined, joined-of-parts}
 use Rattle.theory.proofs.Spelling.{natural-of-decimal, decimal-of-natural, natural-within, name-bytes, decimal-bytes, name-no-slash, decimal-no-slash, variable-no-slash}
 

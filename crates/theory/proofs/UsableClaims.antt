@@ -10,7 +10,7 @@ use lib.Dec.{eqb, ltb}
 use lib.IntN.{pos}
 use lib.ListN.{length, getD}
 use lib.Signed.{ltZ}
-use Rattle.integers.proofs.Lists.{getD-member}
+use Rattle.integers.proofs.Lists.{getD-member, all-cons}
 use Rattle.integers.proofs.Truth.{by-truth, ltb-lt, ltb-ge, eqb-equal, eqb-unequal}
 use Rattle.theory.specs.Packs.{Claim}
 use Rattle.theory.specs.Faults.{noClaim}
@@ -146,10 +146,6 @@ module _ (q : Query) where
       lowest : boundBy q (w .claim) ≡ boundBy q (s .claim) → s .number ≤ w .number
       lowest e = omega (arith, h .lowest (omega (arith, h .least, k .least)), k .lowest (omega (arith, h .least, k .least)))
 
-  precedes-cons : {s u : Usable} {us : List Usable} → Precedes s u → ((w : Usable) → w ∈ us → Precedes s w) → (w : Usable) → w ∈ (u ∷ us) → Precedes s w
-  precedes-cons h k w (List·Memᴰ·head e) = rw e h
-  precedes-cons h k w (List·Memᴰ·tail m) = k w m
-
   precedes-larger : (s u : Usable) → ltb (boundBy q (s .claim)) (boundBy q (u .claim)) ≡ true → Precedes s u
   precedes-larger s u e = let h = ltb-lt (boundBy q (s .claim)) (boundBy q (u .claim)) e in record { least = omega arith; lowest = λ same. absurd (omega arith) }
 
@@ -163,14 +159,14 @@ module _ (q : Query) where
   -- one more, which another of them precedes
   smallest-in-front : {u v s : Usable} {us : List Usable} → Precedes v u → Smallest (v ∷ us) s → Smallest (u ∷ v ∷ us) s
   smallest-in-front {v = v} h b =
-      record { member = List·Memᴰ·tail (b .member); precedes = precedes-cons (precedes-trans (b .precedes v (List·Memᴰ·head refl)) h) (b .precedes) }
+      record { member = List·Memᴰ·tail (b .member); precedes = all-cons (Precedes _) (precedes-trans (b .precedes v (List·Memᴰ·head refl)) h) (b .precedes) }
 
   smallest-second : {u v s : Usable} {us : List Usable} → Precedes u v → Smallest (u ∷ us) s → Smallest (u ∷ v ∷ us) s
   smallest-second {u} {v} {s} {us} h b = record {
     member = past (b .member);
     precedes =
         let first = b .precedes u (List·Memᴰ·head refl) in
-        precedes-cons first (precedes-cons (precedes-trans first h) (λ w m. b .precedes w (List·Memᴰ·tail m)));
+        all-cons (Precedes _) first (all-cons (Precedes _) (precedes-trans first h) (λ w m. b .precedes w (List·Memᴰ·tail m)));
   }
     where
       past : s ∈ (u ∷ us) → s ∈ (u ∷ v ∷ us)
@@ -179,7 +175,7 @@ module _ (q : Query) where
 
   pub smallest-is : (u : Usable) (us : List Usable) → Ascending (u .number + 1) us → Smallest (u ∷ us) (smallest q u us)
   unfolding smallest
-  smallest-is u [] a = record { member = List·Memᴰ·head refl; precedes = precedes-cons (precedes-refl u) (λ w m. absurd (List·Memᴰ·not-nil m)) }
+  smallest-is u [] a = record { member = List·Memᴰ·head refl; precedes = all-cons (Precedes _) (precedes-refl u) (λ w m. absurd (List·Memᴰ·not-nil m)) }
   smallest-is u (v ∷ us) (next l a) =
       by-truth (λ t. Smallest (u ∷ v ∷ us) (smallest q (cond t v u) us)) (ltb (boundBy q (v .claim)) (boundBy q (u .claim)))
       (λ smaller. smallest-in-front (precedes-larger v u smaller) (smallest-is v us a))

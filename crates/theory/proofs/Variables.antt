@@ -3,7 +3,8 @@ use mathlib.Core.Path.{_≡_, refl, sym, subst}
 use mathlib.Core.Logic.{⊎-elim}
 use mathlib.Core.Bool.{true, false, cond, _||_}
 use mathlib.Core.List.{List, [], _∷_, _++_}
-use mathlib.Core.List.{List·Memᴰ·head, List·Memᴰ·tail, List·Memᴰ·append-cases, List·Memᴰ·eq-of-singleton, Memᴰ·append-left, Memᴰ·append-right, Memᴰ·cast}
+use mathlib.Core.List.{List·Memᴰ·head, List·Memᴰ·tail, Memᴰ·append-left, Memᴰ·append-right, Memᴰ·cast}
+use Rattle.integers.proofs.Lists.{end-cases}
 use Rattle.integers.proofs.Truth.{by-truth, never-both, or-not-left, or-not-right}
 use Rattle.theory.specs.Text.{Bytes, same, among}
 use Rattle.theory.specs.Terms.{allVariables}
@@ -35,7 +36,7 @@ once-behind : {xs : List Bytes} (x : Bytes) → Once xs → (x ∈ xs → ⊥) �
 once-behind x once-none new = once-more new once-none
 once-behind x (once-more {x = y} {xs = xs} apart rest) new =
     once-more
-    (λ m. ⊎-elim apart (λ n. new (List·Memᴰ·head (sym (List·Memᴰ·eq-of-singleton n)))) (List·Memᴰ·append-cases xs m))
+    (λ m. ⊎-elim apart (λ e. new (List·Memᴰ·head (sym e))) (end-cases xs m))
     (once-behind x rest (λ m. new (List·Memᴰ·tail m)))
 
 -- ---- numbered
