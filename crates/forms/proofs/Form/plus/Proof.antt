@@ -10,8 +10,6 @@ use Rattle.forms.specs.Sums.{at}
 use Rattle.forms.proofs.Results.{constants-add, coefficients-add, one-more}
 use Rattle.forms.proofs.Form.plus.Statement.{statement}
 use Rattle.forms.proofs.Form.plus.Tie as tie
-use Rattle.forms.proofs.Form.plus.Reads as reads
-use Rattle.forms.proofs.Form.plus.Lts as lts
 
 abbrev Inv-loop : tie.InvT-loop
 Inv-loop self other a b sums₀ i₀ sums i =
@@ -54,19 +52,22 @@ loop-again : tie.Need-loop-again Inv-loop μ-loop
 loop-again c =
     let f = c .before .before .before .before .before .before .args .self in
     let g = c .before .before .before .before .before .before .args .other in
-    let i = c .before .before .before .loop .i in (
+    let i = c .before .before .before .loop .i in
+    let next = coefficients-add (c .before .before .before .before .before .before .pre) i (omega arith) in (
       search needs,
       simp length-set (search needs),
       search needs,
       search needs,
-      one-more (λ j. at f j +ℤ at g j) (c .before .before .before .loop .sums) i _ (omega arith) (c .before .before .before .loop .inv .4) (coefficients-add (c .before .before .before .before .before .before .pre) i (omega arith) .result),
+      one-more (λ j. at f j +ℤ at g j) (c .before .before .before .loop .sums) i _ (omega arith) (c .before .before .before .loop .inv .4) (next .result),
     )
 
 add-t20 : tie.Need-add-t20 Inv-loop μ-loop
 add-t20 c = constants-add (c .before .before .before .before .before .before .before .before .pre) .fits
 
 returns : tie.Need-returns Inv-loop μ-loop
-returns c = record { constant = constants-add (c .before .before .before .before .before .before .before .before .pre) .result; coefficient = λ i less. c .before .before .before .before .before .loop .inv .4 i (omega arith) }
+returns c =
+    let constant = constants-add (c .before .before .before .before .before .before .before .before .pre) in
+    record { constant = constant .result; coefficient = λ i less. c .before .before .before .before .before .loop .inv .4 i (omega arith) }
 
 pub plus-spec : {M : Type 1} → statement M
 plus-spec =

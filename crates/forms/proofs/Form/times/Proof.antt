@@ -12,8 +12,6 @@ use Rattle.forms.specs.Sums.{at}
 use Rattle.forms.proofs.Results.{kept, constant-multiplies, coefficient-multiplies, one-more}
 use Rattle.forms.proofs.Form.times.Statement.{statement}
 use Rattle.forms.proofs.Form.times.Tie as tie
-use Rattle.forms.proofs.Form.times.Reads as reads
-use Rattle.forms.proofs.Form.times.Lts as lts
 
 -- k stands in it as its bits
 abbrev Inv-loop : tie.InvT-loop
