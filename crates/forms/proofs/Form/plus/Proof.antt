@@ -1,0 +1,90 @@
+-- `Form::plus` meets its contract. The loop's invariant: each coefficient passed is the sum of the two.
+use mathlib.Core.Path.{_≡_}
+use Prim.Native.Nat.{ℕ, _-_, _≤_, _<_}
+use native.Mathlib.Omega.{arith}
+use borrow.Author.Count.{below-none}
+use borrow.Author.Needs.{needs}
+use lib.IntN.{pos, _+ℤ_}
+use lib.ListN.{length, getD, length-set}
+use Rattle.forms.specs.Sums.{at}
+use Rattle.forms.proofs.Results.{constants-add, coefficients-add, one-more}
+use Rattle.forms.proofs.Form.plus.Statement.{statement}
+use Rattle.forms.proofs.Form.plus.Tie as tie
+
+abbrev Inv-loop : tie.InvT-loop
+Inv-loop self other a b sums₀ i₀ sums i =
+    (i ≤ 16) × (length sums ≡ 16) × (length a ≡ 16) × (length b ≡ 16) × ((j : ℕ) → j < i → getD sums j (pos 0) ≡ at self j +ℤ at other j)
+
+abbrev μ-loop : tie.MeasureT-loop
+μ-loop self other a b sums₀ i₀ sums i = 16 - i
+
+loop-holds : tie.Need-loop-holds Inv-loop μ-loop
+loop-holds c = (search needs, search needs, search needs, search needs, below-none _)
+
+mul-sums : tie.Need-mul-sums Inv-loop μ-loop
+mul-sums c = search needs
+
+array-copy-out-sums : tie.Need-array-copy-out-sums Inv-loop μ-loop
+array-copy-out-sums c = search needs
+
+mul-sums-2 : tie.Need-mul-sums-2 Inv-loop μ-loop
+mul-sums-2 c = search needs
+
+array-copy-out-sums-2 : tie.Need-array-copy-out-sums-2 Inv-loop μ-loop
+array-copy-out-sums-2 c = search needs
+
+add-sums : tie.Need-add-sums Inv-loop μ-loop
+add-sums c = coefficients-add (c .before .before .before .before .before .before .pre) (c .before .before .before .loop .i) (omega arith) .fits
+
+mul-sums-3 : tie.Need-mul-sums-3 Inv-loop μ-loop
+mul-sums-3 c = search needs
+
+array-set-from-sums : tie.Need-array-set-from-sums Inv-loop μ-loop
+array-set-from-sums c = search needs
+
+add-i : tie.Need-add-i Inv-loop μ-loop
+add-i c = search needs
+
+loop-less : tie.Need-loop-less Inv-loop μ-loop
+loop-less c = search needs
+
+loop-again : tie.Need-loop-again Inv-loop μ-loop
+loop-again c =
+    let f = c .before .before .before .before .before .before .args .self in
+    let g = c .before .before .before .before .before .before .args .other in
+    let i = c .before .before .before .loop .i in
+    let next = coefficients-add (c .before .before .before .before .before .before .pre) i (omega arith) in (
+      search needs,
+      simp length-set (search needs),
+      search needs,
+      search needs,
+      one-more (λ j. at f j +ℤ at g j) (c .before .before .before .loop .sums) i _ (omega arith) (c .before .before .before .loop .inv .4) (next .result),
+    )
+
+add-t20 : tie.Need-add-t20 Inv-loop μ-loop
+add-t20 c = constants-add (c .before .before .before .before .before .before .before .before .pre) .fits
+
+returns : tie.Need-returns Inv-loop μ-loop
+returns c =
+    let constant = constants-add (c .before .before .before .before .before .before .before .before .pre) in
+    record { constant = constant .result; coefficient = λ i less. c .before .before .before .before .before .loop .inv .4 i (omega arith) }
+
+pub plus-spec : {M : Type 1} → statement M
+plus-spec =
+    tie.close
+    (tie.spec
+    Inv-loop
+    μ-loop
+    loop-holds
+    mul-sums
+    array-copy-out-sums
+    mul-sums-2
+    array-copy-out-sums-2
+    add-sums
+    mul-sums-3
+    array-set-from-sums
+    add-i
+    loop-less
+    loop-again
+    add-t20
+    returns)
