@@ -1,1 +1,12 @@
--- Laws that callers use.
+-- Laws on the tokens of a term, for the loops that scan them from the left.
+
+-- what one token is read as; whether tokens write a term
+pub mod TokenKinds
+pub mod FirstTerms
+pub mod Scan
+-- a term's size and variables as sums over its tokens
+pub mod TokenSums
+pub mod TokenBounds
+-- a rule's variables, numbered and counted one at a time
+pub mod Numbering
+pub mod Counting
