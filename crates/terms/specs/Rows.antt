@@ -5,20 +5,21 @@ use mathlib.Core.Option.{some}
 use Prim.Native.Nat.{ℕ, _+_, _*_, _≤_, _<_}
 use lib.IntN.{ℤ, pos, natAbs, _+ℤ_}
 use lib.ListN.{length, getD, set}
-use Rattle.theory.specs.Text.{Bytes}
-use Rattle.theory.specs.Terms.{Term, readTerm, variables}
-use Rattle.theory.specs.Terms.{occurrences}
+use mathlib.Core.Bool.{true}
+use Rattle.theory.specs.Text.{Bytes, isVariable}
+use Rattle.theory.specs.Terms.{Term, readTerm, variables, occurrences}
 use Rattle.theory.specs.Packs.{lineLimit, variableLimit}
 use Rattle.theory.specs.Residuals.{numbered}
+use Rattle.theory.proofs.Variables.{Once}
 use Rattle.text.specs.Words.{wordsOf, wordsAt, PlaceOf}
 use Rattle.text.specs.declared.Words.{Words}
 
--- the table holds the words of these variables
+-- the table holds the words of these variables, each once
 pub record Holds (names : List ℕ) (seen : List Bytes) : Type 0 where
   pub few : length seen ≤ variableLimit
   pub words : (i : ℕ) → i < length seen → wordsAt names i ≡ wordsOf (getD seen i [])
-  -- each of them is a variable: so two with the same words are the same
-  pub proper : (i : ℕ) → i < length seen → Rattle.theory.specs.Text.isVariable (getD seen i []) ≡ mathlib.Core.Bool.true
+  pub proper : (i : ℕ) → i < length seen → isVariable (getD seen i []) ≡ true
+  pub once : Once seen
 
 -- the sixteen numbers behind base are 0, the others as they were
 pub record Cleared (rows₀ : List ℤ) (base : ℕ) (rows : List ℤ) : Type 0 where
@@ -27,9 +28,9 @@ pub record Cleared (rows₀ : List ℤ) (base : ℕ) (rows : List ℤ) : Type 0 
   pub below : (i : ℕ) → i ≤ base → getD rows i (pos 0) ≡ getD rows₀ i (pos 0)
   pub above : (i : ℕ) → base + 17 ≤ i → getD rows i (pos 0) ≡ getD rows₀ i (pos 0)
 
--- no number is as large as the bound
-pub record Below (bound : ℕ) (rows : List ℤ) : Type 0 where
-  pub small : (i : ℕ) → natAbs (getD rows i (pos 0)) < bound
+-- the row's counts are small
+pub record SmallRow (rows : List ℤ) (base : ℕ) : Type 0 where
+  pub small : (i : ℕ) → i < variableLimit → natAbs (getD rows (base + 1 + i) (pos 0)) < 65536
 
 -- one occurrence more of the variable with these words: it has a place already, or takes the next one, or there is none left
 pub data CountsOne (words : Words) (names₀ : List ℕ) (known : ℕ) (rows₀ : List ℤ) (base : ℕ) : ℕ → List ℕ → List ℤ → Type 0 where

@@ -8,7 +8,7 @@ ghost use Rattle.theory.specs.Faults.{isTerm};
 ghost use Rattle.theory.specs.Measure.{measureOf};
 ghost use Rattle.theory.specs.Answers.{measuredOf};
 ghost use Rattle.terms.specs.Tokens.{TokenRead, ArityRead, ConstantRead, VariableFound};
-ghost use Rattle.terms.specs.Rows.{Cleared, Below, CountsOne, RowFits, Counted};
+ghost use Rattle.terms.specs.Rows.{Cleared, SmallRow, CountsOne, RowFits, Counted};
 use text::Word;
 use text::Words;
 use theory::Measurement;
@@ -62,6 +62,7 @@ fn wide(k: u8) -> usize
 
 /// Whether a field is a term: each token in turn fills one place and opens as many as its arity, and none is left at the end.
 pub fn is_term(field: &[u8]) -> bool
+    requires { ⌜ length (now field) ≤ 1024 ⌝ }
     ensures { λ r. ⌜ r ≡ isTerm (now (field .entry)) ⌝ }
 {
     let n = field.len();
@@ -183,7 +184,7 @@ fn count_variable(
     rows: &mut [i64; 1305],
     base: usize,
 ) -> usize
-    requires { ⌜ (base + 17 ≤ 1305) × (Below 65536 (now rows)) ⌝ }
+    requires { ⌜ (base + 17 ≤ 1305) × (SmallRow (now rows) base) ⌝ }
     ensures { λ r. ⌜ CountsOne words (now (names .entry)) known (now (rows .entry)) base r (now (names .exit)) (now (rows .exit)) ⌝ }
 {
     if 16 < known {
