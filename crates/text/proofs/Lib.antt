@@ -1,1 +1,2 @@
 -- Laws that callers use.
+pub mod Parts
