@@ -1,2 +1,5 @@
 -- Laws that callers use.
 pub mod Parts
+pub mod Classes
+pub mod WordLaws
+pub mod Packing
