@@ -3,3 +3,4 @@ pub mod Parts
 pub mod Classes
 pub mod WordLaws
 pub mod Packing
+pub mod WordReading
