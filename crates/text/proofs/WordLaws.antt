@@ -18,12 +18,6 @@ pub number-at : (s : Bytes) (i : ℕ) → i < length s → number (drop i s) ≡
 unfolding number
 number-at s i h = ap number (drop-more s i h) ∙ omega arith
 
-pub number-small : (s : Bytes) → ((i : ℕ) → getD s i 0 < 256) → (n : ℕ) → length s ≤ n → number s < 256 ^ n
-unfolding number
-number-small [] small n h = one-le-pow n 256 (omega arith)
-number-small (b ∷ s) small zero h = absurd (omega arith)
-number-small (b ∷ s) small (suc n) h = omega (arith, pow-suc 256 n, small 0, number-small s (λ i. small (suc i)) n (omega arith))
-
 token-low : (b : ℕ) → isTokenByte b ≡ true → 32 ≤ b
 token-low b h = between-low 32 126 b (and-left _ _ (and-left _ _ h))
 

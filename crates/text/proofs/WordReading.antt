@@ -82,11 +82,11 @@ module _ (s : Bytes) (some : length s ≡ 0 → ⊥) where
         unfolding wordsOf
         words = ap₂ (λ (first second : ℕ). record { first = first; second = second }) (ap number (sym (cut .0)) ∙ sym (packsFront .word fineFront)) (ap number (sym (cut .1) ∙ sym (part-rest s middle)) ∙ sym (packsBack .word fineBack))
 
-        pub read-name : isLower (getD s 0 0) ≡ true → WordRead s (Name record { first = front .word; second = back .word })
-        read-name h = subst (λ (w : Words). WordRead s (Name w)) words (name (name-is ∙ simp (h, all-fine, le-leb (length s) 16 short)))
+        pub read-name : (lower : Bool) → lower ≡ isLower (getD s 0 0) → lower ≡ true → WordRead s (Name record { first = front .word; second = back .word })
+        read-name lower e h = subst (λ (w : Words). WordRead s (Name w)) words (name (name-is ∙ simp (sym e ∙ h, all-fine, le-leb (length s) 16 short)))
 
-        pub read-variable : isUpper (getD s 0 0) ≡ true → WordRead s (Variable record { first = front .word; second = back .word })
-        read-variable h = subst (λ (w : Words). WordRead s (Variable w)) words (variable (variable-is ∙ simp (h, all-fine, le-leb (length s) 16 short)))
+        pub read-variable : (upper : Bool) → upper ≡ isUpper (getD s 0 0) → upper ≡ true → WordRead s (Variable record { first = front .word; second = back .word })
+        read-variable upper e h = subst (λ (w : Words). WordRead s (Variable w)) words (variable (variable-is ∙ simp (sym e ∙ h, all-fine, le-leb (length s) 16 short)))
 
-  pub read-other : isLower (getD s 0 0) ≡ false → isUpper (getD s 0 0) ≡ false → WordRead s Neither
-  read-other h k = neither (name-is ∙ rw h) (variable-is ∙ rw k)
+  pub read-other : (lower upper : Bool) → lower ≡ isLower (getD s 0 0) → lower ≡ false → upper ≡ isUpper (getD s 0 0) → upper ≡ false → WordRead s Neither
+  read-other lower upper e h f k = neither (name-is ∙ rw (sym e ∙ h)) (variable-is ∙ rw (sym f ∙ k))

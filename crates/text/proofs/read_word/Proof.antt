@@ -9,10 +9,10 @@ use Rattle.text.proofs.read_word.Statement.{statement}
 use Rattle.text.proofs.read_word.Tie as tie
 
 returns : tie.Need-returns
-returns c = read-empty _ (c .if1 .taken)
+returns c = search (needs, read-empty)
 
 returns-2 : tie.Need-returns-2
-returns-2 c = read-long _ (c .before .if1 .left) (c .if2 .taken)
+returns-2 c = search (needs, read-long)
 
 shared-slice-read-is-lower : tie.Need-shared-slice-read-is-lower
 shared-slice-read-is-lower c = search needs
@@ -36,7 +36,7 @@ pack-requires : tie.Need-pack-requires
 pack-requires c κs = simp length-take (omega arith)
 
 returns-3 : tie.Need-returns-3
-returns-3 c = read-unfit-front _ (c .before .before .before .before .before .before .before .before .before .before .if1 .left) _ (c .before .before .before .before .up-to-eight .ensures) _ (c .before .before .pack .ensures) (not-true _ (c .if3 .taken))
+returns-3 c = search (needs, read-unfit-front, not-true)
 
 sub-pack : tie.Need-sub-pack
 sub-pack c = search needs
@@ -51,16 +51,16 @@ pack-requires-2 : tie.Need-pack-requires-2
 pack-requires-2 c κs = simp (length-take, length-drop) (omega arith)
 
 returns-4 : tie.Need-returns-4
-returns-4 c = read-unfit-back _ (c .before .before .before .before .before .before .before .before .before .before .before .before .before .before .if1 .left) _ (c .before .before .before .before .before .before .before .before .up-to-eight .ensures) _ (c .before .before .before .before .before .before .pack .ensures) _ (c .before .before .pack2 .ensures) (not-true _ (c .if4 .taken))
+returns-4 c = search (needs, read-unfit-back, not-true)
 
 returns-5 : tie.Need-returns-5
-returns-5 c = read-name _ (c .before .before .before .before .before .before .before .before .before .before .before .before .before .before .before .if1 .left) _ (c .before .before .before .before .before .before .before .before .before .up-to-eight .ensures) _ (c .before .before .before .before .before .before .before .pack .ensures) _ (c .before .before .before .pack2 .ensures) (not-false _ (c .before .before .before .before .before .if3 .left)) (not-false _ (c .before .if4 .left)) (c .before .before .before .before .before .before .before .before .before .before .before .before .before .before .if2 .left) (sym (c .before .before .before .before .before .before .before .before .before .before .before .before .is-lower .ensures) ∙ c .if5 .taken)
+returns-5 c = search (needs, read-name, not-false)
 
 returns-6 : tie.Need-returns-6
-returns-6 c = read-variable _ (c .before .before .before .before .before .before .before .before .before .before .before .before .before .before .before .before .if1 .left) _ (c .before .before .before .before .before .before .before .before .before .before .up-to-eight .ensures) _ (c .before .before .before .before .before .before .before .before .pack .ensures) _ (c .before .before .before .before .pack2 .ensures) (not-false _ (c .before .before .before .before .before .before .if3 .left)) (not-false _ (c .before .before .if4 .left)) (c .before .before .before .before .before .before .before .before .before .before .before .before .before .before .before .if2 .left) (sym (c .before .before .before .before .before .before .before .before .before .before .before .is-upper .ensures) ∙ c .if6 .taken)
+returns-6 c = search (needs, read-variable, not-false)
 
 returns-7 : tie.Need-returns-7
-returns-7 c = read-other _ (c .before .before .before .before .before .before .before .before .before .before .before .before .before .before .before .before .if1 .left) (sym (c .before .before .before .before .before .before .before .before .before .before .before .before .before .is-lower .ensures) ∙ c .before .if5 .left) (sym (c .before .before .before .before .before .before .before .before .before .before .before .is-upper .ensures) ∙ c .if6 .left)
+returns-7 c = search (needs, read-other)
 
 pub read-word-spec : {M : Type 1} → statement M
 read-word-spec =
