@@ -1,5 +1,6 @@
 -- Laws that callers use.
 pub mod Parts
+pub mod Cuts
 pub mod Classes
 pub mod WordLaws
 pub mod Packing

@@ -2,7 +2,6 @@
 use mathlib.Core.Path.{_≡_}
 use mathlib.Core.Bool.{true}
 use Prim.Native.Nat.{_-_, _≤_}
-use native.Mathlib.Omega.{arith}
 use lib.ListN.{length}
 use borrow.Author.Needs.{needs}
 use Rattle.theory.proofs.Separators.{isFree}
@@ -18,13 +17,13 @@ abbrev μ-loop : tie.MeasureT-loop
 μ-loop bytes wanted from i₀ i = length bytes - i
 
 loop-holds : tie.Need-loop-holds Inv-loop μ-loop
-loop-holds c = (omega arith, omega arith, free-none (c .args .bytes .now) _ (c .args .from))
+loop-holds c = search (needs, free-none)
 
 shared-slice-read-if1 : tie.Need-shared-slice-read-if1 Inv-loop μ-loop
 shared-slice-read-if1 c = search needs
 
 returns : tie.Need-returns Inv-loop μ-loop
-returns c = record { low = omega arith; high = omega arith; free = c .before .before .before .loop .inv .2; found = λ _. c .if1 .taken }
+returns c = search needs
 
 add-i : tie.Need-add-i Inv-loop μ-loop
 add-i c = search needs
@@ -33,10 +32,10 @@ loop-less : tie.Need-loop-less Inv-loop μ-loop
 loop-less c = search needs
 
 loop-again : tie.Need-loop-again Inv-loop μ-loop
-loop-again c = (omega arith, omega arith, free-more (c .before .before .before .before .args .bytes .now) _ (c .before .before .before .before .args .from) (c .before .before .before .loop .i) (omega arith) (omega arith) (c .before .before .before .loop .inv .2) (c .if1 .left))
+loop-again c = search (needs, free-more)
 
 returns-2 : tie.Need-returns-2 Inv-loop μ-loop
-returns-2 c = record { low = omega arith; high = omega arith; free = c .before .loop .inv .2; found = λ h. absurd (omega arith) }
+returns-2 c = search needs
 
 pub find-spec : {M : Type 1} → statement M
 find-spec =
