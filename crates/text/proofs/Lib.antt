@@ -1,6 +1,7 @@
 -- Laws that callers use.
 pub mod Parts
 pub mod Cuts
+pub mod Counts
 pub mod Classes
 pub mod WordLaws
 pub mod Packing
