@@ -2,6 +2,7 @@
 pub mod Parts
 pub mod Cuts
 pub mod Counts
+pub mod Fitness
 pub mod Classes
 pub mod WordLaws
 pub mod Packing
