@@ -3,6 +3,7 @@ pub mod Parts
 pub mod Cuts
 pub mod Counts
 pub mod Fitness
+pub mod NaturalReading
 pub mod Classes
 pub mod WordLaws
 pub mod Packing
