@@ -4,6 +4,7 @@ pub mod Cuts
 pub mod Counts
 pub mod Fitness
 pub mod NaturalReading
+pub mod IntegerReading
 pub mod Classes
 pub mod WordLaws
 pub mod Packing
