@@ -1,6 +1,5 @@
 -- The loop of `count`: one part more than separators.
-use mathlib.Core.Path.{_≡_, sym, ap}
-use mathlib.Core.List.{[], _∷_}
+use mathlib.Core.Path.{_≡_, ap}
 use Prim.Native.Nat.{ℕ, suc, _+_, _≤_, _<_}
 use native.Mathlib.Omega.{arith}
 use lib.ListN.{length, getD, drop, drop-of-length-le}

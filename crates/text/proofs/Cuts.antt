@@ -1,14 +1,14 @@
 -- Cutting a byte string into parts and into lines, one found place at a time.
-use mathlib.Core.Path.{_≡_, refl, sym, _∙_, ap, subst}
-use mathlib.Core.Bool.{Bool, true, cond, not}
+use mathlib.Core.Path.{_≡_, refl, sym, _∙_, ap}
+use mathlib.Core.Bool.{true, cond}
 use mathlib.Core.List.{List, [], _∷_, _++_}
-use Prim.Native.Nat.{ℕ, suc, _+_, _≤_, _<_}
+use Prim.Native.Nat.{ℕ, _+_, _≤_, _<_}
 use native.Mathlib.Decide.{decLt}
 use native.Mathlib.Omega.{arith}
-use lib.Dec.{eqb, leb}
-use lib.ListN.{length, getD, drop, length-take, length-drop, drop-of-length-le}
+use lib.Dec.{eqb}
+use lib.ListN.{length, drop, length-take, length-drop, drop-of-length-le}
 use Rattle.integers.proofs.Truth.{not-true, eqb-same, le-leb, gt-leb}
-use Rattle.theory.specs.Text.{Bytes, every, onFirst, partsAt, linesOf}
+use Rattle.theory.specs.Text.{Bytes, onFirst, partsAt, linesOf}
 use Rattle.theory.proofs.Every.{every-first, every-rest}
 use Rattle.theory.proofs.Separators.{isFree}
 use Rattle.text.specs.Scans.{part, Finds, partsFrom}
@@ -87,12 +87,12 @@ module _ (separator : ℕ) (s : Bytes) where
 -- ---- lines
 
 lines-one : (bs : Bytes) → 0 < length bs → isFree 10 bs ≡ true → linesOf bs ≡ bs ∷ []
-lines-one [] some free = absurd (omega arith)
-lines-one (b ∷ bs) some free = cut-last 10 linesOf lines-cut b bs free
+lines-one [] any free = absurd (omega arith)
+lines-one (b ∷ bs) any free = cut-last 10 linesOf lines-cut b bs free
 
-lines-none : (s : Bytes) (from : ℕ) → length s ≤ from → linesOf (drop from s) ≡ []
+pub lines-done : (s : Bytes) (from : ℕ) → length s ≤ from → linesOf (drop from s) ≡ []
 unfolding linesOf
-lines-none s from h = ap linesOf (drop-of-length-le s h)
+lines-done s from h = ap linesOf (drop-of-length-le s h)
 
 pub lines-step : (s : Bytes) (from r : ℕ) → from < length s → Finds s 10 from r → linesOf (drop from s) ≡ part s from r ∷ linesOf (drop (r + 1) s)
 lines-step s from r h found = by (decLt r (length s))
@@ -101,4 +101,4 @@ lines-step s from r h found = by (decLt r (length s))
     by (yes more) = cut-found 10 linesOf lines-cut s from r found more
     by (no end) =
         cut-end 10 linesOf lines-cut s from r found (omega arith) (lines-one (part s from r) (simp (length-take, length-drop) (omega (arith, found .high))) (found .free))
-        ∙ ap (λ (rest : List Bytes). part s from r ∷ rest) (sym (lines-none s (r + 1) (omega arith)))
+        ∙ ap (λ (rest : List Bytes). part s from r ∷ rest) (sym (lines-done s (r + 1) (omega arith)))

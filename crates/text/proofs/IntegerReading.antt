@@ -1,8 +1,8 @@
 -- What `read_integer` answers: a sign, and what `read_natural` says of the digits. A signed number stands as its bits.
-use mathlib.Core.Path.{_≡_, refl, sym, _∙_, ap, subst}
+use mathlib.Core.Path.{_≡_, refl, sym, _∙_, ap}
 use mathlib.Core.Bool.{cond}
 use mathlib.Core.List.{[], _∷_}
-use mathlib.Core.Option.{Option, some, none, Option·map}
+use mathlib.Core.Option.{some, none, Option·map}
 use Prim.Native.Nat.{ℕ, zero, suc, _-_, _≤_, _<_}
 use native.Mathlib.Omega.{arith}
 use lib.Dec.{eqb}
@@ -18,7 +18,7 @@ use Rattle.text.specs.declared.Natural.{Natural}
 use Rattle.text.specs.declared.Natural.the-variants.{Whole, NoNatural}
 use Rattle.text.specs.Numbers.{naturalOf}
 use Rattle.text.specs.Scans.{part}
-use Rattle.text.proofs.Parts.{part-rest}
+use Rattle.text.proofs.Parts.{empty-is, part-rest}
 
 -- ---- signs
 
@@ -43,8 +43,7 @@ plus-result n f = toZ-pos w64 (omega arith)
 
 pub integer-of-none : (limit : ℕ) (s : Bytes) → length s ≡ 0 → none ≡ integer limit s
 unfolding integer
-integer-of-none limit [] h = refl
-integer-of-none limit (b ∷ bs) h = absurd (omega arith)
+integer-of-none limit s h = sym (ap (integer limit) (empty-is s h))
 
 integer-is : (limit : ℕ) (s : Bytes) → (length s ≡ 0 → ⊥) → integer limit s ≡ cond (eqb (getD s 0 0) 45) (negated (natural limit (drop 1 s))) (Option·map pos (natural limit s))
 unfolding integer

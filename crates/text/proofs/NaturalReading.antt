@@ -1,25 +1,22 @@
 -- The loop of `read_natural`: the value of the digits passed, and the digits that are left.
 use mathlib.Core.Path.{_≡_, refl, sym, _∙_, ap}
-use mathlib.Core.Bool.{Bool, true, false, not, _&&_, and-true, and-false}
+use mathlib.Core.Bool.{true, false, _&&_, and-true, and-false}
 use mathlib.Core.List.{[], _∷_}
 use mathlib.Core.Option.{some, none}
 use Prim.Native.Nat.{ℕ, _+_, _-_, _*_, _≤_, _<_}
-use native.Mathlib.Nat.{le-trans}
 use native.Mathlib.Omega.{arith}
-use lib.Dec.{eqb, leb}
 use lib.ListN.{length, getD, drop, drop-of-length-le}
-use Rattle.integers.proofs.Truth.{and-both, and-not-left, equal-eqb, eqb-different, le-leb, gt-leb}
+use Rattle.integers.proofs.Truth.{and-not-left, equal-eqb, eqb-different, le-leb, gt-leb}
 use Rattle.theory.specs.Text.{Bytes, every, isDigit, valueBehind, isDecimal, natural}
 use Rattle.theory.proofs.Bytes.{between-from}
-use Rattle.text.proofs.Parts.{drop-more}
+use Rattle.text.proofs.Parts.{empty-is, drop-more}
 use Rattle.text.proofs.Classes.{between-below, between-above, every-at}
 
 -- ---- what a decimal is
 
 decimal-none : (s : Bytes) → length s ≡ 0 → isDecimal s ≡ false
 unfolding isDecimal
-decimal-none [] h = refl
-decimal-none (b ∷ bs) h = absurd (omega arith)
+decimal-none s h = ap isDecimal (empty-is s h)
 
 decimal-zeros : (s : Bytes) → 1 < length s → getD s 0 0 ≡ 48 → isDecimal s ≡ false
 unfolding isDecimal

@@ -1,11 +1,11 @@
 -- Parts of a byte string: one byte more, and what stands from a place on.
-use mathlib.Core.Path.{_≡_, refl, sym, _∙_, ap, ap₂}
+use mathlib.Core.Path.{_≡_, sym, _∙_, ap}
 use mathlib.Core.Bool.{true}
 use mathlib.Core.List.{[], _∷_, _++_}
 use Prim.Native.Nat.{ℕ, suc, _+_, _-_, _≤_, _<_}
 use native.Mathlib.Numerals.{add-one}
 use native.Mathlib.Omega.{arith}
-use lib.ListN.{length, getD, take, drop, length-drop, take-append-drop}
+use lib.ListN.{length, getD, take, drop, length-drop, take-append-drop, drop-of-length-le}
 use lib.Seq.{take-suc, take-all, drop-cons, drop-drop, getD-drop}
 use Rattle.integers.proofs.Truth.{eqb-different}
 use Rattle.theory.specs.Text.{Bytes, every}
@@ -14,6 +14,9 @@ use Rattle.theory.proofs.Separators.{isFree}
 use Rattle.text.specs.Scans.{part}
 
 module _ (s : Bytes) where
+  pub empty-is : length s ≡ 0 → s ≡ []
+  empty-is h = drop-of-length-le s {i = 0} (omega arith)
+
   pub part-none : (a : ℕ) → part s a a ≡ []
   part-none a = let none : a - a ≡ 0 = omega arith in rw none
 
@@ -35,7 +38,7 @@ module _ (s : Bytes) where
       let place : a + (e - a) ≡ e = omega arith in
       sym (take-append-drop (e - a) (drop a s)) ∙ ap (λ (rest : Bytes). part s a e ++ rest) (drop-drop (e - a) a s ∙ ap (λ (n : ℕ). drop n s) place)
 
-  -- and its first byte
+  -- what stands from a place on, and its first byte
   pub drop-more : (a : ℕ) → a < length s → drop a s ≡ getD s a 0 ∷ drop (a + 1) s
   drop-more a h = rw (add-one, drop-cons s a 0)
 

@@ -1,9 +1,8 @@
--- Bytes as a number, the first byte the lowest: how large it is, and that it determines the bytes; so do a word's two numbers.
+-- Bytes as a number, the first byte the lowest: the number determines the bytes, and so do a word's two numbers.
 use mathlib.Core.Path.{_≡_, refl, sym, _∙_, ap, ap₂}
 use mathlib.Core.Bool.{true}
 use mathlib.Core.List.{[], _∷_, _++_}
-use Prim.Native.Nat.{ℕ, zero, suc, _+_, _*_, _^_, _≤_, _<_}
-use native.Mathlib.Nat.{pow-suc, one-le-pow}
+use Prim.Native.Nat.{ℕ, _+_, _*_, _≤_, _<_}
 use native.Mathlib.Omega.{arith}
 use lib.ListN.{length, getD, take, drop, take-append-drop}
 use Rattle.integers.proofs.Truth.{and-left}
@@ -24,7 +23,7 @@ token-low b h = between-low 32 126 b (and-left _ _ (and-left _ _ h))
 token-high : (b : ℕ) → isTokenByte b ≡ true → b ≤ 126
 token-high b h = between-high 32 126 b (and-left _ _ (and-left _ _ h))
 
--- bytes that are neither 0 nor above 255
+-- None of these bytes is 0 or above 255.
 pub number-equal : (a b : Bytes) → every isTokenByte a ≡ true → every isTokenByte b ≡ true → number a ≡ number b → a ≡ b
 unfolding number
 number-equal [] [] h k e = refl

@@ -6,7 +6,7 @@ use Prim.Native.Nat.{ℕ, suc, _≤_, _<_, min}
 use native.Mathlib.Decide.{decLt}
 use native.Mathlib.Omega.{arith}
 use lib.Dec.{leb, leb·suc-suc}
-use lib.ListN.{length, getD, take, drop, length-take, length-drop, drop-of-length-le}
+use lib.ListN.{length, getD, take, drop, drop-of-length-le}
 use lib.Seq.{take-all}
 use Rattle.integers.proofs.Truth.{by-truth, and-both, and-not-left, and-not-right, le-leb, gt-leb}
 use Rattle.theory.specs.Text.{Bytes, every, isLower, isUpper, isNameByte, isWord, isName, isVariable}
@@ -15,10 +15,10 @@ use Rattle.text.specs.declared.Packed.{Packed}
 use Rattle.text.specs.declared.Word.the-variants.{Name, Variable, Neither}
 use Rattle.text.specs.Scans.{part}
 use Rattle.text.specs.Words.{number, wordsOf, PacksInto, WordRead, name, variable, neither}
-use Rattle.text.proofs.Parts.{part-rest}
+use Rattle.text.proofs.Parts.{empty-is, part-rest}
 use Rattle.text.proofs.Classes.{every-cut, lower-in-name, upper-in-name}
 
--- a place that is past the end, cut back to the end
+-- a place past the end, cut back to the end
 cut-short : (n m : ℕ) (s : Bytes) → m ≡ min n (length s) → (take m s ≡ take n s) × (drop m s ≡ drop n s)
 cut-short n m s e = by (decLt n (length s))
   where
@@ -33,8 +33,7 @@ cut-short n m s e = by (decLt n (length s))
 
 word-none : (isFirst : ℕ → Bool) (s : Bytes) → length s ≡ 0 → isWord isFirst s ≡ false
 unfolding isWord
-word-none isFirst [] h = refl
-word-none isFirst (b ∷ bs) h = absurd (omega arith)
+word-none isFirst s h = ap (isWord isFirst) (empty-is s h)
 
 word-is : (isFirst : ℕ → Bool) → ((b : ℕ) → isFirst b ≡ true → isNameByte b ≡ true) → (s : Bytes) → 0 < length s → isWord isFirst s ≡ (isFirst (getD s 0 0) && every isNameByte s && leb (length s) 16)
 unfolding isWord every
@@ -44,7 +43,7 @@ word-is isFirst within (b ∷ bs) h = by-truth (λ (c : Bool). (c && every isNam
 pub read-empty : (s : Bytes) → length s ≡ 0 → WordRead s Neither
 read-empty s h = neither (word-none isLower s h) (word-none isUpper s h)
 
-module _ (s : Bytes) (some : length s ≡ 0 → ⊥) where
+module _ (s : Bytes) (any : length s ≡ 0 → ⊥) where
   name-is : isName s ≡ (isLower (getD s 0 0) && every isNameByte s && leb (length s) 16)
   name-is = word-is isLower lower-in-name s (omega arith)
 
@@ -56,20 +55,20 @@ module _ (s : Bytes) (some : length s ≡ 0 → ⊥) where
       let long : leb (length s) 16 ≡ false = gt-leb (length s) 16 h in
       neither (name-is ∙ simp (long, and-false)) (variable-is ∙ simp (long, and-false))
 
-  unfit : every isNameByte s ≡ false → WordRead s Neither
-  unfit h = neither (name-is ∙ simp (h, and-false)) (variable-is ∙ simp (h, and-false))
+  read-refused : every isNameByte s ≡ false → WordRead s Neither
+  read-refused h = neither (name-is ∙ simp (h, and-false)) (variable-is ∙ simp (h, and-false))
 
   -- the two parts, packed
   module _ (middle : ℕ) (place : middle ≡ min 8 (length s)) (front : Packed) (packsFront : PacksInto (take middle s) front) where
-    pub read-unfit-front : front .fine ≡ false → WordRead s Neither
-    read-unfit-front h = unfit (every-cut isNameByte s middle ∙ and-not-left _ _ (sym (packsFront .fine) ∙ h))
+    pub read-front-refused : front .fine ≡ false → WordRead s Neither
+    read-front-refused h = read-refused (every-cut isNameByte s middle ∙ and-not-left _ _ (sym (packsFront .fine) ∙ h))
 
     module _ (back : Packed) (packsBack : PacksInto (part s middle (length s)) back) where
       fine-back : back .fine ≡ every isNameByte (drop middle s)
       fine-back = packsBack .fine ∙ ap (every isNameByte) (part-rest s middle)
 
-      pub read-unfit-back : back .fine ≡ false → WordRead s Neither
-      read-unfit-back h = unfit (every-cut isNameByte s middle ∙ and-not-right (every isNameByte (take middle s)) _ (sym fine-back ∙ h))
+      pub read-back-refused : back .fine ≡ false → WordRead s Neither
+      read-back-refused h = read-refused (every-cut isNameByte s middle ∙ and-not-right (every isNameByte (take middle s)) _ (sym fine-back ∙ h))
 
       module _ (fineFront : front .fine ≡ true) (fineBack : back .fine ≡ true) (short : length s ≤ 16) where
         all-fine : every isNameByte s ≡ true

@@ -1,5 +1,4 @@
 -- `text::read_integer` meets its contract. Assumes nothing.
-use native.Mathlib.Omega.{arith}
 use borrow.Author.Needs.{needs}
 use Rattle.text.proofs.IntegerReading.{integer-of-none, integer-minus-zero, integer-minus, integer-minus-none, integer-plus, integer-plus-none}
 use Rattle.text.proofs.read_integer.Statement.{statement}

@@ -1,10 +1,9 @@
 -- `text::read_word` meets its contract. Assumes nothing.
-use mathlib.Core.Path.{sym, _∙_}
 use native.Mathlib.Omega.{arith}
 use lib.ListN.{length-take, length-drop}
 use borrow.Author.Needs.{needs}
 use Rattle.integers.proofs.Truth.{not-true, not-false}
-use Rattle.text.proofs.WordReading.{read-empty, read-long, read-unfit-front, read-unfit-back, read-name, read-variable, read-other}
+use Rattle.text.proofs.WordReading.{read-empty, read-long, read-front-refused, read-back-refused, read-name, read-variable, read-other}
 use Rattle.text.proofs.read_word.Statement.{statement}
 use Rattle.text.proofs.read_word.Tie as tie
 
@@ -36,7 +35,7 @@ pack-requires : tie.Need-pack-requires
 pack-requires c κs = simp length-take (omega arith)
 
 returns-3 : tie.Need-returns-3
-returns-3 c = search (needs, read-unfit-front, not-true)
+returns-3 c = search (needs, read-front-refused, not-true)
 
 sub-pack : tie.Need-sub-pack
 sub-pack c = search needs
@@ -51,7 +50,7 @@ pack-requires-2 : tie.Need-pack-requires-2
 pack-requires-2 c κs = simp (length-take, length-drop) (omega arith)
 
 returns-4 : tie.Need-returns-4
-returns-4 c = search (needs, read-unfit-back, not-true)
+returns-4 c = search (needs, read-back-refused, not-true)
 
 returns-5 : tie.Need-returns-5
 returns-5 c = search (needs, read-name, not-false)
