@@ -1,0 +1,45 @@
+-- The loop of `count`: one part more than separators.
+use mathlib.Core.Path.{_≡_, ap}
+use Prim.Native.Nat.{ℕ, suc, _+_, _≤_, _<_}
+use native.Mathlib.Omega.{arith}
+use lib.ListN.{length, getD, drop, drop-of-length-le}
+use Rattle.integers.proofs.Truth.{equal-eqb, eqb-different}
+use Rattle.theory.specs.Text.{Bytes, onFirst, partsAt}
+use Rattle.theory.proofs.Separators.{parts-cons}
+use Rattle.text.proofs.Parts.{drop-more}
+
+-- n separators stand before place i
+pub record Counted (separator : ℕ) (s : Bytes) (n i : ℕ) : Type 0 where
+  pub few : n ≤ i
+  pub high : i ≤ length s
+  pub parts : n + length (partsAt separator (drop i s)) ≡ length (partsAt separator s)
+
+module _ (separator : ℕ) (s : Bytes) where
+  pub counted-none : Counted separator s 0 0
+  counted-none = record { few = omega arith; high = omega arith; parts = omega arith }
+
+  parts-first : (b : ℕ) (bs : Bytes) → length (onFirst b (partsAt separator bs)) ≡ length (partsAt separator bs)
+  parts-first b bs = let found = parts-cons separator bs in rw (found .2)
+
+  module _ (n i : ℕ) (c : Counted separator s n i) where
+    module _ (h : i < length s) where
+      at-separator : getD s i 0 ≡ separator → length (partsAt separator (drop i s)) ≡ suc (length (partsAt separator (drop (i + 1) s)))
+      unfolding partsAt
+      at-separator e = rw (drop-more s i h, equal-eqb (getD s i 0) separator e)
+
+      at-other : (getD s i 0 ≡ separator → ⊥) → length (partsAt separator (drop i s)) ≡ length (partsAt separator (drop (i + 1) s))
+      unfolding partsAt
+      at-other e = rw (drop-more s i h, eqb-different (getD s i 0) separator e) (parts-first (getD s i 0) (drop (i + 1) s))
+
+      pub counted-separator : (m : ℕ) → m ≡ n + 1 → getD s i 0 ≡ separator → Counted separator s m (i + 1)
+      counted-separator m f e = record { few = omega arith; high = omega arith; parts = omega (arith, at-separator e) }
+
+      pub counted-other : (m : ℕ) → m ≡ n → (getD s i 0 ≡ separator → ⊥) → Counted separator s m (i + 1)
+      counted-other m f e = record { few = omega arith; high = omega arith; parts = omega (arith, at-other e) }
+
+    at-end : length s ≤ i → length (partsAt separator (drop i s)) ≡ 1
+    unfolding partsAt
+    at-end h = ap (λ (rest : Bytes). length (partsAt separator rest)) (drop-of-length-le s h)
+
+    pub counted-all : length s ≤ i → n + 1 ≡ length (partsAt separator s)
+    counted-all h = omega (arith, at-end h)

@@ -1,0 +1,104 @@
+-- Cutting a byte string into parts and into lines, one found place at a time.
+use mathlib.Core.Path.{_≡_, refl, sym, _∙_, ap}
+use mathlib.Core.Bool.{true, cond}
+use mathlib.Core.List.{List, [], _∷_, _++_}
+use Prim.Native.Nat.{ℕ, _+_, _≤_, _<_}
+use native.Mathlib.Decide.{decLt}
+use native.Mathlib.Omega.{arith}
+use lib.Dec.{eqb}
+use lib.ListN.{length, drop, length-take, length-drop, drop-of-length-le}
+use Rattle.integers.proofs.Truth.{not-true, eqb-same, le-leb, gt-leb}
+use Rattle.theory.specs.Text.{Bytes, onFirst, partsAt, linesOf}
+use Rattle.theory.proofs.Every.{every-first, every-rest}
+use Rattle.theory.proofs.Separators.{isFree}
+use Rattle.text.specs.Scans.{part, Finds, partsFrom}
+use Rattle.text.proofs.Parts.{part-rest, drop-cut, drop-more}
+
+-- Parts and lines alike: a separator ends a part, any other byte goes in front of the first part behind it, and a last byte is a part.
+record Cuts (separator : ℕ) (cut : Bytes → List Bytes) : Type 0 where
+  step : (b : ℕ) (bs : Bytes) → cut (b ∷ bs) ≡ cond (eqb b separator) ([] ∷ cut bs) (onFirst b (cut bs))
+  last : (b : ℕ) → onFirst b (cut []) ≡ (b ∷ []) ∷ []
+
+parts-cut : (separator : ℕ) → Cuts separator (partsAt separator)
+unfolding partsAt
+parts-cut separator = record { step = λ b bs. refl; last = λ b. refl }
+
+lines-cut : Cuts 10 linesOf
+unfolding linesOf
+lines-cut = record { step = λ b bs. refl; last = λ b. refl }
+
+module _ (separator : ℕ) (cut : Bytes → List Bytes) (cuts : Cuts separator cut) where
+  cut-first : (b : ℕ) (bs : Bytes) → isFree separator (b ∷ bs) ≡ true → (rest : Bytes) → cut (b ∷ rest) ≡ onFirst b (cut rest)
+  cut-first b bs free rest = cuts .step b rest ∙ rw (not-true (eqb b separator) (every-first _ b bs free))
+
+  -- a part with its separator, in front of the rest
+  cut-off : (first rest : Bytes) → isFree separator first ≡ true → cut (first ++ separator ∷ rest) ≡ first ∷ cut rest
+  cut-off [] rest free = cuts .step separator rest ∙ rw (eqb-same separator)
+  cut-off (b ∷ bs) rest free = cut-first b bs free (bs ++ separator ∷ rest) ∙ ap (onFirst b) (cut-off bs rest (every-rest _ b bs free))
+
+  -- a part with no separator behind it
+  cut-last : (b : ℕ) (bs : Bytes) → isFree separator (b ∷ bs) ≡ true → cut (b ∷ bs) ≡ (b ∷ bs) ∷ []
+  cut-last b [] free = cut-first b [] free [] ∙ cuts .last b
+  cut-last b (d ∷ bs) free = cut-first b (d ∷ bs) free (d ∷ bs) ∙ ap (onFirst b) (cut-last d bs (every-rest _ b (d ∷ bs) free))
+
+  module _ (s : Bytes) (from r : ℕ) (found : Finds s separator from r) where
+    cut-found : r < length s → cut (drop from s) ≡ part s from r ∷ cut (drop (r + 1) s)
+    cut-found h =
+        ap cut (drop-cut s from r (found .low) ∙ ap (λ (rest : Bytes). part s from r ++ rest) (drop-more s r h ∙ ap (λ (b : ℕ). b ∷ drop (r + 1) s) (found .found h)))
+        ∙ cut-off (part s from r) (drop (r + 1) s) (found .free)
+
+    -- the place found is the end
+    cut-rest : length s ≤ r → part s from r ≡ drop from s
+    cut-rest h = let end : r ≡ length s = omega (arith, found .high) in ap (part s from) end ∙ part-rest s from
+
+    -- so what stands from the first place on is one part
+    cut-end : length s ≤ r → cut (part s from r) ≡ part s from r ∷ [] → cut (drop from s) ≡ part s from r ∷ []
+    cut-end h one = ap cut (sym (cut-rest h)) ∙ one
+
+-- ---- parts
+
+parts-one : (separator : ℕ) (bs : Bytes) → isFree separator bs ≡ true → partsAt separator bs ≡ bs ∷ []
+unfolding partsAt
+parts-one separator [] free = refl
+parts-one separator (b ∷ bs) free = cut-last separator (partsAt separator) (parts-cut separator) b bs free
+
+module _ (separator : ℕ) (s : Bytes) where
+  parts-more : (from : ℕ) → from ≤ length s → partsFrom separator s from ≡ partsAt separator (drop from s)
+  unfolding partsFrom
+  parts-more from h = rw (le-leb from (length s) h)
+
+  pub parts-all : partsFrom separator s 0 ≡ partsAt separator s
+  parts-all = parts-more 0 (omega arith)
+
+  pub parts-done : (from : ℕ) → length s < from → partsFrom separator s from ≡ []
+  unfolding partsFrom
+  parts-done from h = rw (gt-leb from (length s) h)
+
+  pub parts-step : (from r : ℕ) → from ≤ length s → Finds s separator from r → partsFrom separator s from ≡ part s from r ∷ partsFrom separator s (r + 1)
+  parts-step from r h found = parts-more from h ∙ by (decLt r (length s))
+    where
+      by : Dec (r < length s) → partsAt separator (drop from s) ≡ part s from r ∷ partsFrom separator s (r + 1)
+      by (yes more) =
+          cut-found separator (partsAt separator) (parts-cut separator) s from r found more ∙ ap (λ (rest : List Bytes). part s from r ∷ rest) (sym (parts-more (r + 1) (omega arith)))
+      by (no end) =
+          cut-end separator (partsAt separator) (parts-cut separator) s from r found (omega arith) (parts-one separator (part s from r) (found .free))
+          ∙ ap (λ (rest : List Bytes). part s from r ∷ rest) (sym (parts-done (r + 1) (omega arith)))
+
+-- ---- lines
+
+lines-one : (bs : Bytes) → 0 < length bs → isFree 10 bs ≡ true → linesOf bs ≡ bs ∷ []
+lines-one [] any free = absurd (omega arith)
+lines-one (b ∷ bs) any free = cut-last 10 linesOf lines-cut b bs free
+
+pub lines-done : (s : Bytes) (from : ℕ) → length s ≤ from → linesOf (drop from s) ≡ []
+unfolding linesOf
+lines-done s from h = ap linesOf (drop-of-length-le s h)
+
+pub lines-step : (s : Bytes) (from r : ℕ) → from < length s → Finds s 10 from r → linesOf (drop from s) ≡ part s from r ∷ linesOf (drop (r + 1) s)
+lines-step s from r h found = by (decLt r (length s))
+  where
+    by : Dec (r < length s) → linesOf (drop from s) ≡ part s from r ∷ linesOf (drop (r + 1) s)
+    by (yes more) = cut-found 10 linesOf lines-cut s from r found more
+    by (no end) =
+        cut-end 10 linesOf lines-cut s from r found (omega arith) (lines-one (part s from r) (simp (length-take, length-drop) (omega (arith, found .high))) (found .free))
+        ∙ ap (λ (rest : List Bytes). part s from r ∷ rest) (sym (lines-done s (r + 1) (omega arith)))

@@ -1,0 +1,54 @@
+-- Parts of a byte string: one byte more, and what stands from a place on.
+use mathlib.Core.Path.{_≡_, sym, _∙_, ap}
+use mathlib.Core.Bool.{true}
+use mathlib.Core.List.{[], _∷_, _++_}
+use Prim.Native.Nat.{ℕ, suc, _+_, _-_, _≤_, _<_}
+use native.Mathlib.Numerals.{add-one}
+use native.Mathlib.Omega.{arith}
+use lib.ListN.{length, getD, take, drop, length-drop, take-append-drop, drop-of-length-le}
+use lib.Seq.{take-suc, take-all, drop-cons, drop-drop, getD-drop}
+use Rattle.integers.proofs.Truth.{eqb-different}
+use Rattle.theory.specs.Text.{Bytes, every}
+use Rattle.theory.proofs.Bytes.{every-append}
+use Rattle.theory.proofs.Separators.{isFree}
+use Rattle.text.specs.Scans.{part}
+
+module _ (s : Bytes) where
+  pub empty-is : length s ≡ 0 → s ≡ []
+  empty-is h = drop-of-length-le s {i = 0} (omega arith)
+
+  pub part-none : (a : ℕ) → part s a a ≡ []
+  part-none a = let none : a - a ≡ 0 = omega arith in rw none
+
+  pub part-more : (a e : ℕ) → a ≤ e → e < length s → part s a (e + 1) ≡ part s a e ++ (getD s e 0 ∷ [])
+  part-more a e h k =
+      let more : e + 1 - a ≡ suc (e - a) = omega arith in
+      let place : a + (e - a) ≡ e = omega arith in
+      ap (λ (n : ℕ). take n (drop a s)) more
+      ∙ take-suc (drop a s) (e - a) 0 (simp length-drop (omega arith))
+      ∙ ap (λ (b : ℕ). part s a e ++ (b ∷ [])) (getD-drop a s (e - a) 0 ∙ ap (λ (n : ℕ). getD s n 0) place)
+
+  -- the part up to the end
+  pub part-rest : (a : ℕ) → part s a (length s) ≡ drop a s
+  part-rest a = take-all (length s - a) (drop a s) (simp length-drop (omega arith))
+
+  -- what stands from a place on, cut at a later place
+  pub drop-cut : (a e : ℕ) → a ≤ e → drop a s ≡ part s a e ++ drop e s
+  drop-cut a e h =
+      let place : a + (e - a) ≡ e = omega arith in
+      sym (take-append-drop (e - a) (drop a s)) ∙ ap (λ (rest : Bytes). part s a e ++ rest) (drop-drop (e - a) a s ∙ ap (λ (n : ℕ). drop n s) place)
+
+  -- what stands from a place on, and its first byte
+  pub drop-more : (a : ℕ) → a < length s → drop a s ≡ getD s a 0 ∷ drop (a + 1) s
+  drop-more a h = rw (add-one, drop-cons s a 0)
+
+  -- ---- parts in which a byte does not stand
+
+  pub free-none : (wanted a : ℕ) → isFree wanted (part s a a) ≡ true
+  unfolding every
+  free-none wanted a = ap (isFree wanted) (part-none a)
+
+  pub free-more : (wanted a e : ℕ) → a ≤ e → e < length s → isFree wanted (part s a e) ≡ true → (getD s e 0 ≡ wanted → ⊥) → isFree wanted (part s a (e + 1)) ≡ true
+  unfolding every
+  free-more wanted a e h k free other =
+      ap (isFree wanted) (part-more a e h k) ∙ every-append _ (part s a e) (getD s e 0 ∷ []) free (simp (eqb-different (getD s e 0) wanted other))

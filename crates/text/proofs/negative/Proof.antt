@@ -1,0 +1,17 @@
+-- `text::negative` meets its contract. Assumes nothing.
+use borrow.Author.Needs.{needs}
+use Rattle.text.proofs.IntegerReading.{minus-fits, minus-result}
+use Rattle.text.proofs.negative.Statement.{statement}
+use Rattle.text.proofs.negative.Tie as tie
+
+cast-result : tie.Need-cast-result
+cast-result c = search needs
+
+sub-result : tie.Need-sub-result
+sub-result c = search (needs, minus-fits)
+
+returns : tie.Need-returns
+returns c = search (needs, minus-result)
+
+pub negative-spec : {M : Type 1} → statement M
+negative-spec = tie.close (tie.spec cast-result sub-result returns)

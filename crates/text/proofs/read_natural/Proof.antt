@@ -1,0 +1,81 @@
+-- `text::read_natural` meets its contract: the value of the digits passed, before the digits that are left. Assumes nothing.
+use mathlib.Core.Logic.{⊎-elim}
+use Prim.Native.Nat.{_-_}
+use lib.ListN.{length}
+use borrow.Author.Needs.{needs}
+use Rattle.text.proofs.NaturalReading.{natural-of-none, natural-of-zeros, Reading, reading-one, reading-several, reading-low, reading-high, reading-over, reading-more, reading-all}
+use Rattle.text.proofs.read_natural.Statement.{statement}
+use Rattle.text.proofs.read_natural.Tie as tie
+
+abbrev Inv-loop : tie.InvT-loop
+Inv-loop field limit n value₀ i₀ value i = Reading limit field value i
+
+abbrev μ-loop : tie.MeasureT-loop
+μ-loop field limit n value₀ i₀ value i = length field - i
+
+returns : tie.Need-returns Inv-loop μ-loop
+returns c = search (needs, natural-of-none)
+
+shared-slice-read-if3 : tie.Need-shared-slice-read-if3 Inv-loop μ-loop
+shared-slice-read-if3 c = search needs
+
+returns-2 : tie.Need-returns-2 Inv-loop μ-loop
+returns-2 c = search (needs, natural-of-zeros)
+
+loop-holds : tie.Need-loop-holds Inv-loop μ-loop
+loop-holds c = ⊎-elim (λ w. search (needs, reading-several)) (λ w. search (needs, reading-one)) (c .if2 .came)
+
+shared-slice-read-b : tie.Need-shared-slice-read-b Inv-loop μ-loop
+shared-slice-read-b c = search needs
+
+returns-3 : tie.Need-returns-3 Inv-loop μ-loop
+returns-3 c = search (needs, reading-low)
+
+returns-4 : tie.Need-returns-4 Inv-loop μ-loop
+returns-4 c = search (needs, reading-high)
+
+mul-value : tie.Need-mul-value Inv-loop μ-loop
+mul-value c = search needs
+
+digit-requires : tie.Need-digit-requires Inv-loop μ-loop
+digit-requires c κs = search needs
+
+add-value : tie.Need-add-value Inv-loop μ-loop
+add-value c = search needs
+
+returns-5 : tie.Need-returns-5 Inv-loop μ-loop
+returns-5 c = search (needs, reading-over)
+
+add-i : tie.Need-add-i Inv-loop μ-loop
+add-i c = search needs
+
+loop-less : tie.Need-loop-less Inv-loop μ-loop
+loop-less c = search needs
+
+loop-again : tie.Need-loop-again Inv-loop μ-loop
+loop-again c = search (needs, reading-more)
+
+returns-6 : tie.Need-returns-6 Inv-loop μ-loop
+returns-6 c = search (needs, reading-all)
+
+pub read-natural-spec : {M : Type 1} → statement M
+read-natural-spec =
+    tie.close
+    (tie.spec
+    Inv-loop
+    μ-loop
+    returns
+    shared-slice-read-if3
+    returns-2
+    loop-holds
+    shared-slice-read-b
+    returns-3
+    returns-4
+    mul-value
+    digit-requires
+    add-value
+    returns-5
+    add-i
+    loop-less
+    loop-again
+    returns-6)
