@@ -9,7 +9,7 @@ use lib.ListN.{length, getD, take, drop, length-drop, take-append-drop, drop-of-
 use lib.Seq.{take-suc, take-all, drop-cons, drop-drop, getD-drop}
 use Rattle.integers.proofs.Truth.{eqb-different}
 use Rattle.theory.specs.Text.{Bytes, every}
-use Rattle.theory.proofs.Bytes.{every-append}
+use Rattle.theory.proofs.Every.{every-append}
 use Rattle.theory.proofs.Separators.{isFree}
 use Rattle.text.specs.Scans.{part}
 
