@@ -2,6 +2,8 @@
 
 -- what one token is read as; whether tokens write a term
 pub mod TokenKinds
+pub mod SymbolTokens
+pub mod TokenReading
 pub mod FirstTerms
 pub mod Scan
 -- a term's size and variables as sums over its tokens

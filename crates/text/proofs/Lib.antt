@@ -1,6 +1,7 @@
 -- Laws that callers use.
 pub mod Cuts
 pub mod WordLaws
+pub mod WordKinds
 -- Parts and classes of bytes, by places.
 pub mod Parts
 pub mod Classes

@@ -1,0 +1,105 @@
+-- A symbol's token by its places: a name, a `/` as the last byte but one, and a digit.
+use mathlib.Core.Path.{_≡_, refl, sym, _∙_, ap}
+use mathlib.Core.Bool.{Bool, true, false}
+use mathlib.Core.List.{[], _∷_, _++_}
+use Prim.Native.Nat.{ℕ, suc, _+_, _-_, _≤_, _<_}
+use native.Mathlib.Omega.{arith}
+use lib.ListN.{length, getD, take, drop, length-append, length-take, drop-of-length-le, take-append-drop}
+use lib.Seq.{take-at, getD-at, getD-append-add, drop-cons}
+use Rattle.integers.proofs.Truth.{by-truth, never-both, not-true, equal-eqb}
+use Rattle.integers.proofs.Lists.{getD-member}
+use Rattle.theory.specs.Text.{Bytes, isWord, isDigit, isName, isVariable, isDecimal, valueBehind, decimal}
+use Rattle.theory.specs.Terms.{Token, variableNamed, symbolOf, noToken, symbolToken, tokenOf}
+use Rattle.theory.proofs.Bytes.{between-from, between-low, between-high}
+use Rattle.theory.proofs.Every.{every-member}
+use Rattle.theory.proofs.Decimals.{decimal-of-value}
+use Rattle.theory.proofs.Spelling.{variable-no-slash}
+use Rattle.theory.proofs.Tokens.{ReadAs, as-variable, as-symbol, as-none, token-of-symbol, read-as}
+use Rattle.text.proofs.Parts.{drop-more}
+
+decimal-digit : (k : ℕ) → k ≤ 9 → decimal k ≡ (48 + k) ∷ []
+unfolding isDecimal valueBehind
+decimal-digit k few =
+    let worth : valueBehind 0 ((48 + k) ∷ []) ≡ k = omega arith in
+    ap decimal (sym worth) ∙ decimal-of-value ((48 + k) ∷ []) (between-from 48 57 (48 + k) (omega arith) (omega arith))
+
+-- a name has a first letter
+name-any : (f : Bytes) → isName f ≡ true → 0 < length f
+unfolding isWord
+name-any [] named = never-both named refl
+name-any (b ∷ f) named = omega arith
+
+-- ---- read as a symbol, then written
+
+pub record SymbolWritten (w f : Bytes) (k : ℕ) : Type 0 where
+  pub named : isName f ≡ true
+  pub few : k ≤ 9
+  pub long : 2 < length w
+  pub front : take (length w - 2) w ≡ f
+  pub slash : getD w (length w - 2) 0 ≡ 47
+  pub digit : getD w (length w - 1) 0 ≡ 48 + k
+
+symbol-places : (f : Bytes) (k : ℕ) → isName f ≡ true → k ≤ 9 → SymbolWritten (f ++ 47 ∷ (48 + k) ∷ []) f k
+symbol-places f k named few =
+    let w : Bytes = f ++ 47 ∷ (48 + k) ∷ [] in
+    let size : length w ≡ length f + 2 = length-append f (47 ∷ (48 + k) ∷ []) in
+    let last : length w - 1 ≡ length f + 1 = omega arith in
+    record {
+      named = named;
+      few = few;
+      long = omega (arith, name-any f named);
+      front = take-at f _ (length w - 2) (omega arith);
+      slash = getD-at f 47 _ 0 (length w - 2) (omega arith);
+      digit = ap (λ (i : ℕ). getD w i 0) last ∙ getD-append-add f (47 ∷ (48 + k) ∷ []) 1 0;
+    }
+
+pub symbol-written : (w f : Bytes) (k : ℕ) → tokenOf w ≡ symbolOf f k → SymbolWritten w f k
+unfolding symbolToken
+symbol-written w f k e = written (read-as w) e
+  where
+    written : {token : Token} → ReadAs w token → token ≡ symbolOf f k → SymbolWritten w f k
+    written (as-variable h) e = let z : _≡_ {A = ℕ} 0 1 = cc in absurd (omega arith)
+    written (as-symbol {f = g} {k = j} is named few) e =
+        let name : g ≡ f = cc in
+        let arity : j ≡ k = cc in
+        rw (← name, ← arity, is, decimal-digit j few) (symbol-places g j named few)
+    written as-none e = let z : _≡_ {A = ℕ} 0 1 = cc in absurd (omega arith)
+
+-- ---- written, then read
+
+module _ (w : Bytes) (long : 2 ≤ length w) (slash : getD w (length w - 2) 0 ≡ 47) where
+  last-two : drop (length w - 2) w ≡ 47 ∷ getD w (length w - 1) 0 ∷ []
+  last-two =
+      let next : length w - 2 + 1 ≡ length w - 1 = omega arith in
+      let none : drop (length w - 1 + 1) w ≡ [] = drop-of-length-le w {i = length w - 1 + 1} (omega arith) in
+      drop-more w (length w - 2) (omega arith) ∙ rw (slash, next, drop-more w (length w - 1) (omega arith), none)
+
+  module _ (digit : isDigit (getD w (length w - 1) 0) ≡ true) (named : isName (take (length w - 2) w) ≡ true) where
+    spelled : w ≡ symbolToken (take (length w - 2) w) (getD w (length w - 1) 0 - 48)
+    unfolding symbolToken
+    spelled =
+        let low : 48 ≤ getD w (length w - 1) 0 = between-low 48 57 _ digit in
+        let high : getD w (length w - 1) 0 ≤ 57 = between-high 48 57 _ digit in
+        let same : 48 + (getD w (length w - 1) 0 - 48) ≡ getD w (length w - 1) 0 = omega arith in
+        sym (take-append-drop (length w - 2) w)
+        ∙ ap (λ (rest : Bytes). take (length w - 2) w ++ rest) (last-two ∙ ap (λ (rest : Bytes). 47 ∷ rest) (sym (decimal-digit (getD w (length w - 1) 0 - 48) (omega arith) ∙ ap (λ (b : ℕ). b ∷ []) same)))
+
+    pub symbol-read : tokenOf w ≡ symbolOf (take (length w - 2) w) (getD w (length w - 1) 0 - 48)
+    symbol-read = ap tokenOf spelled ∙ token-of-symbol _ _ named (omega (arith, between-high 48 57 (getD w (length w - 1) 0) digit))
+
+  -- a variable has no `/`
+  pub slash-no-variable : isVariable w ≡ false
+  slash-no-variable =
+      by-truth (λ (v : Bool). v ≡ false) (isVariable w)
+      (λ h. never-both (equal-eqb (getD w (length w - 2) 0) 47 slash) (not-true _ (every-member _ (variable-no-slash w h) (getD-member w (length w - 2) 0 (omega arith)))))
+      (λ h. refl)
+
+-- ---- neither a variable nor a symbol
+
+pub other-no-token : (w : Bytes) → isVariable w ≡ false → ((f : Bytes) (k : ℕ) → SymbolWritten w f k → ⊥) → tokenOf w ≡ noToken
+other-no-token w other unwritten = neither (read-as w) refl
+  where
+    neither : {token : Token} → ReadAs w token → tokenOf w ≡ token → token ≡ noToken
+    neither (as-variable h) e = never-both h other
+    neither (as-symbol {f = f} {k = k} is named few) e = absurd (unwritten f k (symbol-written w f k e))
+    neither as-none e = refl
