@@ -9,6 +9,7 @@ pub mod Scan
 -- a term's size and variables as sums over its tokens
 pub mod TokenSums
 pub mod TokenBounds
+pub mod TermScans
 -- a rule's variables, numbered and counted one at a time
 pub mod Numbering
 pub mod Counting

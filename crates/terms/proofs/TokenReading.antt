@@ -6,7 +6,7 @@ use native.Mathlib.Omega.{arith}
 use lib.ListN.{length, getD, take}
 use Rattle.integers.proofs.Truth.{never-both}
 use Rattle.theory.specs.Text.{Bytes, isDigit, isName, isVariable}
-use Rattle.theory.specs.Terms.{variableNamed, symbolOf, tokenOf}
+use Rattle.theory.specs.Terms.{variableNamed, symbolOf, noToken, tokenOf}
 use Rattle.theory.proofs.Bytes.{between-from, between-low, between-high}
 use Rattle.theory.proofs.Tokens.{token-of-variable}
 use Rattle.text.specs.declared.Words.{Words}
@@ -14,10 +14,11 @@ use Rattle.text.specs.declared.Word.{Word}
 use Rattle.text.specs.declared.Word.the-variants.{Name, Variable, Neither}
 use Rattle.text.specs.Words.{WordRead}
 use Rattle.text.proofs.WordKinds.{isNameWord, isVariableWord, name-told, variable-told}
+use Rattle.terms.specs.declared.Token.{Token}
 use Rattle.terms.specs.declared.Token.the-variants.{Symbol, NoToken}
 use Rattle.terms.specs.declared.Token.the-variants.{Variable as VariableToken}
 use Rattle.terms.specs.Tokens.{TokenRead, variable, symbol, none, ArityRead}
-use Rattle.terms.proofs.TokenKinds.{variable-token}
+use Rattle.terms.proofs.TokenKinds.{variable-token, symbol-token, no-token}
 use Rattle.terms.proofs.SymbolTokens.{SymbolWritten, symbol-written, symbol-read, slash-no-variable, other-no-token}
 
 -- the test of a digit that holds
@@ -94,3 +95,25 @@ module _ (w : Bytes) where
 
       pub arity-small : digit ≡ true → r ≤ 9
       arity-small h = omega (arith, digit-high (getD w (length w - 1) 0) digit is h)
+
+-- ---- what the token reader's answer tells
+
+pub told-variable : {w : Bytes} {token : Token} → TokenRead w token → token ≡ VariableToken → tokenOf w ≡ variableNamed w
+told-variable (variable h) e = h
+told-variable (symbol name k h few) e = let z : _≡_ {A = ℕ} 0 1 = cc in absurd (omega arith)
+told-variable (none h) e = let z : _≡_ {A = ℕ} 0 1 = cc in absurd (omega arith)
+
+pub told-symbol : {w : Bytes} {token : Token} (k : ℕ) → TokenRead w token → token ≡ Symbol k → (name : Bytes) × (tokenOf w ≡ symbolOf name k)
+told-symbol k (variable h) e = let z : _≡_ {A = ℕ} 0 1 = cc in absurd (omega arith)
+told-symbol k (symbol name j h few) e = let same : j ≡ k = cc in (name, h ∙ ap (symbolOf name) same)
+told-symbol k (none h) e = let z : _≡_ {A = ℕ} 0 1 = cc in absurd (omega arith)
+
+pub told-none : {w : Bytes} {token : Token} → TokenRead w token → token ≡ NoToken → tokenOf w ≡ noToken
+told-none (variable h) e = let z : _≡_ {A = ℕ} 0 1 = cc in absurd (omega arith)
+told-none (symbol name k h few) e = let z : _≡_ {A = ℕ} 0 1 = cc in absurd (omega arith)
+told-none (none h) e = h
+
+pub told-other : {w : Bytes} {token : Token} → TokenRead w token → (token ≡ VariableToken → ⊥) → isVariable w ≡ false
+told-other (variable h) other = absurd (other refl)
+told-other (symbol name k h few) other = symbol-token _ name k h
+told-other (none h) other = no-token _ h

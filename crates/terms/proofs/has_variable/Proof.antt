@@ -1,0 +1,75 @@
+use Prim.Native.Nat.{ℕ, _+_, _-_, _*_, _≤_, _<_}
+use mathlib.Core.Path.{_≡_, refl, ap, sym, _∙_}
+use native.Mathlib.Omega.{arith}
+use lib.ListN.{length, getD, set}
+use mathlib.Core.Logic.{⊎-elim}
+use borrow.Author.Needs.{needs}
+use Rattle.terms.proofs.TermScans.{Seeking, seeking-none, seeking-found, seeking-more, seeking-all}
+use Rattle.terms.specs.declared.Token.the-variants.{Variable}
+use Rattle.terms.proofs.has_variable.Statement.{statement}
+use Rattle.terms.proofs.has_variable.Tie as tie
+use Rattle.terms.proofs.has_variable.Reads as reads
+use Rattle.terms.proofs.has_variable.Lts as lts
+use Rattle.terms.proofs.read_token.Reads as read-token-reads
+use Rattle.text.proofs.find.Reads as find-reads
+
+abbrev Inv-loop : tie.InvT-loop
+Inv-loop field n from₀ from = Seeking field from
+
+abbrev μ-loop : tie.MeasureT-loop
+μ-loop field n from₀ from = length field + 1 - from
+
+loop-holds : tie.Need-loop-holds Inv-loop μ-loop
+loop-holds c = search (needs, seeking-none)
+
+find-requires : tie.Need-find-requires Inv-loop μ-loop
+find-requires c κs = search needs
+
+sub-read-token : tie.Need-sub-read-token Inv-loop μ-loop
+sub-read-token c = search needs
+
+part-read-token-start : tie.Need-part-read-token-start Inv-loop μ-loop
+part-read-token-start c = search needs
+
+part-read-token-end : tie.Need-part-read-token-end Inv-loop μ-loop
+part-read-token-end c = search needs
+
+read-token-requires : tie.Need-read-token-requires Inv-loop μ-loop
+read-token-requires c κs = search needs
+
+enum-told : tie.Need-enum-told Inv-loop μ-loop
+enum-told c = search needs
+
+returns : tie.Need-returns Inv-loop μ-loop
+returns c = search (needs, seeking-found)
+
+add-from : tie.Need-add-from Inv-loop μ-loop
+add-from c = search needs
+
+loop-less : tie.Need-loop-less Inv-loop μ-loop
+loop-less c = search needs
+
+loop-again : tie.Need-loop-again Inv-loop μ-loop
+loop-again c = let other : c .before .read-token .result ≡ Variable → ⊥ = λ e. ⊎-elim (λ k. omega (arith, rw e at k)) (λ k. omega (arith, rw e at k)) (c .match .keys2) in search (needs, seeking-more)
+
+returns-2 : tie.Need-returns-2 Inv-loop μ-loop
+returns-2 c = search (needs, seeking-all)
+
+pub has-variable-spec : {M : Type 1} → statement M
+has-variable-spec =
+    tie.close
+    (tie.spec
+    Inv-loop
+    μ-loop
+    loop-holds
+    find-requires
+    sub-read-token
+    part-read-token-start
+    part-read-token-end
+    read-token-requires
+    enum-told
+    returns
+    add-from
+    loop-less
+    loop-again
+    returns-2)
