@@ -10,6 +10,7 @@ pub mod Scan
 pub mod TokenSums
 pub mod TokenBounds
 pub mod TermScans
+pub mod Measures
 -- a rule's variables, numbered and counted one at a time
 pub mod Numbering
 pub mod Counting

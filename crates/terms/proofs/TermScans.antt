@@ -97,11 +97,12 @@ module _ (field : Bytes) (sum from : ℕ) (c : Adding field sum from) where
     adding-rest : sum + r + constants (partsFrom 32 field (end + 1)) ≡ constants (partsAt 32 field)
     adding-rest =
         let first = first-read (part field from end) (partsFrom 32 field (end + 1)) adding-at in
-        omega
-        (arith,
-        c .rest,
-        ap constants (parts-step 32 field from end inside found),
-        constants-step (part field from end) (partsFrom 32 field (end + 1)) r first (read .0 .ofSymbol) (read .0 .ofVariable))
+        omega (
+          arith,
+          c .rest,
+          ap constants (parts-step 32 field from end inside found),
+          constants-step (part field from end) (partsFrom 32 field (end + 1)) r first (read .0 .ofSymbol) (read .0 .ofVariable),
+        )
 
     pub adding-more : Adding field (sum + r) (end + 1)
     adding-more = record { rest = adding-rest; all = rest-read (part field from end) (partsFrom 32 field (end + 1)) adding-at; high = omega (arith, found .high) }

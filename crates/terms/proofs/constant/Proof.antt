@@ -1,15 +1,10 @@
-use Prim.Native.Nat.{ℕ, _+_, _-_, _*_, _≤_, _<_}
-use mathlib.Core.Path.{_≡_, refl, ap, sym, _∙_}
-use native.Mathlib.Omega.{arith}
-use lib.ListN.{length, getD, set}
+-- `terms::constant` meets its contract: the sum, with the tokens from the place on, is the field's constant. Assumes nothing.
+use Prim.Native.Nat.{_+_, _-_}
+use lib.ListN.{length}
 use borrow.Author.Needs.{needs}
 use Rattle.terms.proofs.TermScans.{Adding, adding-none, adding-more, adding-fits, adding-all}
 use Rattle.terms.proofs.constant.Statement.{statement}
 use Rattle.terms.proofs.constant.Tie as tie
-use Rattle.terms.proofs.constant.Reads as reads
-use Rattle.terms.proofs.constant.Lts as lts
-use Rattle.terms.proofs.arity.Reads as arity-reads
-use Rattle.text.proofs.find.Reads as find-reads
 
 abbrev Inv-loop : tie.InvT-loop
 Inv-loop field n sum₀ from₀ sum from = Adding field sum from

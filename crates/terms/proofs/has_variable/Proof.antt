@@ -1,17 +1,14 @@
-use Prim.Native.Nat.{ℕ, _+_, _-_, _*_, _≤_, _<_}
-use mathlib.Core.Path.{_≡_, refl, ap, sym, _∙_}
-use native.Mathlib.Omega.{arith}
-use lib.ListN.{length, getD, set}
+-- `terms::has_variable` meets its contract: no token before the place is a variable. Assumes nothing.
+use mathlib.Core.Path.{_≡_}
 use mathlib.Core.Logic.{⊎-elim}
+use Prim.Native.Nat.{_+_, _-_}
+use native.Mathlib.Omega.{arith}
+use lib.ListN.{length}
 use borrow.Author.Needs.{needs}
-use Rattle.terms.proofs.TermScans.{Seeking, seeking-none, seeking-found, seeking-more, seeking-all}
 use Rattle.terms.specs.declared.Token.the-variants.{Variable}
+use Rattle.terms.proofs.TermScans.{Seeking, seeking-none, seeking-found, seeking-more, seeking-all}
 use Rattle.terms.proofs.has_variable.Statement.{statement}
 use Rattle.terms.proofs.has_variable.Tie as tie
-use Rattle.terms.proofs.has_variable.Reads as reads
-use Rattle.terms.proofs.has_variable.Lts as lts
-use Rattle.terms.proofs.read_token.Reads as read-token-reads
-use Rattle.text.proofs.find.Reads as find-reads
 
 abbrev Inv-loop : tie.InvT-loop
 Inv-loop field n from₀ from = Seeking field from

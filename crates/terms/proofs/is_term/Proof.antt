@@ -1,17 +1,12 @@
-use Prim.Native.Nat.{ℕ, _+_, _-_, _*_, _≤_, _<_}
-use mathlib.Core.Path.{_≡_, refl, ap, sym, _∙_}
-use native.Mathlib.Omega.{arith}
-use lib.ListN.{length, getD, set}
+-- `terms::is_term` meets its contract: the tokens from the place on, with so many terms wanted, decide whether the field is a term.
+-- Assumes nothing.
 use mathlib.Core.Logic.{⊎-elim}
+use Prim.Native.Nat.{_+_, _-_}
+use lib.ListN.{length}
 use borrow.Author.Needs.{needs}
 use Rattle.terms.proofs.TermScans.{Wanting, wanting-one, wanting-none, wanting-no-token, wanting-variable, wanting-symbol, wanting-fits, wanting-all}
 use Rattle.terms.proofs.is_term.Statement.{statement}
 use Rattle.terms.proofs.is_term.Tie as tie
-use Rattle.terms.proofs.is_term.Reads as reads
-use Rattle.terms.proofs.is_term.Lts as lts
-use Rattle.terms.proofs.read_token.Reads as read-token-reads
-use Rattle.terms.proofs.wide.Reads as wide-reads
-use Rattle.text.proofs.find.Reads as find-reads
 
 abbrev Inv-loop : tie.InvT-loop
 Inv-loop field n wanted₀ from₀ wanted from = Wanting field wanted from
