@@ -65,10 +65,9 @@ pub fn is_term(field: &[u8]) -> bool
     requires { ⌜ length (now field) ≤ 1024 ⌝ }
     ensures { λ r. ⌜ r ≡ isTerm (now (field .entry)) ⌝ }
 {
-    let n = field.len();
     let mut wanted: usize = 1;
     let mut from: usize = 0;
-    while from <= n {
+    while from <= field.len() {
         let end = text::find(field, 32, from);
         if wanted == 0 {
             return false;
@@ -81,9 +80,7 @@ pub fn is_term(field: &[u8]) -> bool
             Token::Symbol(k) => {
                 wanted = wanted - 1 + wide(k);
             }
-            Token::NoToken => {
-                return false;
-            }
+            Token::NoToken => return false,
         }
         from = end + 1;
     }
@@ -105,7 +102,8 @@ fn arity(token: &[u8]) -> usize
     if !is_digit(last) {
         return 0;
     }
-    wide(last - 48)
+    let edges = last - 48;
+    wide(edges)
 }
 
 /// Of a term: the sum of the arities of its symbols.

@@ -26,8 +26,8 @@ is-digit-requires c κs = search needs
 returns-3 : tie.Need-returns-3
 returns-3 c = search (needs, arity-no-digit, not-true)
 
-sub-wide : tie.Need-sub-wide
-sub-wide c = search (needs, digit-low, not-false)
+sub-edges : tie.Need-sub-edges
+sub-edges c = search (needs, digit-low, not-false)
 
 wide-requires : tie.Need-wide-requires
 wide-requires c κs = search needs
@@ -46,6 +46,6 @@ arity-spec =
     shared-slice-read-last
     is-digit-requires
     returns-3
-    sub-wide
+    sub-edges
     wide-requires
     returns-4)

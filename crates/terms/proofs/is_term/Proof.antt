@@ -9,10 +9,10 @@ use Rattle.terms.proofs.is_term.Statement.{statement}
 use Rattle.terms.proofs.is_term.Tie as tie
 
 abbrev Inv-loop : tie.InvT-loop
-Inv-loop field n wanted₀ from₀ wanted from = Wanting field wanted from
+Inv-loop field wanted₀ from₀ wanted from = Wanting field wanted from
 
 abbrev μ-loop : tie.MeasureT-loop
-μ-loop field n wanted₀ from₀ wanted from = length field + 1 - from
+μ-loop field wanted₀ from₀ wanted from = length field + 1 - from
 
 loop-holds : tie.Need-loop-holds Inv-loop μ-loop
 loop-holds c = search (needs, wanting-one)
