@@ -9,5 +9,6 @@ pub mod Counts
 pub mod Fitness
 pub mod Packing
 pub mod WordReading
+pub mod Places
 pub mod NaturalReading
 pub mod IntegerReading
