@@ -10,3 +10,6 @@ pub mod TokenBounds
 -- a rule's variables, numbered and counted one at a time
 pub mod Numbering
 pub mod Counting
+-- what the functions that count a row's occurrences cite
+pub mod RowStores
+pub mod OneOccurrence
