@@ -13,3 +13,7 @@ pub mod Counting
 -- what the functions that count a row's occurrences cite
 pub mod RowStores
 pub mod OneOccurrence
+pub mod VariableTable
+pub mod RowCounting
+pub mod Tally
+pub mod RowLoop

@@ -4,7 +4,7 @@ use mathlib.Core.List.{List, [], _∷_}
 use Prim.Native.Nat.{ℕ, zero, suc, _+_, _≤_, _<_}
 use native.Mathlib.Omega.{arith}
 use borrow.Author.Count.{below-more}
-use lib.IntN.{ℤ, pos}
+use lib.IntN.{ℤ, pos, natAbs}
 use lib.ListN.{length, getD, set, length-set}
 use lib.Seq.{getD-set-other}
 use Rattle.terms.specs.Rows.{Cleared}
@@ -20,6 +20,13 @@ zero-stored : (rows : List ℤ) (i : ℕ) → getD (set rows i (pos 0)) i (pos 0
 zero-stored [] i = refl
 zero-stored (z ∷ rows) zero = refl
 zero-stored (z ∷ rows) (suc i) = zero-stored rows i
+
+pub small-stored : (bound : ℕ) (z : ℤ) → natAbs z ≤ bound → (rows : List ℤ) (i j : ℕ) → natAbs (getD rows j (pos 0)) ≤ bound → natAbs (getD (set rows i z) j (pos 0)) ≤ bound
+small-stored bound z here [] i j h = h
+small-stored bound z here (y ∷ rows) zero zero h = here
+small-stored bound z here (y ∷ rows) zero (suc j) h = h
+small-stored bound z here (y ∷ rows) (suc i) zero h = h
+small-stored bound z here (y ∷ rows) (suc i) (suc j) h = small-stored bound z here rows i j h
 
 module _ (rows₀ : List ℤ) (base : ℕ) where
   pub none-stored : Elsewhere rows₀ base rows₀
