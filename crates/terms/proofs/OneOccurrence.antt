@@ -1,10 +1,10 @@
--- The ways through `count_variable`: the variable has a place, or takes the next one, or there is none left.
-use mathlib.Core.Path.{_≡_, refl, sym, _∙_, ap, subst}
+-- One occurrence of a variable more: the ways through `count_variable`, and what they leave of the table and the row, whatever these held.
+use mathlib.Core.Path.{_≡_, refl, _∙_, ap, subst}
 use mathlib.Core.List.{List}
 use Prim.Native.Nat.{ℕ, _+_, _*_, _^_, _≤_, _<_}
 use native.Mathlib.Omega.{arith}
 use lib.IntN.{ℤ, pos, natAbs, _+ℤ_}
-use lib.ListN.{length, getD, set, length-set}
+use lib.ListN.{length, set, length-set}
 use mir.Syntax.{w64}
 use mir.Val.{SFits, toZ, ofZ}
 use mir.Facts.{toZ-ofZ}
@@ -12,77 +12,77 @@ use Rattle.integers.proofs.Magnitude.{natAbs-add, mag-le-natAbs}
 use Rattle.text.specs.Words.{PlaceOf}
 use Rattle.text.specs.declared.Words.{Words}
 use Rattle.terms.specs.Rows.{SmallRow, CountsOne, known-already, one-more, none-left, past}
-use Rattle.terms.proofs.RowStores.{Elsewhere, one-stored, small-stored}
+use Rattle.terms.proofs.RowStores.{countAt, Elsewhere, none-stored, one-stored, small-stored}
+
+-- ---- the ways through `count_variable`
 
 -- what the code reads of an integer that it keeps as 64 bits
 abbrev kept : ℤ → ℤ
 kept z = toZ w64 (ofZ w64 z)
 
--- a small count, and one more, fit
 fits : (z : ℤ) → natAbs z < 2 ^ 17 → SFits w64 z
 fits z h = record { sfits = omega (arith, mag-le-natAbs z) }
 
-kept-small : (z : ℤ) → natAbs z < 65536 → kept z ≡ z
-kept-small z h = toZ-ofZ (fits z (omega arith))
+module _ (words : Words) (names : List ℕ) (known : ℕ) (rows : List ℤ) (base at : ℕ) (few : known ≤ 16) (place : PlaceOf names known words at) where
+  -- the variable has a place
+  module _ (small : SmallRow rows base) (inside : at < known) where
+    count-small : natAbs (countAt rows base at) < 65536
+    count-small = small .small at (omega arith)
 
-one-fits : (z : ℤ) → natAbs z < 65536 → SFits w64 (z +ℤ pos 1)
-one-fits z h = fits (z +ℤ pos 1) (omega (arith, natAbs-add z (pos 1)))
+    count-kept : kept (countAt rows base at) ≡ countAt rows base at
+    count-kept = toZ-ofZ (fits (countAt rows base at) (omega (arith, count-small)))
 
-module _ (words : Words) (names : List ℕ) (known : ℕ) (rows : List ℤ) (base at : ℕ) where
-  count : ℤ
-  count = getD rows (base + 1 + at) (pos 0)
+    pub count-fits : SFits w64 (kept (countAt rows base at) +ℤ pos 1)
+    count-fits = rw count-kept (fits (countAt rows base at +ℤ pos 1) (omega (arith, count-small, natAbs-add (countAt rows base at) (pos 1))))
 
-  module _ (few : known ≤ 16) (place : PlaceOf names known words at) where
-    module _ (small : SmallRow rows base) (inside : at < known) where
-      pub count-fits : SFits w64 (kept (getD rows (base + 1 + at) (pos 0)) +ℤ pos 1)
-      count-fits = let h = small .small at (omega arith) in rw (kept-small (getD rows (base + 1 + at) (pos 0)) h) (one-fits (getD rows (base + 1 + at) (pos 0)) h)
+    pub counts-known : CountsOne words names known rows base known names (set rows (base + 1 + at) (kept (kept (countAt rows base at) +ℤ pos 1)))
+    counts-known = known-already at inside few place (ap (λ z. set rows (base + 1 + at) z) (toZ-ofZ count-fits ∙ ap (λ z. z +ℤ pos 1) count-kept))
 
-      pub counts-known : CountsOne words names known rows base known names (set rows (base + 1 + at) (kept (kept (getD rows (base + 1 + at) (pos 0)) +ℤ pos 1)))
-      counts-known =
-          let h = small .small at (omega arith) in
-          known-already at inside few place (ap (λ z. set rows (base + 1 + at) z) (toZ-ofZ count-fits ∙ ap (λ z. z +ℤ pos 1) (kept-small (getD rows (base + 1 + at) (pos 0)) h)))
+  -- it has none
+  module _ (behind : known ≤ at) where
+    nowhere : PlaceOf names known words known
+    nowhere = subst (λ (i : ℕ). PlaceOf names known words i) (omega (arith, place .high)) place
 
-    module _ (behind : known ≤ at) where
-      nowhere : PlaceOf names known words known
-      nowhere = subst (λ (i : ℕ). PlaceOf names known words i) (omega (arith, place .high)) place
+    pub counts-new : (known ≡ 16 → ⊥) → CountsOne words names known rows base (known + 1) (set (set names (2 * known) (words .first)) (2 * known + 1) (words .second)) (set rows (base + 1 + known) (pos 1))
+    counts-new room = one-more (omega arith) nowhere refl refl
 
-      pub counts-new : (known ≡ 16 → ⊥) → CountsOne words names known rows base (known + 1) (set (set names (2 * known) (words .first)) (2 * known + 1) (words .second)) (set rows (base + 1 + known) (pos 1))
-      counts-new room = one-more (omega arith) nowhere refl refl
+    pub counts-none : known ≡ 16 → CountsOne words names known rows base 17 names rows
+    counts-none full = none-left full nowhere
 
-      pub counts-none : known ≡ 16 → CountsOne words names known rows base 17 names rows
-      counts-none full = none-left full nowhere
+-- ---- what they leave
 
--- ---- what it leaves, whatever the table held
+pub record Leaves (names : List ℕ) (known : ℕ) (rows : List ℤ) (base r : ℕ) (names₁ : List ℕ) (rows₁ : List ℤ) : Type 0 where
+  pub high : r ≤ 17
+  pub full : known ≡ 17 → r ≡ 17
+  pub nameSize : length names₁ ≡ length names
+  pub elsewhere : Elsewhere rows base rows₁
+  -- a count grows by one at most
+  pub small : (bound : ℕ) → ((i : ℕ) → i < 16 → natAbs (countAt rows base i) ≤ bound) → (i : ℕ) → i < 16 → natAbs (countAt rows₁ base i) ≤ bound + 1
+
+-- nothing is stored
+leaves-all : (names : List ℕ) (known : ℕ) (rows : List ℤ) (base : ℕ) → Leaves names known rows base 17 names rows
+leaves-all names known rows base =
+    record { high = omega arith; full = λ e. refl; nameSize = refl; elsewhere = none-stored rows base; small = λ bound small i h. omega (arith, small i h) }
 
 module _ {words : Words} {names : List ℕ} {known : ℕ} {rows : List ℤ} {base : ℕ} where
-  pub still-high : {r : ℕ} {names' : List ℕ} {rows' : List ℤ} → CountsOne words names known rows base r names' rows' → r ≤ 17
-  still-high (known-already at inside few place stored) = omega arith
-  still-high (one-more few place named stored) = omega arith
-  still-high (none-left full place) = omega arith
-  still-high (past full) = omega arith
-
-  pub still-full : {r : ℕ} {names' : List ℕ} {rows' : List ℤ} → CountsOne words names known rows base r names' rows' → known ≡ 17 → r ≡ 17
-  still-full (known-already at inside few place stored) h = h
-  still-full (one-more few place named stored) h = absurd (omega arith)
-  still-full (none-left full place) h = refl
-  still-full (past full) h = refl
-
-  pub names-size : {r : ℕ} {names' : List ℕ} {rows' : List ℤ} → CountsOne words names known rows base r names' rows' → length names' ≡ length names
-  names-size (known-already at inside few place stored) = refl
-  names-size (one-more few place named stored) = rw named (simp length-set)
-  names-size (none-left full place) = refl
-  names-size (past full) = refl
-
-  pub still-elsewhere : {r : ℕ} {names' : List ℕ} {rows' : List ℤ} → CountsOne words names known rows base r names' rows' → (rows₀ : List ℤ) → Elsewhere rows₀ base rows → Elsewhere rows₀ base rows'
-  still-elsewhere (known-already at inside few place stored) rows₀ before = rw stored (one-stored rows₀ base rows before at (omega arith) _)
-  still-elsewhere (one-more few place named stored) rows₀ before = rw stored (one-stored rows₀ base rows before known few (pos 1))
-  still-elsewhere (none-left full place) rows₀ before = before
-  still-elsewhere (past full) rows₀ before = before
-
-  -- the counts grow by one at most
-  pub still-small : {r : ℕ} {names' : List ℕ} {rows' : List ℤ} → CountsOne words names known rows base r names' rows' → (bound : ℕ) → ((i : ℕ) → i < 16 → natAbs (getD rows (base + 1 + i) (pos 0)) ≤ bound) → (i : ℕ) → i < 16 → natAbs (getD rows' (base + 1 + i) (pos 0)) ≤ bound + 1
-  still-small (known-already at inside few place stored) bound small i h =
-      rw stored (small-stored (bound + 1) _ (omega (arith, natAbs-add (getD rows (base + 1 + at) (pos 0)) (pos 1), small at (omega arith))) rows (base + 1 + at) (base + 1 + i) (omega (arith, small i h)))
-  still-small (one-more few place named stored) bound small i h = rw stored (small-stored (bound + 1) (pos 1) (omega arith) rows (base + 1 + known) (base + 1 + i) (omega (arith, small i h)))
-  still-small (none-left full place) bound small i h = omega (arith, small i h)
-  still-small (past full) bound small i h = omega (arith, small i h)
+  pub leaves : {r : ℕ} {names₁ : List ℕ} {rows₁ : List ℤ} → CountsOne words names known rows base r names₁ rows₁ → Leaves names known rows base r names₁ rows₁
+  leaves (known-already at inside few place stored) =
+      record {
+        high = omega arith;
+        full = λ e. e;
+        nameSize = refl;
+        elsewhere = rw stored (one-stored rows base at (countAt rows base at +ℤ pos 1) (omega arith));
+        small = λ bound small i h.
+            let one : natAbs (countAt rows base at +ℤ pos 1) ≤ bound + 1 = omega (arith, natAbs-add (countAt rows base at) (pos 1), small at (omega arith)) in
+            rw stored (small-stored (bound + 1) (countAt rows base at +ℤ pos 1) one rows (base + 1 + at) (base + 1 + i) (omega (arith, small i h)));
+      }
+  leaves (one-more few place named stored) =
+      record {
+        high = omega arith;
+        full = λ e. absurd (omega arith);
+        nameSize = rw named (simp length-set);
+        elsewhere = rw stored (one-stored rows base known (pos 1) few);
+        small = λ bound small i h. rw stored (small-stored (bound + 1) (pos 1) (omega arith) rows (base + 1 + known) (base + 1 + i) (omega (arith, small i h)));
+      }
+  leaves (none-left full place) = leaves-all names known rows base
+  leaves (past full) = leaves-all names known rows base

@@ -6,8 +6,8 @@ use mathlib.Core.List.{List, [], _∷_, _++_, append-assoc, append-nil}
 use mathlib.Core.Option.{some}
 use Prim.Native.Nat.{ℕ, _+_, _≤_, _<_}
 use native.Mathlib.Omega.{arith}
-use lib.IntN.{ℤ, pos, natAbs}
-use lib.ListN.{length, getD}
+use lib.IntN.{ℤ, natAbs}
+use lib.ListN.{length}
 use denote.Enum.Declared.{tagOf}
 use types.Run.{OneOf}
 use Rattle.theory.specs.Text.{Bytes, isVariable}
@@ -17,14 +17,14 @@ use Rattle.text.specs.Scans.{part, Finds, partsFrom}
 use Rattle.text.specs.Words.{wordsOf, WordRead, name, variable, neither}
 use Rattle.text.specs.declared.Words.{Words}
 use Rattle.text.specs.declared.Word.{Word}
-use Rattle.text.specs.declared.Word.the-variants.{Name, Variable, Neither}
+use Rattle.text.specs.declared.Word.the-variants.{Variable}
 use Rattle.text.proofs.Word.{the-type}
 use Rattle.text.proofs.Cuts.{parts-all, parts-step, parts-done}
 use Rattle.text.proofs.WordLaws.{name-not-variable}
-use Rattle.terms.specs.Rows.{Holds, Cleared, SmallRow, RowFits, CountsOne, RowCounts, CountedFrom, Counted}
+use Rattle.terms.specs.Rows.{Holds, Cleared, SmallRow, RowFits, CountsOne, CountedFrom, Counted}
 use Rattle.terms.proofs.TokenSums.{variableTokens, variable-first, other-first, token-sums}
-use Rattle.terms.proofs.RowStores.{Elsewhere, none-stored}
-use Rattle.terms.proofs.OneOccurrence.{still-high, still-full, names-size, still-elsewhere, still-small}
+use Rattle.terms.proofs.RowStores.{countAt, Elsewhere, none-stored, stored-again}
+use Rattle.terms.proofs.OneOccurrence.{leaves}
 use Rattle.terms.proofs.Tally.{Tallied, all-placed, too-many, one-tallied}
 
 -- the variables of the tokens passed, tallied
@@ -40,7 +40,7 @@ pub record Reached (field : Bytes) (names₀ : List ℕ) (known : ℕ) (rows₀ 
   pub full : 16 < known → many ≡ 17
   pub nameSize : length names ≡ length names₀
   pub elsewhere : Elsewhere rows₀ base rows
-  pub small : (i : ℕ) → i < 16 → natAbs (getD rows (base + 1 + i) (pos 0)) ≤ from
+  pub small : (i : ℕ) → i < 16 → natAbs (countAt rows base i) ≤ from
   pub counting : (seen : List Bytes) → Holds names₀ seen → length seen ≡ known → length rows₀ ≡ 1305 → (t : Term) → readTerm field ≡ some t → Passed field seen t base from many names rows
 
 -- ---- the words of a token
@@ -50,6 +50,7 @@ variable-read words (name h) e = let z : _≡_ {A = ℕ} 0 1 = cc in absurd (ome
 variable-read words (variable h) e = (h, cc)
 variable-read words (neither h k) e = let z : _≡_ {A = ℕ} 0 1 = cc in absurd (omega arith)
 
+-- the tags of `Name` and `Neither`
 other-read : {bs : Bytes} {word : Word} → WordRead bs word → OneOf (0 ∷ 2 ∷ []) (tagOf the-type word) → isVariable bs ≡ false
 other-read {bs} (name h) other = name-not-variable bs h
 other-read (variable h) other = ⊎-elim (λ e. absurd (omega arith)) (λ e. absurd (omega arith)) other
@@ -108,15 +109,15 @@ module _ (field : Bytes) (names₀ : List ℕ) (known : ℕ) (rows₀ : List ℤ
                 };
           }
 
-      pub reached-variable : (words : Words) → word ≡ Variable words → (many' : ℕ) (names' : List ℕ) (rows' : List ℤ) → CountsOne words names many rows base many' names' rows' → Reached field names₀ known rows₀ base (end + 1) many' names' rows'
-      reached-variable words is many' names' rows' counts =
+      pub reached-variable : (words : Words) → word ≡ Variable words → (r : ℕ) (names₁ : List ℕ) (rows₁ : List ℤ) → CountsOne words names many rows base r names₁ rows₁ → Reached field names₀ known rows₀ base (end + 1) r names₁ rows₁
+      reached-variable words is r names₁ rows₁ counts =
           record {
             past = omega (arith, found .high);
-            high = still-high counts;
-            full = λ h. still-full counts (reached .full h);
-            nameSize = names-size counts ∙ reached .nameSize;
-            elsewhere = still-elsewhere counts rows₀ (reached .elsewhere);
-            small = λ i h. omega (arith, still-small counts from (reached .small) i h, found .low);
+            high = leaves counts .high;
+            full = λ h. leaves counts .full (reached .full h);
+            nameSize = leaves counts .nameSize ∙ reached .nameSize;
+            elsewhere = stored-again (reached .elsewhere) (leaves counts .elsewhere);
+            small = λ i h. omega (arith, leaves counts .small from (reached .small) i h, found .low);
             counting = λ seen holds count size t e.
                 let passed = reached .counting seen holds count size t e in
                 let spelled = variable-read words read is in
@@ -132,10 +133,9 @@ module _ (field : Bytes) (names₀ : List ℕ) (known : ℕ) (rows₀ : List ℤ
     -- ---- behind the last token
 
     module _ (behind : length field < from) where
-      all-passed : (seen : List Bytes) (t : Term) → (passed : Passed field seen t base from many names rows) → Tallied seen (variables t) base many names rows
+      all-passed : (seen : List Bytes) (t : Term) → Passed field seen t base from many names rows → Tallied seen (variables t) base many names rows
       unfolding variableTokens
-      all-passed seen t passed =
-          rw (passed .split, parts-done 32 field from behind, append-nil) (passed .tallied)
+      all-passed seen t passed = rw (passed .split, parts-done 32 field from behind, append-nil) (passed .tallied)
 
       counted : (seen : List Bytes) (t : Term) → Tallied seen (variables t) base many names rows → CountedFrom field seen base many names rows t
       counted seen t (all-placed count holds row) = record { few = λ h. count; many = λ h. absurd (omega (arith, holds .few)); holds = λ h. holds; row = λ h. row }
@@ -148,6 +148,7 @@ module _ (field : Bytes) (names₀ : List ℕ) (known : ℕ) (rows₀ : List ℤ
             full = reached .full;
             others = λ i. (λ h. reached .elsewhere .below i h ∙ cleared .below i h, λ h. reached .elsewhere .above i h ∙ cleared .above i h);
             size = reached .elsewhere .size ∙ cleared .size;
+            small = reached-small;
             nameSize = reached .nameSize;
             from = λ seen holds count size t e. counted seen t (all-passed seen t (reached .counting seen holds count (cleared .size ∙ size) t e));
           }

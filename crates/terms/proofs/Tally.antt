@@ -1,5 +1,5 @@
 -- The table of a rule's variables and a row that counts them, when some variables have been counted: one variable more.
-use mathlib.Core.Path.{_≡_, refl, sym, ap, subst}
+use mathlib.Core.Path.{_≡_, refl, ap}
 use mathlib.Core.Bool.{true, false}
 use mathlib.Core.List.{List, [], _∷_, _++_}
 use Prim.Native.Nat.{ℕ, _+_, _≤_, _<_}
@@ -9,7 +9,7 @@ use lib.ListN.{length, getD}
 use Rattle.integers.proofs.Lists.{length-end}
 use Rattle.theory.specs.Text.{Bytes, among, isVariable}
 use Rattle.theory.specs.Residuals.{numbered}
-use Rattle.text.specs.Words.{wordsOf, PlaceOf}
+use Rattle.text.specs.Words.{wordsOf}
 use Rattle.terms.specs.Rows.{Holds, RowCounts, CountsOne, known-already, one-more, none-left, past}
 use Rattle.terms.proofs.Numbering.{place-among, numbered-end-known, numbered-end-new, numbered-grows}
 use Rattle.terms.proofs.VariableTable.{found-is, not-found, holds-more}
@@ -27,19 +27,19 @@ module _ (seen done : List Bytes) (x : Bytes) (proper : isVariable x ≡ true) (
   abbrev next : List Bytes
   next = done ++ (x ∷ [])
 
-  pub one-tallied : {many : ℕ} {names : List ℕ} {rows : List ℤ} {many' : ℕ} {names' : List ℕ} {rows' : List ℤ} → base + 17 ≤ length rows → Tallied seen done base many names rows → CountsOne (wordsOf x) names many rows base many' names' rows' → Tallied seen next base many' names' rows'
-  one-tallied {many} {names} {rows} room (all-placed count holds row) (known-already {rows = rows'} at inside few place stored) =
+  pub one-tallied : {many : ℕ} {names : List ℕ} {rows : List ℤ} {r : ℕ} {names₁ : List ℕ} {rows₁ : List ℤ} → base + 17 ≤ length rows → Tallied seen done base many names rows → CountsOne (wordsOf x) names many rows base r names₁ rows₁ → Tallied seen next base r names₁ rows₁
+  one-tallied {rows = rows} room (all-placed count holds row) (known-already at inside few place stored) =
       let here : getD all at [] ≡ x = found-is x holds proper at (omega arith) (rw count at place) in
       let same : numbered seen next ≡ all = numbered-end-known seen done x (place-among x all at (omega arith) here) in
       all-placed (rw same count) (rw same holds) (rw (same, stored, ← here) (row-known rows base room all done at (omega arith) (holds .once) (omega arith) row))
-  one-tallied {many} {names} {rows} room (all-placed count holds row) (one-more few place named stored) =
+  one-tallied {rows = rows} room (all-placed count holds row) (one-more few place named stored) =
       let new : among x all ≡ false = not-found x holds proper (rw count at place) in
       let more : numbered seen next ≡ all ++ (x ∷ []) = numbered-end-new seen done x new in
       all-placed
       (omega (arith, ap length more, length-end all x))
       (rw (more, named, count) (holds-more x holds proper new (omega arith)))
       (rw (more, stored, count) (row-new rows base room seen done x new (omega arith) row))
-  one-tallied {many} {names} {rows} room (all-placed count holds row) (none-left full place) =
+  one-tallied room (all-placed count holds row) (none-left full place) =
       let more : numbered seen next ≡ all ++ (x ∷ []) = numbered-end-new seen done x (not-found x holds proper (rw count at place)) in
       too-many refl (omega (arith, ap length more, length-end all x))
   one-tallied room (all-placed count holds row) (past full) = absurd (omega (arith, holds .few))

@@ -65,5 +65,6 @@ pub record Counted (field : Bytes) (names₀ : List ℕ) (known : ℕ) (rows₀ 
   pub full : variableLimit < known → r ≡ variableLimit + 1
   pub others : (i : ℕ) → (i ≤ base → getD rows i (pos 0) ≡ getD rows₀ i (pos 0)) × (base + 17 ≤ i → getD rows i (pos 0) ≡ getD rows₀ i (pos 0))
   pub size : length rows ≡ length rows₀
+  pub small : SmallRow rows base
   pub nameSize : length names ≡ length names₀
   pub from : (seen : List Bytes) → Holds names₀ seen → length seen ≡ known → length rows₀ ≡ 1305 → (t : Term) → readTerm field ≡ some t → CountedFrom field seen base r names rows t

@@ -1,113 +1,85 @@
+-- `terms::count_variable` meets its contract. Assumes nothing.
 use borrow.Author.Needs.{needs}
 use Rattle.terms.specs.Rows.{past}
 use Rattle.terms.proofs.OneOccurrence.{count-fits, counts-known, counts-new, counts-none}
 use Rattle.terms.proofs.count_variable.Statement.{statement}
 use Rattle.terms.proofs.count_variable.Tie as tie
-use Rattle.terms.proofs.count_variable.Reads as reads
-use Rattle.terms.proofs.count_variable.Lts as lts
-use Rattle.text.proofs.place.Reads as place-reads
 
--- src/lib.rt:191:9
 returns : tie.Need-returns
 returns c = search (needs, past)
 
--- src/lib.rt:193:9
 place-requires : tie.Need-place-requires
 place-requires c κs = search needs
 
--- src/lib.rt:195:27
 add-before : tie.Need-add-before
 add-before c = search needs
 
--- src/lib.rt:195:27
 add-before-2 : tie.Need-add-before-2
 add-before-2 c = search needs
 
--- src/lib.rt:195:22
 mul-before : tie.Need-mul-before
 mul-before c = search needs
 
--- src/lib.rt:195:22
 element-copy-out-before : tie.Need-element-copy-out-before
 element-copy-out-before c = search needs
 
--- src/lib.rt:196:31
 add-rows : tie.Need-add-rows
 add-rows c = search (needs, count-fits)
 
--- src/lib.rt:196:14
 add-t10 : tie.Need-add-t10
 add-t10 c = search needs
 
--- src/lib.rt:196:14
 add-t12 : tie.Need-add-t12
 add-t12 c = search needs
 
--- src/lib.rt:196:9
 mul-t11 : tie.Need-mul-t11
 mul-t11 c = search needs
 
--- src/lib.rt:196:9
 element-set-from-rows : tie.Need-element-set-from-rows
 element-set-from-rows c = search needs
 
--- src/lib.rt:197:9
 returns-2 : tie.Need-returns-2
 returns-2 c = search (needs, counts-known)
 
--- src/lib.rt:200:9
 returns-3 : tie.Need-returns-3
 returns-3 c = search (needs, counts-none)
 
--- src/lib.rt:202:11
 mul-names : tie.Need-mul-names
 mul-names c = search needs
 
--- src/lib.rt:202:5
 mul-names-2 : tie.Need-mul-names-2
 mul-names-2 c = search needs
 
--- src/lib.rt:202:5
 element-write-names : tie.Need-element-write-names
 element-write-names c = search needs
 
--- src/lib.rt:203:11
 mul-names-3 : tie.Need-mul-names-3
 mul-names-3 c = search needs
 
--- src/lib.rt:203:11
 add-names : tie.Need-add-names
 add-names c = search needs
 
--- src/lib.rt:203:5
 mul-names-4 : tie.Need-mul-names-4
 mul-names-4 c = search needs
 
--- src/lib.rt:203:5
 element-write-names-2 : tie.Need-element-write-names-2
 element-write-names-2 c = search needs
 
--- src/lib.rt:204:10
 add-rows-2 : tie.Need-add-rows-2
 add-rows-2 c = search needs
 
--- src/lib.rt:204:10
 add-rows-3 : tie.Need-add-rows-3
 add-rows-3 c = search needs
 
--- src/lib.rt:204:5
 mul-rows : tie.Need-mul-rows
 mul-rows c = search needs
 
--- src/lib.rt:204:5
 element-set-of-rows : tie.Need-element-set-of-rows
 element-set-of-rows c = search needs
 
--- src/lib.rt:205:5
 add-result : tie.Need-add-result
 add-result c = search needs
 
--- src/lib.rt:180:1
 returns-4 : tie.Need-returns-4
 returns-4 c = search (needs, counts-new)
 
