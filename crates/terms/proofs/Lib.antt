@@ -14,3 +14,10 @@ pub mod Measures
 -- a rule's variables, numbered and counted one at a time
 pub mod Numbering
 pub mod Counting
+-- what the functions that count a row's occurrences cite
+pub mod RowStores
+pub mod OneOccurrence
+pub mod VariableTable
+pub mod RowCounting
+pub mod Tally
+pub mod RowLoop

@@ -71,6 +71,10 @@ numbered-extends seen (x ∷ xs) =
 pub numbered-length : (seen xs : List Bytes) → length seen ≤ length (numbered seen xs)
 numbered-length seen xs = let more = numbered-extends seen xs in omega (arith, ap length (more .1), length-append seen (more .0))
 
+-- one variable more, and there are as many or more
+pub numbered-grows : (seen xs : List Bytes) (x : Bytes) → length (numbered seen xs) ≤ length (numbered seen (xs ++ (x ∷ [])))
+numbered-grows seen xs x = omega (arith, ap length (numbered-end seen xs x), numbered-length (numbered seen xs) (x ∷ []))
+
 pub numbered-place : (seen xs : List Bytes) (i : ℕ) → i < length seen → getD (numbered seen xs) i [] ≡ getD seen i []
 numbered-place seen xs i inside =
     let more = numbered-extends seen xs in

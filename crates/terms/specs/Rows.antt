@@ -16,6 +16,7 @@ use Rattle.text.specs.declared.Words.{Words}
 
 -- the table holds the words of these variables, each once
 pub record Holds (names : List ℕ) (seen : List Bytes) : Type 0 where
+  pub size : length names ≡ 64
   pub few : length seen ≤ variableLimit
   pub words : (i : ℕ) → i < length seen → wordsAt names i ≡ wordsOf (getD seen i [])
   pub proper : (i : ℕ) → i < length seen → isVariable (getD seen i []) ≡ true
@@ -47,9 +48,9 @@ pub record RowFits (field : Bytes) (known base : ℕ) : Type 0 where
   pub few : known ≤ variableLimit + 1
   pub room : base + 17 ≤ 1305
 
--- the row at base counts the occurrences of these variables in a term, with zeros behind
-pub record RowCounts (rows : List ℤ) (base : ℕ) (all : List Bytes) (t : Term) : Type 0 where
-  pub counts : (i : ℕ) → i < length all → getD rows (base + 1 + i) (pos 0) ≡ pos (occurrences (getD all i []) (variables t))
+-- the row at base counts the occurrences of these variables in a list, with zeros behind
+pub record RowCounts (rows : List ℤ) (base : ℕ) (all xs : List Bytes) : Type 0 where
+  pub counts : (i : ℕ) → i < length all → getD rows (base + 1 + i) (pos 0) ≡ pos (occurrences (getD all i []) xs)
   pub zeros : (i : ℕ) → i < variableLimit → length all ≤ i → getD rows (base + 1 + i) (pos 0) ≡ pos 0
 
 -- what counting leaves, where the table held the variables `seen`
@@ -57,12 +58,13 @@ pub record CountedFrom (field : Bytes) (seen : List Bytes) (base r : ℕ) (names
   pub few : length (numbered seen (variables t)) ≤ variableLimit → r ≡ length (numbered seen (variables t))
   pub many : variableLimit < length (numbered seen (variables t)) → r ≡ variableLimit + 1
   pub holds : r ≤ variableLimit → Holds names (numbered seen (variables t))
-  pub row : r ≤ variableLimit → RowCounts rows base (numbered seen (variables t)) t
+  pub row : r ≤ variableLimit → RowCounts rows base (numbered seen (variables t)) (variables t)
 
 pub record Counted (field : Bytes) (names₀ : List ℕ) (known : ℕ) (rows₀ : List ℤ) (base r : ℕ) (names : List ℕ) (rows : List ℤ) : Type 0 where
   pub high : r ≤ variableLimit + 1
   pub full : variableLimit < known → r ≡ variableLimit + 1
   pub others : (i : ℕ) → (i ≤ base → getD rows i (pos 0) ≡ getD rows₀ i (pos 0)) × (base + 17 ≤ i → getD rows i (pos 0) ≡ getD rows₀ i (pos 0))
   pub size : length rows ≡ length rows₀
+  pub small : SmallRow rows base
   pub nameSize : length names ≡ length names₀
-  pub from : (seen : List Bytes) → Holds names₀ seen → length seen ≡ known → (t : Term) → readTerm field ≡ some t → CountedFrom field seen base r names rows t
+  pub from : (seen : List Bytes) → Holds names₀ seen → length seen ≡ known → length rows₀ ≡ 1305 → (t : Term) → readTerm field ≡ some t → CountedFrom field seen base r names rows t

@@ -1,12 +1,12 @@
--- Bytes as a number, the first byte the lowest: the number determines the bytes, and so do a word's two numbers.
+-- Bytes as a number, the first byte the lowest: the number determines the bytes, and so do a word's two numbers. And no name is a variable.
 use mathlib.Core.Path.{_≡_, refl, sym, _∙_, ap, ap₂}
-use mathlib.Core.Bool.{true}
+use mathlib.Core.Bool.{true, false, and-false}
 use mathlib.Core.List.{[], _∷_, _++_}
 use Prim.Native.Nat.{ℕ, _+_, _*_, _≤_, _<_}
 use native.Mathlib.Omega.{arith}
 use lib.ListN.{length, getD, take, drop, take-append-drop}
-use Rattle.integers.proofs.Truth.{and-left}
-use Rattle.theory.specs.Text.{Bytes, every}
+use Rattle.integers.proofs.Truth.{and-left, gt-leb}
+use Rattle.theory.specs.Text.{Bytes, every, isWord, isName, isVariable}
 use Rattle.theory.proofs.Bytes.{isTokenByte, between-low, between-high}
 use Rattle.theory.proofs.Every.{every-first, every-rest}
 use Rattle.text.specs.Words.{number, wordsOf}
@@ -41,3 +41,12 @@ words-equal a b h k e =
     let front : take 8 a ≡ take 8 b = number-equal (take 8 a) (take 8 b) (every-before isTokenByte a 8 h) (every-before isTokenByte b 8 k) (ap (λ w. w .first) e) in
     let back : drop 8 a ≡ drop 8 b = number-equal (drop 8 a) (drop 8 b) (every-behind isTokenByte a 8 h) (every-behind isTokenByte b 8 k) (ap (λ w. w .second) e) in
     sym (take-append-drop 8 a) ∙ ap₂ _++_ front back ∙ take-append-drop 8 b
+
+-- ---- names and variables differ in their first letter
+
+pub name-not-variable : (bs : Bytes) → isName bs ≡ true → isVariable bs ≡ false
+unfolding isWord
+name-not-variable [] h = refl
+name-not-variable (b ∷ bs) h =
+    let low : 97 ≤ b = between-low 97 122 b (and-left _ _ (and-left _ _ h)) in
+    simp (gt-leb b 90 (omega arith), and-false)
