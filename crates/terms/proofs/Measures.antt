@@ -1,6 +1,6 @@
 -- What `measure` answers: each test, and the size where none finds a fault.
 use mathlib.Core.Path.{_≡_, sym, _∙_}
-use mathlib.Core.Bool.{Bool, true, false, not}
+use mathlib.Core.Bool.{Bool, true, false}
 use mathlib.Core.Option.{some}
 use Prim.Native.Nat.{ℕ, _≤_, _<_, _^_}
 use native.Mathlib.Omega.{arith}
@@ -9,9 +9,9 @@ use Rattle.integers.proofs.Truth.{ltb-ge, or-not-left, not-true, not-false}
 use Rattle.theory.specs.declared.Measurement.{Measurement}
 use Rattle.theory.specs.declared.Measurement.the-variants.{Size}
 use Rattle.theory.specs.Text.{Bytes}
-use Rattle.theory.specs.Terms.{Term, readTerm, size, variables}
+use Rattle.theory.specs.Terms.{Term, readTerm, variables}
 use Rattle.theory.specs.Faults.{isUnfit, isTerm, isEmpty}
-use Rattle.theory.specs.Measure.{Measured, measured, measureTerm, measureOf}
+use Rattle.theory.specs.Measure.{measured, measureTerm, measureOf}
 use Rattle.theory.specs.Answers.{measuredOf}
 use Rattle.theory.proofs.Presence.{is-some, is-none}
 use Rattle.terms.specs.Tokens.{ConstantRead, VariableFound}

@@ -2,20 +2,30 @@
 use mathlib.Core.Path.{_≡_, refl, sym, _∙_, ap}
 use mathlib.Core.Bool.{Bool, true, false}
 use mathlib.Core.List.{[], _∷_, _++_}
-use Prim.Native.Nat.{ℕ, suc, _+_, _-_, _≤_, _<_}
+use Prim.Native.Nat.{ℕ, _+_, _-_, _≤_, _<_}
 use native.Mathlib.Omega.{arith}
-use lib.ListN.{length, getD, take, drop, length-append, length-take, drop-of-length-le, take-append-drop}
-use lib.Seq.{take-at, getD-at, getD-append-add, drop-cons}
+use lib.ListN.{length, getD, take, drop, length-append, drop-of-length-le, take-append-drop}
+use lib.Seq.{take-at, getD-at, getD-append-add}
 use Rattle.integers.proofs.Truth.{by-truth, never-both, not-true, equal-eqb}
 use Rattle.integers.proofs.Lists.{getD-member}
 use Rattle.theory.specs.Text.{Bytes, isWord, isDigit, isName, isVariable, isDecimal, valueBehind, decimal}
-use Rattle.theory.specs.Terms.{Token, variableNamed, symbolOf, noToken, symbolToken, tokenOf}
+use Rattle.theory.specs.Terms.{Token, symbolOf, noToken, symbolToken, tokenOf}
 use Rattle.theory.proofs.Bytes.{between-from, between-low, between-high}
 use Rattle.theory.proofs.Every.{every-member}
 use Rattle.theory.proofs.Decimals.{decimal-of-value}
 use Rattle.theory.proofs.Spelling.{variable-no-slash}
 use Rattle.theory.proofs.Tokens.{ReadAs, as-variable, as-symbol, as-none, token-of-symbol, read-as}
 use Rattle.text.proofs.Parts.{drop-more}
+
+abbrev pub lastByte : Bytes → ℕ
+lastByte w = getD w (length w - 1) 0
+
+abbrev pub lastButOne : Bytes → ℕ
+lastButOne w = getD w (length w - 2) 0
+
+-- what stands before the two
+abbrev pub frontOf : Bytes → Bytes
+frontOf w = take (length w - 2) w
 
 decimal-digit : (k : ℕ) → k ≤ 9 → decimal k ≡ (48 + k) ∷ []
 unfolding isDecimal valueBehind
@@ -35,9 +45,9 @@ pub record SymbolWritten (w f : Bytes) (k : ℕ) : Type 0 where
   pub named : isName f ≡ true
   pub few : k ≤ 9
   pub long : 2 < length w
-  pub front : take (length w - 2) w ≡ f
-  pub slash : getD w (length w - 2) 0 ≡ 47
-  pub digit : getD w (length w - 1) 0 ≡ 48 + k
+  pub front : frontOf w ≡ f
+  pub slash : lastButOne w ≡ 47
+  pub digit : lastByte w ≡ 48 + k
 
 symbol-places : (f : Bytes) (k : ℕ) → isName f ≡ true → k ≤ 9 → SymbolWritten (f ++ 47 ∷ (48 + k) ∷ []) f k
 symbol-places f k named few =
@@ -67,31 +77,31 @@ symbol-written w f k e = written (read-as w) e
 
 -- ---- written, then read
 
-module _ (w : Bytes) (long : 2 ≤ length w) (slash : getD w (length w - 2) 0 ≡ 47) where
-  last-two : drop (length w - 2) w ≡ 47 ∷ getD w (length w - 1) 0 ∷ []
+module _ (w : Bytes) (long : 2 ≤ length w) (slash : lastButOne w ≡ 47) where
+  last-two : drop (length w - 2) w ≡ 47 ∷ lastByte w ∷ []
   last-two =
       let next : length w - 2 + 1 ≡ length w - 1 = omega arith in
       let none : drop (length w - 1 + 1) w ≡ [] = drop-of-length-le w {i = length w - 1 + 1} (omega arith) in
       drop-more w (length w - 2) (omega arith) ∙ rw (slash, next, drop-more w (length w - 1) (omega arith), none)
 
-  module _ (digit : isDigit (getD w (length w - 1) 0) ≡ true) (named : isName (take (length w - 2) w) ≡ true) where
-    spelled : w ≡ symbolToken (take (length w - 2) w) (getD w (length w - 1) 0 - 48)
+  module _ (digit : isDigit (lastByte w) ≡ true) (named : isName (frontOf w) ≡ true) where
+    spelled : w ≡ symbolToken (frontOf w) (lastByte w - 48)
     unfolding symbolToken
     spelled =
-        let low : 48 ≤ getD w (length w - 1) 0 = between-low 48 57 _ digit in
-        let high : getD w (length w - 1) 0 ≤ 57 = between-high 48 57 _ digit in
-        let same : 48 + (getD w (length w - 1) 0 - 48) ≡ getD w (length w - 1) 0 = omega arith in
-        sym (take-append-drop (length w - 2) w)
-        ∙ ap (λ (rest : Bytes). take (length w - 2) w ++ rest) (last-two ∙ ap (λ (rest : Bytes). 47 ∷ rest) (sym (decimal-digit (getD w (length w - 1) 0 - 48) (omega arith) ∙ ap (λ (b : ℕ). b ∷ []) same)))
+        let low : 48 ≤ lastByte w = between-low 48 57 _ digit in
+        let high : lastByte w ≤ 57 = between-high 48 57 _ digit in
+        let same : 48 + (lastByte w - 48) ≡ lastByte w = omega arith in
+        let arity : decimal (lastByte w - 48) ≡ lastByte w ∷ [] = decimal-digit (lastByte w - 48) (omega arith) ∙ ap (λ (b : ℕ). b ∷ []) same in
+        sym (take-append-drop (length w - 2) w) ∙ ap (λ (rest : Bytes). frontOf w ++ rest) (last-two ∙ ap (λ (digits : Bytes). 47 ∷ digits) (sym arity))
 
-    pub symbol-read : tokenOf w ≡ symbolOf (take (length w - 2) w) (getD w (length w - 1) 0 - 48)
-    symbol-read = ap tokenOf spelled ∙ token-of-symbol _ _ named (omega (arith, between-high 48 57 (getD w (length w - 1) 0) digit))
+    pub symbol-read : tokenOf w ≡ symbolOf (frontOf w) (lastByte w - 48)
+    symbol-read = ap tokenOf spelled ∙ token-of-symbol _ _ named (omega (arith, between-high 48 57 (lastByte w) digit))
 
   -- a variable has no `/`
   pub slash-no-variable : isVariable w ≡ false
   slash-no-variable =
       by-truth (λ (v : Bool). v ≡ false) (isVariable w)
-      (λ h. never-both (equal-eqb (getD w (length w - 2) 0) 47 slash) (not-true _ (every-member _ (variable-no-slash w h) (getD-member w (length w - 2) 0 (omega arith)))))
+      (λ h. never-both (equal-eqb (lastButOne w) 47 slash) (not-true _ (every-member _ (variable-no-slash w h) (getD-member w (length w - 2) 0 (omega arith)))))
       (λ h. refl)
 
 -- ---- neither a variable nor a symbol

@@ -1,8 +1,7 @@
 -- The loops over the tokens of a field: from a place on, the tokens between spaces.
-use mathlib.Core.Path.{_≡_, refl, sym, _∙_, ap}
-use mathlib.Core.Bool.{Bool, true, false, not}
-use mathlib.Core.List.{[], _∷_}
-use mathlib.Core.Option.{some}
+use mathlib.Core.Path.{_≡_, sym, _∙_, ap}
+use mathlib.Core.Bool.{true, false}
+use mathlib.Core.List.{_∷_}
 use Prim.Native.Nat.{ℕ, suc, _+_, _-_, _*_, _≤_, _<_}
 use native.Mathlib.Omega.{arith}
 use lib.Dec.{eqb}
@@ -10,16 +9,14 @@ use lib.ListN.{length}
 use mir.Syntax.{w64}
 use mir.Val.{Fits}
 use Rattle.theory.specs.Text.{Bytes, partsAt}
-use Rattle.theory.specs.Terms.{variableNamed, symbolOf, noToken, tokenOf}
 use Rattle.theory.specs.Faults.{isEmpty, isTerm}
-use Rattle.theory.proofs.Presence.{empty-is, filled-is}
 use Rattle.text.specs.Scans.{part, Finds, partsFrom}
 use Rattle.text.proofs.Cuts.{parts-all, parts-done, parts-step}
 use Rattle.terms.specs.declared.Token.{Token}
 use Rattle.terms.specs.declared.Token.the-variants.{Variable, Symbol, NoToken}
 use Rattle.terms.specs.Tokens.{TokenRead, ArityRead, ConstantRead, VariableFound}
 use Rattle.terms.proofs.TokenReading.{told-variable, told-symbol, told-none, told-other}
-use Rattle.terms.proofs.TokenKinds.{AllRead, first-read, rest-read, variable-token, symbol-token, no-token}
+use Rattle.terms.proofs.TokenKinds.{AllRead, first-read, rest-read, variable-token}
 use Rattle.terms.proofs.Scan.{scan, scan-unwanted, scan-takes-variable, scan-takes-symbol, scan-no-token, scan-end, scan-is-term}
 use Rattle.terms.proofs.TokenSums.{constants, variableTokens, constants-step, variable-first, other-first, token-sums, all-tokens-read}
 use Rattle.terms.proofs.TokenBounds.{wanted-behind, constants-small}
@@ -41,16 +38,16 @@ module _ (field : Bytes) (wanted from : ℕ) (c : Wanting field wanted from) whe
     wanting-at = ap (scan wanted) (sym (parts-step 32 field from end inside found)) ∙ c .rest
 
     pub wanting-none : wanted ≡ 0 → false ≡ isTerm field
-    wanting-none e = sym (rw e (scan-unwanted (part field from end) (partsFrom 32 field (end + 1)))) ∙ wanting-at
+    wanting-none e = sym (rw e (scan-unwanted _ _)) ∙ wanting-at
 
     module _ (token : Token) (read : TokenRead (part field from end) token) where
       pub wanting-no-token : token ≡ NoToken → false ≡ isTerm field
-      wanting-no-token e = sym (scan-no-token (part field from end) (partsFrom 32 field (end + 1)) wanted (told-none read e)) ∙ wanting-at
+      wanting-no-token e = sym (scan-no-token _ _ wanted (told-none read e)) ∙ wanting-at
 
       module _ (any : wanted ≡ 0 → ⊥) where
         pub wanting-variable : token ≡ Variable → (now : ℕ) → now ≡ wanted - 1 → Wanting field now (end + 1)
         wanting-variable e now is = record {
-          rest = rw is (sym (scan-takes-variable (part field from end) (partsFrom 32 field (end + 1)) wanted (omega arith) (told-variable read e)) ∙ wanting-at);
+          rest = rw is (sym (scan-takes-variable _ _ wanted (omega arith) (told-variable read e)) ∙ wanting-at);
           small = omega (arith, c .small, found .low);
           high = omega (arith, found .high);
         }
@@ -64,7 +61,7 @@ module _ (field : Bytes) (wanted from : ℕ) (c : Wanting field wanted from) whe
               let name = told-symbol k read e in
               let same : now ≡ wanted - 1 + k = omega arith in
               record {
-                rest = rw same (sym (scan-takes-symbol (part field from end) (partsFrom 32 field (end + 1)) wanted (name .0) k (omega arith) (name .1)) ∙ wanting-at);
+                rest = rw same (sym (scan-takes-symbol _ _ wanted (name .0) k (omega arith) (name .1)) ∙ wanting-at);
                 small = omega (arith, wanted-small, found .low);
                 high = omega (arith, found .high);
               }
@@ -96,7 +93,7 @@ module _ (field : Bytes) (sum from : ℕ) (c : Adding field sum from) where
 
     adding-rest : sum + r + constants (partsFrom 32 field (end + 1)) ≡ constants (partsAt 32 field)
     adding-rest =
-        let first = first-read (part field from end) (partsFrom 32 field (end + 1)) adding-at in
+        let first = first-read _ _ adding-at in
         omega (
           arith,
           c .rest,
@@ -105,7 +102,7 @@ module _ (field : Bytes) (sum from : ℕ) (c : Adding field sum from) where
         )
 
     pub adding-more : Adding field (sum + r) (end + 1)
-    adding-more = record { rest = adding-rest; all = rest-read (part field from end) (partsFrom 32 field (end + 1)) adding-at; high = omega (arith, found .high) }
+    adding-more = record { rest = adding-rest; all = rest-read _ _ adding-at; high = omega (arith, found .high) }
 
     pub adding-fits : length field ≤ 1024 → Fits w64 (sum + r)
     adding-fits short = omega (arith, adding-rest, constants-small field short)
@@ -132,11 +129,11 @@ module _ (field : Bytes) (from : ℕ) (c : Seeking field from) where
     pub seeking-found : token ≡ Variable → VariableFound field true
     unfolding isEmpty
     seeking-found e = record {
-      is = λ t h. rw (sym (token-sums field t h .names) ∙ sym seeking-at ∙ variable-first (part field from end) (partsFrom 32 field (end + 1)) (variable-token (part field from end) .0 (told-variable read e)));
+      is = λ t h. rw (sym (token-sums field t h .names) ∙ sym seeking-at ∙ variable-first _ _ (variable-token (part field from end) .0 (told-variable read e)));
     }
 
     pub seeking-more : (token ≡ Variable → ⊥) → Seeking field (end + 1)
-    seeking-more other = record { rest = sym (other-first (part field from end) (partsFrom 32 field (end + 1)) (told-other read other)) ∙ seeking-at; high = omega (arith, found .high) }
+    seeking-more other = record { rest = sym (other-first _ _ (told-other read other)) ∙ seeking-at; high = omega (arith, found .high) }
 
   pub seeking-all : length field < from → VariableFound field false
   unfolding variableTokens isEmpty

@@ -3,7 +3,7 @@ use mathlib.Core.Path.{_≡_, refl, sym, _∙_, ap}
 use mathlib.Core.Bool.{Bool, true, false}
 use Prim.Native.Nat.{ℕ, _-_, _≤_, _<_}
 use native.Mathlib.Omega.{arith}
-use lib.ListN.{length, getD, take}
+use lib.ListN.{length}
 use Rattle.integers.proofs.Truth.{never-both}
 use Rattle.theory.specs.Text.{Bytes, isDigit, isName, isVariable}
 use Rattle.theory.specs.Terms.{variableNamed, symbolOf, noToken, tokenOf}
@@ -19,7 +19,7 @@ use Rattle.terms.specs.declared.Token.the-variants.{Symbol, NoToken}
 use Rattle.terms.specs.declared.Token.the-variants.{Variable as VariableToken}
 use Rattle.terms.specs.Tokens.{TokenRead, variable, symbol, none, ArityRead}
 use Rattle.terms.proofs.TokenKinds.{variable-token, symbol-token, no-token}
-use Rattle.terms.proofs.SymbolTokens.{SymbolWritten, symbol-written, symbol-read, slash-no-variable, other-no-token}
+use Rattle.terms.proofs.SymbolTokens.{lastByte, lastButOne, frontOf, SymbolWritten, symbol-written, symbol-read, slash-no-variable, other-no-token}
 
 -- the test of a digit that holds
 pub digit-low : (b : ℕ) (digit : Bool) → digit ≡ isDigit b → digit ≡ true → 48 ≤ b
@@ -29,24 +29,24 @@ pub digit-high : (b : ℕ) (digit : Bool) → digit ≡ isDigit b → digit ≡ 
 digit-high b digit e h = between-high 48 57 b (sym e ∙ h)
 
 -- the last byte of a symbol's token is a digit
-symbol-digit : (w f : Bytes) (k : ℕ) → SymbolWritten w f k → isDigit (getD w (length w - 1) 0) ≡ true
-symbol-digit w f k s = between-from 48 57 (getD w (length w - 1) 0) (omega (arith, s .digit)) (omega (arith, s .digit, s .few))
+symbol-digit : (w f : Bytes) (k : ℕ) → SymbolWritten w f k → isDigit (lastByte w) ≡ true
+symbol-digit w f k s = between-from 48 57 (lastByte w) (omega (arith, s .digit)) (omega (arith, s .digit, s .few))
 
 -- ---- a token, where a `/` is the last byte but one
 
-module _ (w : Bytes) (long : 2 < length w) (slash : getD w (length w - 2) 0 ≡ 47) (digit : Bool) (is : digit ≡ isDigit (getD w (length w - 1) 0)) where
+module _ (w : Bytes) (long : 2 < length w) (slash : lastButOne w ≡ 47) (digit : Bool) (is : digit ≡ isDigit (lastByte w)) where
   refused : ((f : Bytes) (k : ℕ) → SymbolWritten w f k → ⊥) → TokenRead w NoToken
   refused unwritten = none (other-no-token w (slash-no-variable w (omega arith) slash) unwritten)
 
   pub read-no-digit : digit ≡ false → TokenRead w NoToken
   read-no-digit h = refused λ f k s. never-both (symbol-digit w f k s) (sym is ∙ h)
 
-  module _ (word : Word) (read : WordRead (take (length w - 2) w) word) where
-    pub read-symbol : digit ≡ true → (words : Words) → word ≡ Name words → TokenRead w (Symbol (getD w (length w - 1) 0 - 48))
+  module _ (word : Word) (read : WordRead (frontOf w) word) where
+    pub read-symbol : digit ≡ true → (words : Words) → word ≡ Name words → TokenRead w (Symbol (lastByte w - 48))
     read-symbol h words e =
-        symbol (take (length w - 2) w) (getD w (length w - 1) 0 - 48) (symbol-read w (omega arith) slash (sym is ∙ h) (name-told read ∙ ap isNameWord e)) (omega (arith, digit-high (getD w (length w - 1) 0) digit is h))
+        symbol (frontOf w) (lastByte w - 48) (symbol-read w (omega arith) slash (sym is ∙ h) (name-told read ∙ ap isNameWord e)) (omega (arith, digit-high (lastByte w) digit is h))
 
-    no-name : isName (take (length w - 2) w) ≡ false → TokenRead w NoToken
+    no-name : isName (frontOf w) ≡ false → TokenRead w NoToken
     no-name other = refused λ f k s. never-both (ap isName (s .front) ∙ s .named) other
 
     pub read-variable-arity : (words : Words) → word ≡ Variable words → TokenRead w NoToken
@@ -57,7 +57,7 @@ module _ (w : Bytes) (long : 2 < length w) (slash : getD w (length w - 2) 0 ≡ 
 
 -- ---- a token, where no `/` is
 
-module _ (w : Bytes) (no-slash : 2 < length w → getD w (length w - 2) 0 ≡ 47 → ⊥) (word : Word) (read : WordRead w word) where
+module _ (w : Bytes) (no-slash : 2 < length w → lastButOne w ≡ 47 → ⊥) (word : Word) (read : WordRead w word) where
   pub read-variable : (words : Words) → word ≡ Variable words → TokenRead w VariableToken
   read-variable words e = variable (token-of-variable w (variable-told read ∙ ap isVariableWord e))
 
@@ -79,22 +79,22 @@ module _ (w : Bytes) where
   pub arity-short : length w < 2 → ArityRead w 0
   arity-short short = arity-none λ f k s. omega (arith, s .long)
 
-  pub arity-no-slash : (getD w (length w - 2) 0 ≡ 47 → ⊥) → ArityRead w 0
+  pub arity-no-slash : (lastButOne w ≡ 47 → ⊥) → ArityRead w 0
   arity-no-slash other = arity-none λ f k s. other (s .slash)
 
-  module _ (digit : Bool) (is : digit ≡ isDigit (getD w (length w - 1) 0)) where
+  module _ (digit : Bool) (is : digit ≡ isDigit (lastByte w)) where
     pub arity-no-digit : digit ≡ false → ArityRead w 0
     arity-no-digit h = arity-none λ f k s. never-both (symbol-digit w f k s) (sym is ∙ h)
 
-    module _ (r : ℕ) (worth : r ≡ getD w (length w - 1) 0 - 48) where
-      pub arity-digit : 2 ≤ length w → getD w (length w - 2) 0 ≡ 47 → ArityRead w r
+    module _ (r : ℕ) (worth : r ≡ lastByte w - 48) where
+      pub arity-digit : 2 ≤ length w → lastButOne w ≡ 47 → ArityRead w r
       arity-digit long slash = record {
         ofSymbol = λ f k e. omega (arith, symbol-written w f k e .digit);
         ofVariable = λ e. never-both (variable-token w .0 e) (slash-no-variable w long slash);
       }
 
       pub arity-small : digit ≡ true → r ≤ 9
-      arity-small h = omega (arith, digit-high (getD w (length w - 1) 0) digit is h)
+      arity-small h = omega (arith, digit-high (lastByte w) digit is h)
 
 -- ---- what the token reader's answer tells
 

@@ -47,7 +47,9 @@ loop-less : tie.Need-loop-less Inv-loop μ-loop
 loop-less c = search needs
 
 loop-again : tie.Need-loop-again Inv-loop μ-loop
-loop-again c = let other : c .before .read-token .result ≡ Variable → ⊥ = λ e. ⊎-elim (λ k. omega (arith, rw e at k)) (λ k. omega (arith, rw e at k)) (c .match .keys2) in search (needs, seeking-more)
+loop-again c =
+    let other : c .before .read-token .result ≡ Variable → ⊥ = λ e. ⊎-elim (λ tag. omega (arith, rw e at tag)) (λ tag. omega (arith, rw e at tag)) (c .match .keys2) in
+    search (needs, seeking-more)
 
 returns-2 : tie.Need-returns-2 Inv-loop μ-loop
 returns-2 c = search (needs, seeking-all)
