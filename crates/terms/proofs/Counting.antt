@@ -30,7 +30,7 @@ occurrences-other x ys y differ =
     occurrences-end x ys y
     ∙ by-truth (λ b. occurrences x ys + cond b 1 0 ≡ occurrences x ys) (same x y) (λ h. absurd (differ (same-equal x y h))) (λ h. omega arith)
 
-occurrences-absent : (x : Bytes) (ys : List Bytes) → (x ∈ ys → ⊥) → occurrences x ys ≡ 0
+pub occurrences-absent : (x : Bytes) (ys : List Bytes) → (x ∈ ys → ⊥) → occurrences x ys ≡ 0
 unfolding occurrences
 occurrences-absent x [] absent = refl
 occurrences-absent x (y ∷ ys) absent =

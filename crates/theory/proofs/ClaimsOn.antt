@@ -9,15 +9,15 @@ use Rattle.integers.proofs.Truth.{by-truth}
 use Rattle.theory.specs.Packs.{Claim, Key, sameKey, claimKey, claimsOn}
 use Rattle.theory.proofs.Keys.{sameKey-refl, sameKey-equal}
 
-claimsOn-kept : (k : Key) (c : Claim) (cs : List Claim) → sameKey k (claimKey c) ≡ true → claimsOn k (c ∷ cs) ≡ c ∷ claimsOn k cs
+pub claimsOn-kept : (k : Key) (c : Claim) (cs : List Claim) → sameKey k (claimKey c) ≡ true → claimsOn k (c ∷ cs) ≡ c ∷ claimsOn k cs
 unfolding claimsOn
 claimsOn-kept k c cs e = rw e
 
-claimsOn-left-out : (k : Key) (c : Claim) (cs : List Claim) → sameKey k (claimKey c) ≡ false → claimsOn k (c ∷ cs) ≡ claimsOn k cs
+pub claimsOn-left-out : (k : Key) (c : Claim) (cs : List Claim) → sameKey k (claimKey c) ≡ false → claimsOn k (c ∷ cs) ≡ claimsOn k cs
 unfolding claimsOn
 claimsOn-left-out k c cs e = rw e
 
-claimsOn-append : (k : Key) (cs ds : List Claim) → claimsOn k (cs ++ ds) ≡ claimsOn k cs ++ claimsOn k ds
+pub claimsOn-append : (k : Key) (cs ds : List Claim) → claimsOn k (cs ++ ds) ≡ claimsOn k cs ++ claimsOn k ds
 unfolding claimsOn
 claimsOn-append k [] ds = refl
 claimsOn-append k (c ∷ cs) ds =

@@ -1,4 +1,4 @@
--- The variables of a rule with fewer subgoals are no more.
+-- The variables of a rule with more subgoals: those of the rule with fewer, and then the others. So they are no fewer.
 use mathlib.Core.Path.{_≡_, refl, sym, _∙_, ap, subst}
 use mathlib.Core.Bool.{Bool, true, false, cond}
 use mathlib.Core.List.{List, [], _∷_, _++_, append-assoc}
@@ -21,7 +21,7 @@ seen-are-fewer seen (x ∷ xs) = le-trans (more (among x seen)) (seen-are-fewer 
     more true = le-refl _
     more false = omega (arith, length-end seen x)
 
-numbered-append : (seen xs ys : List Bytes) → numbered seen (xs ++ ys) ≡ numbered (numbered seen xs) ys
+pub numbered-append : (seen xs ys : List Bytes) → numbered seen (xs ++ ys) ≡ numbered (numbered seen xs) ys
 unfolding numbered
 numbered-append seen [] ys = refl
 numbered-append seen (x ∷ xs) ys = numbered-append (cond (among x seen) seen (seen ++ (x ∷ []))) xs ys
@@ -31,10 +31,10 @@ unfolding atomsVariables
 atomsVariables-append [] rest = refl
 atomsVariables-append (a ∷ first) rest = ap (λ (l : List Bytes). allVariables (a .terms) ++ l) (atomsVariables-append first rest) ∙ sym (append-assoc (allVariables (a .terms)) (atomsVariables first) (atomsVariables rest))
 
-pub variables-of-fewer : (head : Atom) (before behind : List Atom) → length (ruleVariables head before) ≤ length (ruleVariables head (before ++ behind))
+pub variables-of-more : (head : Atom) (before behind : List Atom) → ruleVariables head (before ++ behind) ≡ numbered (ruleVariables head before) (atomsVariables behind)
 unfolding ruleVariables
+variables-of-more head before behind = ap (numbered []) (atomsVariables-append (head ∷ before) behind) ∙ numbered-append [] (atomsVariables (head ∷ before)) (atomsVariables behind)
+
+pub variables-of-fewer : (head : Atom) (before behind : List Atom) → length (ruleVariables head before) ≤ length (ruleVariables head (before ++ behind))
 variables-of-fewer head before behind =
-    subst (λ (l : List Bytes). length (ruleVariables head before) ≤ length l) (sym appended) (seen-are-fewer (ruleVariables head before) (atomsVariables behind))
-  where
-    appended : ruleVariables head (before ++ behind) ≡ numbered (ruleVariables head before) (atomsVariables behind)
-    appended = ap (numbered []) (atomsVariables-append (head ∷ before) behind) ∙ numbered-append [] (atomsVariables (head ∷ before)) (atomsVariables behind)
+    subst (λ (l : List Bytes). length (ruleVariables head before) ≤ length l) (sym (variables-of-more head before behind)) (seen-are-fewer (ruleVariables head before) (atomsVariables behind))

@@ -1,0 +1,16 @@
+-- The predicate that a name means.
+pub mod Lookup
+-- A line's first field and its letter, and the letters that may stand here.
+pub mod FirstField
+pub mod Standing
+-- A line's second field as a name.
+pub mod NameReading
+-- The tests of a line, one after another.
+pub mod LetterTests
+pub mod LineTests
+-- What the functions' proofs cite.
+pub mod NamedPredicate
+pub mod Outcomes
+pub mod LetterOpening
+pub mod LineOpening
+pub mod Sums

@@ -1,0 +1,7 @@
+-- Laws that callers use: Weighing's weighs-small and head-summable. The rest is for the functions' own proofs.
+pub mod Fits
+pub mod Stretches
+pub mod Rows
+pub mod Signs
+pub mod Weighing
+pub mod Sums

@@ -1,0 +1,181 @@
+-- The tables and the state, and how they stand for what the lines so far write.
+use mathlib.Core.Path.{_≡_}
+use mathlib.Core.Bool.{Bool, true, false, not}
+use mathlib.Core.List.{List, []}
+use Prim.Native.Nat.{ℕ, zero, suc, _+_, _*_, _≤_, _<_}
+use lib.IntN.{ℤ, pos, natAbs}
+use lib.ListN.{length, getD}
+use Rattle.theory.specs.Text.{Bytes, isName}
+use Rattle.theory.specs.Terms.{Term, Terms, variable, nil, cons, arity}
+use Rattle.theory.specs.Forms.{zeroForm, formOf}
+use Rattle.theory.specs.Packs.{Kind, given, ruled, Predicate, Claim, Atom, Rule, Pack, variableLimit, Key, keyOf, atomKey, claimsOn, claimsOnAll}
+use Rattle.theory.specs.Written.{Written}
+use Rattle.theory.specs.Residuals.{claimForm, subgoalForms, ruleVariables}
+use Rattle.theory.specs.Faults.{isEmpty, lastRule, noClaim}
+use Rattle.theory.specs.Check.{multiplierLines}
+use Rattle.text.specs.Words.{wordsOf, wordsAt}
+use Rattle.terms.specs.Rows.{Holds as HoldsVariables}
+use Rattle.tables.specs.declared.State.{State}
+
+-- what the arrays hold
+pub record Tables : Type 0 where
+  pub names : List ℕ
+  pub facts : List ℕ
+  pub claims : List ℤ
+  pub variables : List ℕ
+  pub numbers : List ℤ
+  pub slots : List ℕ
+
+abbrev pub tables : List ℕ → List ℕ → List ℤ → List ℕ → List ℤ → List ℕ → Tables
+tables n f c v m s = record { names = n; facts = f; claims = c; variables = v; numbers = m; slots = s }
+
+pub record Sizes (t : Tables) : Type 0 where
+  pub names : length (t .names) ≡ 64
+  pub facts : length (t .facts) ≡ 96
+  pub claims : length (t .claims) ≡ 4608
+  pub variables : length (t .variables) ≡ 64
+  pub numbers : length (t .numbers) ≡ 1305
+  pub slots : length (t .slots) ≡ 256
+
+-- ## Ranges, whatever the lines write: what the code needs to be safe
+
+pub record SafeState (s : State) : Type 0 where
+  pub predicates : s .predicates ≤ 32
+  pub rules : s .rules ≤ 64
+  pub head : s .head < 32
+  pub subgoals : s .subgoals ≤ 8
+  pub variables : s .variables ≤ 16
+  pub slots : s .slots ≤ 16 * s .subgoals
+  pub multipliers : s .multipliers ≤ 16
+  pub lines : s .«multiplier_lines» ≤ 16 * s .rules + s .multipliers
+
+pub record SafeFacts (facts : List ℕ) : Type 0 where
+  pub arity : (i : ℕ) → i < 32 → getD facts i 0 ≤ 8
+  pub count : (i : ℕ) → i < 32 → getD facts (64 + i) 0 ≤ 16
+
+pub record SafeClaims (claims : List ℤ) : Type 0 where
+  pub small : (i : ℕ) → natAbs (getD claims i (pos 0)) ≤ 9999
+
+-- rows of terms that stand in lines, and weights between lines
+pub record SafeNumbers (numbers : List ℤ) : Type 0 where
+  pub small : (i : ℕ) → natAbs (getD numbers i (pos 0)) < 65536
+
+pub record SafeSlots (slots : List ℕ) (n : ℕ) : Type 0 where
+  pub place : (k : ℕ) → k < n → getD slots k 0 + 9 ≤ 4608
+  pub subgoal : (k : ℕ) → k < n → getD slots (128 + k) 0 < 8
+
+-- ## Predicates
+
+abbrev pub noPredicate : Predicate
+noPredicate = record { name = []; arguments = 0; kind = ruled }
+
+-- the predicate at a place, from 0
+abbrev pub predicateAt : List Predicate → ℕ → Predicate
+predicateAt ps i = getD ps i noPredicate
+
+abbrev pub flag : Kind → ℕ
+flag given = 1
+flag ruled = 0
+
+pub record Declares (names facts : List ℕ) (known : ℕ) (ps : List Predicate) : Type 0 where
+  pub count : length ps ≡ known
+  pub words : (i : ℕ) → i < known → wordsAt names i ≡ wordsOf (predicateAt ps i .name)
+  pub named : (i : ℕ) → i < known → isName (predicateAt ps i .name) ≡ true
+  pub arity : (i : ℕ) → i < known → getD facts i 0 ≡ predicateAt ps i .arguments
+  pub kind : (i : ℕ) → i < known → getD facts (32 + i) 0 ≡ flag (predicateAt ps i .kind)
+  pub distinct : (i j : ℕ) → i < known → j < known → keyOf (predicateAt ps i) ≡ keyOf (predicateAt ps j) → i ≡ j
+
+-- ## Claims
+
+-- a claim's numbers from a place of the table on, zeros behind the last
+pub record ClaimAt (claims : List ℤ) (place : ℕ) (c : Claim) : Type 0 where
+  pub constant : getD claims place (pos 0) ≡ c .constant
+  pub coefficient : (k : ℕ) → k < 8 → getD claims (place + 1 + k) (pos 0) ≡ getD (c .coefficients) k (pos 0)
+
+pub record HoldsClaims (facts : List ℕ) (claims : List ℤ) (ps : List Predicate) (cs : List Claim) : Type 0 where
+  pub count : (i : ℕ) → i < length ps → getD facts (64 + i) 0 ≡ length (claimsOn (keyOf (predicateAt ps i)) cs)
+  pub none : (i : ℕ) → length ps ≤ i → i < 32 → getD facts (64 + i) 0 ≡ 0
+  pub at : (i j : ℕ) → i < length ps → j < length (claimsOn (keyOf (predicateAt ps i)) cs) → ClaimAt claims ((i * 16 + j) * 9) (getD (claimsOn (keyOf (predicateAt ps i)) cs) j noClaim)
+  pub full : (i j : ℕ) → i < length ps → j < length (claimsOn (keyOf (predicateAt ps i)) cs) → length (getD (claimsOn (keyOf (predicateAt ps i)) cs) j noClaim .coefficients) ≡ predicateAt ps i .arguments
+
+-- ## The last rule
+
+-- the argument at a place, from 0
+unfoldable pub argument : Terms → ℕ → Term
+argument nil k = variable []
+argument (cons t ts) zero = t
+argument (cons t ts) (suc k) = argument ts k
+
+-- the row from base on is the form of a term over a rule's variables, zeros behind the last
+pub record RowStands (numbers : List ℤ) (base : ℕ) (xs : List Bytes) (t : Term) : Type 0 where
+  pub constant : getD numbers base (pos 0) ≡ formOf t .constant
+  pub coefficient : (i : ℕ) → i < length xs → getD numbers (base + 1 + i) (pos 0) ≡ formOf t .coefficient (getD xs i [])
+  pub beyond : (i : ℕ) → length xs ≤ i → i < 16 → getD numbers (base + 1 + i) (pos 0) ≡ pos 0
+
+-- the rows of an atom: the head is atom 0, the subgoal at place s atom s + 1
+pub record AtomStands (numbers : List ℤ) (atom : ℕ) (xs : List Bytes) (ts : Terms) : Type 0 where
+  pub few : arity ts ≤ 8
+  pub row : (k : ℕ) → k < arity ts → RowStands numbers (81 + (atom * 8 + k) * 17) xs (argument ts k)
+
+abbrev pub noAtom : Atom
+noAtom = record { name = []; terms = nil }
+
+abbrev pub subgoalAt : List Atom → ℕ → Atom
+subgoalAt subgoals s = getD subgoals s noAtom
+
+-- the kth claim on the subgoals' predicates: where it stands, and of which subgoal it is
+pub record SlotStands (claims : List ℤ) (slots : List ℕ) (cs : List Claim) (subgoals : List Atom) (k : ℕ) : Type 0 where
+  pub claim : ClaimAt claims (getD slots k 0) (getD (claimsOnAll cs subgoals) k noClaim)
+  pub subgoal : getD slots (128 + k) 0 < length subgoals
+  pub form : getD (subgoalForms cs subgoals) k zeroForm ≡ claimForm (subgoalAt subgoals (getD slots (128 + k) 0)) (getD (claimsOnAll cs subgoals) k noClaim)
+  pub full : length (getD (claimsOnAll cs subgoals) k noClaim .coefficients) ≡ arity (subgoalAt subgoals (getD slots (128 + k) 0) .terms)
+
+pub record RuleStands (t : Tables) (s : State) (p : Pack) (r : Rule) : Type 0 where
+  pub head : s .head < length (p .predicates)
+  pub headKey : keyOf (predicateAt (p .predicates) (s .head)) ≡ atomKey (r .head)
+  pub headFull : arity (r .head .terms) ≡ predicateAt (p .predicates) (s .head) .arguments
+  pub subgoals : s .subgoals ≡ length (r .subgoals)
+  pub variables : s .variables ≡ length (ruleVariables (r .head) (r .subgoals))
+  pub holdsVariables : HoldsVariables (t .variables) (ruleVariables (r .head) (r .subgoals))
+  pub headRows : AtomStands (t .numbers) 0 (ruleVariables (r .head) (r .subgoals)) (r .head .terms)
+  pub subgoalRows : (i : ℕ) → i < length (r .subgoals) → AtomStands (t .numbers) (suc i) (ruleVariables (r .head) (r .subgoals)) (subgoalAt (r .subgoals) i .terms)
+  pub slots : s .slots ≡ length (claimsOnAll (p .claims) (r .subgoals))
+  pub slot : (k : ℕ) → k < s .slots → SlotStands (t .claims) (t .slots) (p .claims) (r .subgoals) k
+  pub multipliers : s .multipliers ≡ length (r .multipliers)
+
+-- ## All of it
+
+-- the tables and the state stand for what the lines write
+pub record Holds (t : Tables) (s : State) (w : Written) : Type 0 where
+  pub declares : Declares (t .names) (t .facts) (s .predicates) (w .pack .predicates)
+  pub claims : HoldsClaims (t .facts) (t .claims) (w .pack .predicates) (w .pack .claims)
+  pub claimed : s .claimed ≡ not (isEmpty (w .pack .claims))
+  pub rules : s .rules ≡ length (w .pack .rules)
+  pub lines : s .«multiplier_lines» ≡ multiplierLines (w .pack .rules)
+  pub last : (w .pack .rules ≡ [] → ⊥) → RuleStands t s (w .pack) (lastRule (w .pack))
+  pub ended : s .ended ≡ w .ended
+
+-- what the tests up to the count of fields go by
+pub record Outline (names facts : List ℕ) (s : State) (w : Written) : Type 0 where
+  pub declares : Declares names facts (s .predicates) (w .pack .predicates)
+  pub counts : (i : ℕ) → i < length (w .pack .predicates) → getD facts (64 + i) 0 ≡ length (claimsOn (keyOf (predicateAt (w .pack .predicates) i)) (w .pack .claims))
+  pub claimed : s .claimed ≡ not (isEmpty (w .pack .claims))
+  pub rules : s .rules ≡ length (w .pack .rules)
+  pub head : (w .pack .rules ≡ [] → ⊥) → s .head < length (w .pack .predicates)
+  pub headKey : (w .pack .rules ≡ [] → ⊥) → keyOf (predicateAt (w .pack .predicates) (s .head)) ≡ atomKey (lastRule (w .pack) .head)
+  pub multipliers : (w .pack .rules ≡ [] → ⊥) → s .multipliers ≡ length (lastRule (w .pack) .multipliers)
+  pub slots : (w .pack .rules ≡ [] → ⊥) → s .slots ≡ length (claimsOnAll (w .pack .claims) (lastRule (w .pack) .subgoals))
+  pub ended : s .ended ≡ w .ended
+
+-- no weights are left over from a line
+pub record NoWeights (numbers : List ℤ) : Type 0 where
+  pub zero : (i : ℕ) → i < 81 → getD numbers i (pos 0) ≡ pos 0
+
+-- the ranges of all
+pub record Safe (t : Tables) (s : State) : Type 0 where
+  pub sizes : Sizes t
+  pub state : SafeState s
+  pub facts : SafeFacts (t .facts)
+  pub claims : SafeClaims (t .claims)
+  pub numbers : SafeNumbers (t .numbers)
+  pub slots : SafeSlots (t .slots) (s .slots)
