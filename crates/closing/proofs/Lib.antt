@@ -1,4 +1,4 @@
--- Laws that callers use.
+-- What the functions' proofs cite.
 pub mod Limits
 pub mod Laying
 pub mod Slots

@@ -31,13 +31,13 @@ module _ (slots₀ : List ℕ) (from predicate subgoal : ℕ) where
         record {
           size = length-set placed (128 + from + j) ofSubgoal ∙ length-set slots (from + j) place ∙ so-far .size;
           place =
-            below-more (λ i. getD (set placed (128 + from + j) ofSubgoal) (from + i) 0 ≡ (predicate * 16 + i) * 9) j
-            (λ i h. other (from + i) (omega arith) (omega arith) ∙ so-far .place i h)
-            (getD-set-other placed (128 + from + j) (from + j) ofSubgoal 0 (omega arith) ∙ getD-set-same slots (from + j) place 0 (omega (arith, so-far .size)) ∙ isPlace);
+              below-more (λ i. getD (set placed (128 + from + j) ofSubgoal) (from + i) 0 ≡ (predicate * 16 + i) * 9) j
+              (λ i h. other (from + i) (omega arith) (omega arith) ∙ so-far .place i h)
+              (getD-set-other placed (128 + from + j) (from + j) ofSubgoal 0 (omega arith) ∙ getD-set-same slots (from + j) place 0 (omega (arith, so-far .size)) ∙ isPlace);
           ofSubgoal =
-            below-more (λ i. getD (set placed (128 + from + j) ofSubgoal) (128 + from + i) 0 ≡ subgoal) j
-            (λ i h. other (128 + from + i) (omega arith) (omega arith) ∙ so-far .ofSubgoal i h)
-            (getD-set-same placed (128 + from + j) ofSubgoal 0 (omega (arith, length-set slots (from + j) place, so-far .size)) ∙ isSubgoal);
+              below-more (λ i. getD (set placed (128 + from + j) ofSubgoal) (128 + from + i) 0 ≡ subgoal) j
+              (λ i h. other (128 + from + i) (omega arith) (omega arith) ∙ so-far .ofSubgoal i h)
+              (getD-set-same placed (128 + from + j) ofSubgoal 0 (omega (arith, length-set slots (from + j) place, so-far .size)) ∙ isSubgoal);
           before = λ k h. other k (omega arith) (omega arith) ∙ so-far .before k h;
           subgoalBefore = λ k h. other (128 + k) (omega arith) (omega arith) ∙ so-far .subgoalBefore k h;
         }

@@ -1,9 +1,7 @@
 // A line's last tests, and what it adds to the tables, one function for each letter.
 ghost use mathlib.Core.Path.{_≡_};
-ghost use mathlib.Core.Bool.{true, false, not};
-ghost use Prim.Native.Nat.{ℕ, _+_, _*_, _≤_, _<_, _^_};
-ghost use lib.IntN.{pos, natAbs};
-ghost use lib.ListN.{length, getD};
+ghost use Prim.Native.Nat.{_+_, _*_, _≤_, _<_};
+ghost use lib.ListN.{length};
 ghost use Rattle.tables.specs.Tables.{SafeFacts, SafeClaims};
 ghost use Rattle.residuals.specs.Weights.{Summable};
 ghost use Rattle.closing.specs.Closing.{ClosesP, Laid, ClosesC, ClosesH, SlotsAdded, ClosesB, ClosesM, withEnd, CloseReady, CloseDone};

@@ -5,7 +5,7 @@ use Prim.Native.Nat.{_^_, _<_}
 use native.Mathlib.Omega.{arith}
 use lib.IntN.{ℤ, natAbs, _+ℤ_}
 use mir.Facts.{toZ-ofZ, sfits-widen}
-use mir.Syntax.{w16, w64}
+use mir.Syntax.{w16}
 use mir.Val.{SFits, toZ, ofZ}
 use Rattle.integers.proofs.Magnitude.{mag-le-natAbs}
 use Rattle.forms.specs.Sums.{Within}

@@ -66,14 +66,19 @@ module _ (m : ℤ) (claims : List ℤ) (place atom : ℕ) (before after : List �
 
 module _ {m : ℤ} {claims : List ℤ} {place atom : ℕ} {before after : List ℤ} (weighs : Weighs m claims place atom before after) where
   -- a place is outside the atom's nine, or among them
-  by-place : (P : ℕ → Type 0) → ((i : ℕ) → elements after i ≡ elements before i → P i) → ((j : ℕ) → j < 9 → P (atom * 9 + j)) → (i : ℕ) → P i
-  by-place P outside among i =
-      by-truth (λ (b : Bool). P i) (ltb i (atom * 9))
-      (λ h. outside i (weighs .below i (ltb-lt i (atom * 9) h)))
-      (λ h. by-truth (λ (b : Bool). P i) (ltb i (atom * 9 + 9))
-        (λ k. let place : atom * 9 + (i - atom * 9) ≡ i = omega (arith, ltb-ge i (atom * 9) h) in
-          rw place at (among (i - atom * 9) (omega (arith, ltb-ge i (atom * 9) h, ltb-lt i (atom * 9 + 9) k))))
-        (λ k. outside i (weighs .above i (ltb-ge i (atom * 9 + 9) k))))
+  module _ (P : ℕ → Type 0) (outside : (i : ℕ) → elements after i ≡ elements before i → P i) (among : (j : ℕ) → j < 9 → P (atom * 9 + j)) where
+    from-first : (i : ℕ) → atom * 9 ≤ i → P i
+    from-first i first =
+        let place : atom * 9 + (i - atom * 9) ≡ i = omega arith in
+        by-truth (λ (b : Bool). P i) (ltb i (atom * 9 + 9))
+        (λ h. rw place at (among (i - atom * 9) (omega (arith, ltb-lt i (atom * 9 + 9) h))))
+        (λ h. outside i (weighs .above i (ltb-ge i (atom * 9 + 9) h)))
+
+    by-place : (i : ℕ) → P i
+    by-place i =
+        by-truth (λ (b : Bool). P i) (ltb i (atom * 9))
+        (λ h. outside i (weighs .below i (ltb-lt i (atom * 9) h)))
+        (λ h. from-first i (ltb-ge i (atom * 9) h))
 
   pub weighs-small : natAbs m ≤ 9999 → SafeClaims claims → (i : ℕ) → natAbs (elements after i) ≤ natAbs (elements before i) + 99980001
   weighs-small few safe =

@@ -1,8 +1,8 @@
 -- `closing::close` meets its contract. Assumes nothing.
 use mathlib.Core.Path.{refl}
 use native.Mathlib.Omega.{arith}
-use Rattle.closing.proofs.Ready.{ready-c, ready-b, ready-m}
 use borrow.Author.Needs.{needs}
+use Rattle.closing.proofs.Ready.{ready-c, ready-b, ready-m}
 use Rattle.closing.proofs.close.Statement.{statement}
 use Rattle.closing.proofs.close.Tie as tie
 

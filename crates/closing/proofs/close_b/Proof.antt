@@ -1,7 +1,7 @@
 -- `closing::close_b` meets its contract. Assumes nothing.
 use native.Mathlib.Omega.{arith}
-use Rattle.closing.proofs.Limits.{atoms-at-limit, variables-above-limit, atom-within-limits}
 use borrow.Author.Needs.{needs}
+use Rattle.closing.proofs.Limits.{atoms-at-limit, variables-above-limit, atom-within-limits}
 use Rattle.closing.proofs.close_b.Statement.{statement}
 use Rattle.closing.proofs.close_b.Tie as tie
 
@@ -21,16 +21,22 @@ wide-requires : tie.Need-wide-requires
 wide-requires c κs = search needs
 
 add-slots-requires : tie.Need-add-slots-requires
-add-slots-requires c κs = omega (arith, c .before .before .before .before .before .pre .1 .count (c .before .before .before .before .before .args .o .predicate) (c .before .before .before .before .before .pre .0))
+add-slots-requires c κs =
+    let start = c .before .before .before .before .before in
+    omega (arith, start .pre .1 .count (start .args .o .predicate) (start .pre .0))
 
 add-next : tie.Need-add-next
 add-next c = search needs
 
 add-next-2 : tie.Need-add-next-2
-add-next-2 c = omega (arith, c .before .before .before .before .before .before .pre .1 .count (c .before .before .before .before .before .before .args .o .predicate) (c .before .before .before .before .before .before .pre .0))
+add-next-2 c =
+    let start = c .before .before .before .before .before .before in
+    omega (arith, start .pre .1 .count (start .args .o .predicate) (start .pre .0))
 
 returns-3 : tie.Need-returns-3
-returns-3 c = record { answer = search (needs, atom-within-limits); state = λ e. rw (c .before .before .wide .ensures); slotsAre = λ e. rw (← c .before .before .wide .ensures) (c .add-slots .ensures) }
+returns-3 c =
+    let count = c .before .before .wide .ensures in
+    record { answer = search (needs, atom-within-limits); state = λ e. rw count; slotsAre = λ e. rw (← count) (c .add-slots .ensures) }
 
 pub close-b-spec : {M : Type 1} → statement M
 close-b-spec =

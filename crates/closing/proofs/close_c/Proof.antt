@@ -13,7 +13,13 @@ element-copy-out-count : tie.Need-element-copy-out-count
 element-copy-out-count c = search needs
 
 returns : tie.Need-returns
-returns c = record { answer = search (needs, at-limit); state = λ e. absurd (omega arith); factsAre = λ e. absurd (omega arith); claimsAre = λ e. absurd (omega arith) }
+returns c =
+    record {
+      answer = search (needs, at-limit);
+      state = λ e. absurd (omega arith);
+      factsAre = λ e. absurd (omega arith);
+      claimsAre = λ e. absurd (omega arith);
+    }
 
 mul-at : tie.Need-mul-at
 mul-at c = search needs
@@ -46,7 +52,10 @@ element-write-facts : tie.Need-element-write-facts
 element-write-facts c = search needs
 
 returns-2 : tie.Need-returns-2
-returns-2 c = record { answer = search (needs, below-limit); state = λ e. refl; factsAre = λ e. refl; claimsAre = λ e. rw (← c .before .before .before .before .wide .ensures, ← c .before .before .wide2 .ensures) (c .lay .ensures) }
+returns-2 c =
+    let count = c .before .before .before .before .wide .ensures in
+    let arity = c .before .before .wide2 .ensures in
+    record { answer = search (needs, below-limit); state = λ e. refl; factsAre = λ e. refl; claimsAre = λ e. rw (← count, ← arity) (c .lay .ensures) }
 
 pub close-c-spec : {M : Type 1} → statement M
 close-c-spec =

@@ -1,6 +1,6 @@
 -- `closing::close_m` meets its contract. Assumes nothing.
-use Rattle.integers.proofs.Truth.{not-true, not-false}
 use borrow.Author.Needs.{needs}
+use Rattle.integers.proofs.Truth.{not-true, not-false}
 use Rattle.closing.proofs.HeadWeights.{weighed-summable, line-refused, line-done}
 use Rattle.closing.proofs.close_m.Statement.{statement}
 use Rattle.closing.proofs.close_m.Tie as tie

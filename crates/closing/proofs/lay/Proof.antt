@@ -1,19 +1,22 @@
 -- `closing::lay` meets its contract. Assumes nothing.
-use Prim.Native.Nat.{_-_}
 use mathlib.Core.Logic.{⊎-elim}
+use Prim.Native.Nat.{_-_, _≤_}
+use native.Mathlib.Omega.{arith}
 use borrow.Author.Needs.{needs}
-use Rattle.closing.proofs.Laying.{LaidTo, laid-none, laid-all, laid-number, laid-zero}
+use lib.IntN.{pos}
+use Rattle.residuals.proofs.Stretches.{Stored, stored-none}
+use Rattle.closing.proofs.Laying.{laidAt, laid-all, laid-number, laid-zero}
 use Rattle.closing.proofs.lay.Statement.{statement}
 use Rattle.closing.proofs.lay.Tie as tie
 
 abbrev Inv-loop : tie.InvT-loop
-Inv-loop claims₀ at row arity i₀ claims i = LaidTo claims₀ at row arity claims i
+Inv-loop claims₀ at row arity i₀ claims i = (i ≤ 9) × Stored (pos 0) (laidAt row arity) at claims₀ claims i
 
 abbrev μ-loop : tie.MeasureT-loop
 μ-loop claims₀ at row arity i₀ claims i = 9 - i
 
 loop-holds : tie.Need-loop-holds Inv-loop μ-loop
-loop-holds c = search (needs, laid-none)
+loop-holds c = (search needs, stored-none)
 
 mul-z : tie.Need-mul-z Inv-loop μ-loop
 mul-z c = search needs
@@ -46,10 +49,11 @@ loop-less : tie.Need-loop-less Inv-loop μ-loop
 loop-less c = search needs
 
 loop-again : tie.Need-loop-again Inv-loop μ-loop
-loop-again c = ⊎-elim (λ w. rw (w .2) (search (needs, laid-number))) (λ w. rw (w .1) (search (needs, laid-zero))) (c .if1 .came)
+loop-again c =
+    (search needs, ⊎-elim (λ w. rw (w .2) (search (needs, laid-number))) (λ w. rw (w .1) (search (needs, laid-zero))) (c .if1 .came))
 
 returns : tie.Need-returns Inv-loop μ-loop
-returns c = search (needs, laid-all)
+returns c = laid-all _ _ _ _ _ _ (c .before .loop .inv .1) (omega arith)
 
 pub lay-spec : {M : Type 1} → statement M
 lay-spec =

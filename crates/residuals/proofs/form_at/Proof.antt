@@ -47,10 +47,10 @@ loop-less c = search needs
 
 loop-again : tie.Need-loop-again Inv-loop μ-loop
 loop-again c = (
-      search needs,
-      simp length-set (search needs),
-      stored-more _ _ (c .before .before .loop .inv .2) (omega arith) (omega arith) (toZ-ofZ (record { sfits = c .coefficients .given })),
-    )
+  search needs,
+  simp length-set (search needs),
+  stored-more _ _ (c .before .before .loop .inv .2) (omega arith) (omega arith) (toZ-ofZ (record { sfits = c .coefficients .given })),
+)
 
 mul-t15 : tie.Need-mul-t15 Inv-loop μ-loop
 mul-t15 c = search needs

@@ -7,6 +7,8 @@ use borrow.Author.Count.{below-none, below-more}
 use borrow.Author.Needs.{needs}
 use lib.ListN.{length}
 use lib.Signed.{nonNeg}
+use mir.Syntax.{w64}
+use mir.Val.{SFits}
 use Rattle.residuals.proofs.Signs.{not-negative, judged-constant, judged-coefficient, judged-yes}
 use Rattle.residuals.proofs.Stretches.{elements}
 use Rattle.residuals.proofs.is_justified.Statement.{statement}
@@ -58,12 +60,9 @@ loop-again : tie.Need-loop-again Inv-loop μ-loop
 loop-again c =
     let test = c .before .is-negative2 in
     let turn = c .before .before .before .before .loop in
-    let coefficients = c .before .before .before .before .before .before .before .before .before .args .form .coefficients in
-    let here =
-        not-negative (elements coefficients (turn .i)) (test .result)
-        (record { sfits = c .before .before .is-negative-arg .given })
-        (test .ensures)
-        (c .if2 .left) in
+    let z = elements (c .before .before .before .before .before .before .before .before .before .args .form .coefficients) (turn .i) in
+    let fits : SFits w64 z = record { sfits = c .before .before .is-negative-arg .given } in
+    let here = not-negative z (test .result) fits (test .ensures) (c .if2 .left) in
     (search needs, search needs, below-more _ _ (turn .inv .2) here)
 
 returns-3 : tie.Need-returns-3 Inv-loop μ-loop

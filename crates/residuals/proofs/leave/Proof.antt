@@ -49,11 +49,11 @@ loop-less c = search needs
 
 loop-again : tie.Need-loop-again Inv-loop μ-loop
 loop-again c = (
-      search needs,
-      search needs,
-      simp length-set (search needs),
-      stored-more _ _ (c .before .before .loop .inv .3) (omega arith) (omega arith) (toZ-ofZ (record { sfits = c .z .given })),
-    )
+  search needs,
+  search needs,
+  simp length-set (search needs),
+  stored-more _ _ (c .before .before .loop .inv .3) (omega arith) (omega arith) (toZ-ofZ (record { sfits = c .z .given })),
+)
 
 returns : tie.Need-returns Inv-loop μ-loop
 returns c =

@@ -43,10 +43,10 @@ loop-less c = search needs
 
 loop-again : tie.Need-loop-again Inv-loop μ-loop
 loop-again c = (
-      search needs,
-      stored-more _ _ (c .before .before .before .loop .inv .1) (omega arith) (omega arith)
+  search needs,
+  stored-more _ _ (c .before .before .before .loop .inv .1) (omega arith) (omega arith)
       (widened _ (c .long .result) (record { sfits = c .before .long-arg .given }) (c .long .ensures)),
-    )
+)
 
 returns : tie.Need-returns Inv-loop μ-loop
 returns c =

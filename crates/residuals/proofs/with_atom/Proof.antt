@@ -80,9 +80,9 @@ loop-again c =
     let added = c .before .before .before .loop .inv .1 in (
       search needs,
       ⊎-elim
-      (λ way. row-added (pre .1) (pre .0) (omega arith) (way .1 .ensures) (way .2 .ensures) added (way .3 .ensures) (way .4))
-      (λ way. row-skipped (pre .1) (pre .0) (omega arith) added (way .0 .left) (way .1))
-      (c .if1 .came),
+          (λ way. row-added (pre .1) (pre .0) (omega arith) (way .1 .ensures) (way .2 .ensures) added (way .3 .ensures) (way .4))
+          (λ way. row-skipped (pre .1) (pre .0) (omega arith) added (way .0 .left) (way .1))
+          (c .if1 .came),
     )
 
 returns : tie.Need-returns Inv-loop μ-loop
