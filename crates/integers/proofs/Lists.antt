@@ -6,7 +6,7 @@ use mathlib.Core.List.{List, [], _∷_, _++_, map, flatMap, flatten, append-asso
 use mathlib.Core.List.{List·Memᴰ, List·Memᴰ·head, List·Memᴰ·tail, List·Memᴰ·not-nil, List·Memᴰ·append-cases, List·Memᴰ·eq-of-singleton, Memᴰ·append-left, Memᴰ·append-right}
 use Prim.Native.Nat.{ℕ, zero, suc, _*_, _≤_, _<_}
 use native.Mathlib.Omega.{arith}
-use lib.ListN.{length, getD, length-append}
+use lib.ListN.{length, getD, length-append, replicate}
 
 -- ---- flatMap
 
@@ -144,3 +144,9 @@ module _ {ℓ} {A : Type ℓ} (P : A → Type 0) where
 
   pub all-end : (l : List A) (b : A) → ((a : A) → List·Memᴰ a l → P a) → P b → (a : A) → List·Memᴰ a (l ++ (b ∷ [])) → P a
   all-end l b inside last = all-append l (b ∷ []) inside (all-cons last (λ a m. absurd (List·Memᴰ·not-nil m)))
+
+-- a list of one element over and over has it at every place, and as its default behind the end
+pub same-everywhere : {A : Type 0} (a : A) (n i : ℕ) → getD (replicate n a) i a ≡ a
+same-everywhere a zero i = refl
+same-everywhere a (suc n) zero = refl
+same-everywhere a (suc n) (suc i) = same-everywhere a n i

@@ -1,0 +1,43 @@
+-- Tables of zeros, and the state before any line: they stand for a pack of nothing.
+use mathlib.Core.Path.{_≡_, refl}
+use mathlib.Core.List.{List, []}
+use Prim.Native.Nat.{ℕ, _+_, _≤_, _<_}
+use native.Mathlib.Omega.{arith}
+use lib.IntN.{ℤ, pos}
+use lib.ListN.{replicate, length-replicate}
+use Rattle.integers.proofs.Lists.{same-everywhere}
+use Rattle.theory.specs.Written.{nothing}
+use Rattle.theory.specs.Faults.{isEmpty}
+use Rattle.theory.specs.Check.{multiplierLines}
+use Rattle.tables.specs.Tables.{Tables, tables, Holds, NoWeights, Safe}
+use Rattle.packs.specs.Loading.{begun}
+
+abbrev pub fresh : Tables
+fresh = tables (replicate 64 0) (replicate 96 0) (replicate 4608 (pos 0)) (replicate 64 0) (replicate 1305 (pos 0)) (replicate 256 0)
+
+pub fresh-safe : Safe fresh begun
+fresh-safe =
+    record {
+      sizes = record { names = length-replicate {A = ℕ} 64 0; facts = length-replicate {A = ℕ} 96 0; claims = length-replicate 4608 (pos 0); variables = length-replicate {A = ℕ} 64 0; numbers = length-replicate 1305 (pos 0); slots = length-replicate {A = ℕ} 256 0 };
+      state = record { predicates = omega arith; rules = omega arith; head = omega arith; subgoals = omega arith; variables = omega arith; slots = omega arith; multipliers = omega arith; lines = omega arith };
+      facts = record { arity = λ i below. rw (same-everywhere {A = ℕ} 0 96 i) (omega arith); count = λ i below. rw (same-everywhere {A = ℕ} 0 96 (64 + i)) (omega arith) };
+      claims = record { small = λ i. rw (same-everywhere (pos 0) 4608 i) (omega arith) };
+      numbers = record { small = λ i. rw (same-everywhere (pos 0) 1305 i) (omega arith) };
+      slots = record { place = λ k below. absurd (omega arith); subgoal = λ k below. absurd (omega arith) };
+    }
+
+pub fresh-clear : NoWeights (fresh .numbers)
+fresh-clear = record { zero = λ i below. same-everywhere (pos 0) 1305 i }
+
+pub fresh-holds : Holds fresh begun nothing
+unfolding nothing multiplierLines isEmpty
+fresh-holds =
+    record {
+      declares = record { count = refl; words = λ i below. absurd (omega arith); named = λ i below. absurd (omega arith); arity = λ i below. absurd (omega arith); kind = λ i below. absurd (omega arith); distinct = λ i j below other same. absurd (omega arith) };
+      claims = record { count = λ i below. absurd (omega arith); none = λ i above below. same-everywhere {A = ℕ} 0 96 (64 + i); at = λ i j below other. absurd (omega arith); full = λ i j below other. absurd (omega arith) };
+      claimed = refl;
+      rules = refl;
+      lines = refl;
+      last = λ some. absurd (some refl);
+      ended = refl;
+    }

@@ -1,0 +1,106 @@
+-- The tables behind an `M` line stand for what it writes: rows stay, the last rule has one list of multipliers more.
+use mathlib.Core.Path.{_≡_, refl, sym, _∙_, ap}
+use mathlib.Core.Bool.{Bool, false, _||_}
+use mathlib.Core.List.{List, [], _∷_, nil≢cons}
+use Prim.Native.Nat.{ℕ, suc, _+_, _*_, _≤_}
+use native.Mathlib.Omega.{arith}
+use lib.IntN.{ℤ, pos}
+use lib.ListN.{length, getD}
+use Rattle.integers.proofs.Truth.{by-truth}
+use Rattle.integers.proofs.Lists.{length-end}
+use Rattle.theory.specs.Text.{Bytes, bytes, same, fieldsOf}
+use Rattle.theory.specs.Terms.{Term, Terms}
+use Rattle.theory.specs.Packs.{Rule}
+use Rattle.theory.specs.Written.{Letter, M, E, letterOf, lineLetter, field, Written, withMultipliers, onLast, add, write, multipliersFrom}
+use Rattle.theory.specs.Faults.{noRule, lastRule}
+use Rattle.theory.specs.Check.{multiplierLines}
+use Rattle.theory.proofs.Bytes.{same-equal}
+use Rattle.theory.proofs.Letters.{letterField, letter-of-field}
+use Rattle.theory.proofs.LastRule.{last-changed}
+use Rattle.theory.proofs.Steps.{withLast}
+use Rattle.tables.specs.declared.State.{State}
+use Rattle.tables.specs.Tables.{Tables, tables, RowStands, AtomStands, RuleStands, Holds}
+use Rattle.closing.specs.Closing.{withMultipliers as countMultipliers}
+
+-- ---- rows that stay
+
+module _ (numbers₀ numbers : List ℤ) (kept : (i : ℕ) → 81 ≤ i → getD numbers i (pos 0) ≡ getD numbers₀ i (pos 0)) where
+  row-stays : (base : ℕ) (xs : List Bytes) (t : Term) → 81 ≤ base → RowStands numbers₀ base xs t → RowStands numbers base xs t
+  row-stays base xs t low row =
+      record {
+        constant = kept base low ∙ row .constant;
+        coefficient = λ i less. kept (base + 1 + i) (omega arith) ∙ row .coefficient i less;
+        beyond = λ i more less. kept (base + 1 + i) (omega arith) ∙ row .beyond i more less;
+      }
+
+  pub atom-stays : (atom : ℕ) (xs : List Bytes) (ts : Terms) → AtomStands numbers₀ atom xs ts → AtomStands numbers atom xs ts
+  atom-stays atom xs ts stands =
+      record { few = stands .few; row = λ k less. row-stays (81 + (atom * 8 + k) * 17) xs _ (omega arith) (stands .row k less) }
+
+-- ---- what the line writes
+
+-- a line that begins with another letter does not end the pack
+not-end : (f : Bytes) (letter : Letter) → letterOf f ≡ letter → (letter ≡ E → ⊥) → same f (bytes "E") ≡ false
+unfolding letterField
+not-end f letter is other =
+    by-truth (λ (b : Bool). b ≡ false) (same f (bytes "E"))
+    (λ e. absurd (other (sym is ∙ (ap letterOf (same-equal f (bytes "E") e) ∙ letter-of-field E)))) (λ e. refl)
+
+M-apart : M ≡ E → ⊥
+M-apart e = let never : _≡_ {A = ℕ} 0 1 = cc in omega arith
+
+pub m-written : (w : Written) (line : Bytes) → lineLetter line ≡ M → w .ended ≡ false
+    → write w line ≡ record { pack = withLast (withMultipliers (multipliersFrom (fieldsOf line))) (w .pack); ended = w .ended }
+unfolding write add
+m-written w line is unended = λ i. record { pack = add (is i) (fieldsOf line) (w .pack); ended = same-end i }
+  where
+    same-end : (w .ended || same (field 0 (fieldsOf line)) (bytes "E")) ≡ w .ended
+    same-end = rw (unended, not-end (field 0 (fieldsOf line)) M is M-apart)
+
+-- ---- the last rule
+
+length-onLast : (change : Rule → Rule) (rs : List Rule) → length (onLast change rs) ≡ length rs
+unfolding onLast
+length-onLast change [] = refl
+length-onLast change (r ∷ []) = refl
+length-onLast change (r ∷ s ∷ rs) = ap suc (length-onLast change (s ∷ rs))
+
+one-line-more : (ms : List ℕ) (rs : List Rule) → (rs ≡ [] → ⊥) → multiplierLines (onLast (withMultipliers ms) rs) ≡ suc (multiplierLines rs)
+unfolding onLast multiplierLines
+one-line-more ms [] some = absurd (some refl)
+one-line-more ms (r ∷ []) some = omega (arith, length-end (r .multipliers) ms)
+one-line-more ms (r ∷ s ∷ rs) some = omega (arith, one-line-more ms (s ∷ rs) (λ e. nil≢cons (sym e)))
+
+module _ (t : Tables) (s : State) (w : Written) (ms : List ℕ) (numbers : List ℤ) (holds : Holds t s w) (some : w .pack .rules ≡ [] → ⊥)
+    (kept : (i : ℕ) → 81 ≤ i → getD numbers i (pos 0) ≡ getD (t .numbers) i (pos 0)) where
+  abbrev after : Tables
+  after = tables (t .names) (t .facts) (t .claims) (t .variables) numbers (t .slots)
+
+  rule-after : RuleStands after (countMultipliers s) (withLast (withMultipliers ms) (w .pack)) (withMultipliers ms (lastRule (w .pack)))
+  rule-after =
+      let rule = holds .last some in
+      record {
+        head = rule .head;
+        headKey = rule .headKey;
+        headFull = rule .headFull;
+        subgoals = rule .subgoals;
+        variables = rule .variables;
+        holdsVariables = rule .holdsVariables;
+        headRows = atom-stays (t .numbers) numbers kept 0 _ _ (rule .headRows);
+        subgoalRows = λ i less. atom-stays (t .numbers) numbers kept (suc i) _ _ (rule .subgoalRows i less);
+        slots = rule .slots;
+        slot = rule .slot;
+        multipliers = omega (arith, rule .multipliers, length-end (lastRule (w .pack) .multipliers) ms);
+      }
+
+  pub m-holds : Holds after (countMultipliers s) (record { pack = withLast (withMultipliers ms) (w .pack); ended = w .ended })
+  m-holds =
+      record {
+        declares = holds .declares;
+        claims = holds .claims;
+        claimed = holds .claimed;
+        rules = holds .rules ∙ sym (length-onLast (withMultipliers ms) (w .pack .rules));
+        lines = omega (arith, holds .lines, one-line-more ms (w .pack .rules) some);
+        last = λ nonempty. rw (last-changed (withMultipliers ms) noRule (w .pack .rules) some) rule-after;
+        ended = holds .ended;
+      }

@@ -1,0 +1,87 @@
+-- The slots of a rule's claims on its subgoals, with one subgoal more: those that there were, and the claims on the new one.
+use mathlib.Core.Path.{_≡_, refl, sym, _∙_, ap}
+use mathlib.Core.List.{List, [], _∷_, _++_, map, append-assoc, append-nil}
+use Prim.Native.Nat.{ℕ, zero, suc, _+_, _-_, _≤_, _<_}
+use native.Mathlib.Nat.{add-assoc}
+use native.Mathlib.Omega.{arith}
+use lib.Dec.{ltb}
+use lib.IntN.{ℤ}
+use lib.ListN.{length, getD, length-append, length-map, List·getD-append}
+use lib.Seq.{getD-append-seam, getD-append-add}
+use Rattle.integers.proofs.Lists.{flatMap-end, length-end}
+use Rattle.integers.proofs.Truth.{by-truth, ltb-lt, ltb-ge}
+use Rattle.theory.specs.Terms.{arity}
+use Rattle.theory.specs.Forms.{zeroForm}
+use Rattle.theory.specs.Packs.{Claim, Atom, atomKey, claimsOn, claimsOnAll}
+use Rattle.theory.specs.Residuals.{claimForm, subgoalForms}
+use Rattle.theory.specs.Faults.{noClaim}
+use Rattle.tables.specs.Tables.{SafeSlots, ClaimAt, noAtom, SlotStands}
+use Rattle.closing.specs.Closing.{SlotsAdded}
+
+-- what holds of the places below a, and of the next b, holds below a + b
+pub below-sum : (P : ℕ → Type 0) (a b : ℕ) → ((k : ℕ) → k < a → P k) → ((j : ℕ) → j < b → P (a + j)) → (k : ℕ) → k < a + b → P k
+below-sum P a b first next k inside = by-truth (λ t. P k) (ltb k a)
+    (λ h. first k (ltb-lt k a h))
+    (λ h.
+    let beyond = ltb-ge k a h in
+    let is : a + (k - a) ≡ k = omega arith in
+    rw is at (next (k - a) (omega arith)))
+
+-- ---- the claims and the forms of one subgoal more
+
+module _ (cs : List Claim) where
+  pub claims-more : (subgoals : List Atom) (a : Atom) → claimsOnAll cs (subgoals ++ (a ∷ [])) ≡ claimsOnAll cs subgoals ++ claimsOn (atomKey a) cs
+  claims-more subgoals a = flatMap-end (λ (b : Atom). claimsOn (atomKey b) cs) subgoals a
+
+  forms-more : (subgoals : List Atom) (a : Atom) → subgoalForms cs (subgoals ++ (a ∷ [])) ≡ subgoalForms cs subgoals ++ map (claimForm a) (claimsOn (atomKey a) cs)
+  unfolding subgoalForms
+  forms-more [] a = append-nil _
+  forms-more (b ∷ subgoals) a = ap (λ fs. map (claimForm b) (claimsOn (atomKey b) cs) ++ fs) (forms-more subgoals a) ∙ sym (append-assoc (map (claimForm b) (claimsOn (atomKey b) cs)) _ _)
+
+  length-forms : (subgoals : List Atom) → length (subgoalForms cs subgoals) ≡ length (claimsOnAll cs subgoals)
+  unfolding subgoalForms mathlib.Core.List.flatMap
+  length-forms [] = refl
+  length-forms (a ∷ subgoals) = omega (arith, length-append (map (claimForm a) (claimsOn (atomKey a) cs)) (subgoalForms cs subgoals), length-map (claimsOn (atomKey a) cs) (claimForm a), length-append (claimsOn (atomKey a) cs) (claimsOnAll cs subgoals), length-forms subgoals)
+
+getD-map : {A B : Type 0} (f : A → B) (l : List A) (j : ℕ) (d : A) (e : B) → j < length l → getD (map f l) j e ≡ f (getD l j d)
+getD-map f [] j d e inside = absurd (omega arith)
+getD-map f (x ∷ l) zero d e inside = refl
+getD-map f (x ∷ l) (suc j) d e inside = getD-map f l j d e (omega arith)
+
+-- ---- the slots
+
+module _ (claims : List ℤ) (slots₀ slots : List ℕ) (cs : List Claim) (subgoals : List Atom) (a : Atom) where
+  pub slot-before : (k : ℕ) → k < length (claimsOnAll cs subgoals) → getD slots k 0 ≡ getD slots₀ k 0 → getD slots (128 + k) 0 ≡ getD slots₀ (128 + k) 0
+      → SlotStands claims slots₀ cs subgoals k → SlotStands claims slots cs (subgoals ++ (a ∷ [])) k
+  slot-before k inside place of stands =
+      let claim : getD (claimsOnAll cs (subgoals ++ (a ∷ []))) k noClaim ≡ getD (claimsOnAll cs subgoals) k noClaim = rw (claims-more cs subgoals a) (List·getD-append (claimsOnAll cs subgoals) (claimsOn (atomKey a) cs) noClaim k inside) in
+      let form : getD (subgoalForms cs (subgoals ++ (a ∷ []))) k zeroForm ≡ getD (subgoalForms cs subgoals) k zeroForm = rw (forms-more cs subgoals a) (List·getD-append (subgoalForms cs subgoals) _ zeroForm k (omega (arith, length-forms cs subgoals))) in
+      let subgoal = List·getD-append subgoals (a ∷ []) noAtom (getD slots₀ (128 + k) 0) (stands .subgoal) in
+      record {
+        claim = rw (place, claim) (stands .claim);
+        subgoal = omega (arith, stands .subgoal, length-end subgoals a);
+        form = rw (of, claim, subgoal) (form ∙ stands .form);
+        full = rw (of, claim, subgoal) (stands .full);
+      }
+
+  pub slot-behind : (k j : ℕ) → k ≡ length (claimsOnAll cs subgoals) + j → j < length (claimsOn (atomKey a) cs) → ClaimAt claims (getD slots k 0) (getD (claimsOn (atomKey a) cs) j noClaim)
+      → getD slots (128 + k) 0 ≡ length subgoals → length (getD (claimsOn (atomKey a) cs) j noClaim .coefficients) ≡ arity (a .terms) → SlotStands claims slots cs (subgoals ++ (a ∷ [])) k
+  slot-behind k j is inside stands of full =
+      let claim : getD (claimsOnAll cs (subgoals ++ (a ∷ []))) k noClaim ≡ getD (claimsOn (atomKey a) cs) j noClaim = rw (claims-more cs subgoals a, is) (getD-append-add (claimsOnAll cs subgoals) (claimsOn (atomKey a) cs) j noClaim) in
+      let forms = map (claimForm a) (claimsOn (atomKey a) cs) in
+      let form : getD (subgoalForms cs (subgoals ++ (a ∷ []))) k zeroForm ≡ getD forms j zeroForm = rw (forms-more cs subgoals a, is, ← length-forms cs subgoals) (getD-append-add (subgoalForms cs subgoals) forms j zeroForm) in
+      let subgoal = getD-append-seam subgoals a [] noAtom in
+      record {
+        claim = rw claim stands;
+        subgoal = omega (arith, length-end subgoals a);
+        form = rw (of, claim, subgoal) (form ∙ getD-map (claimForm a) (claimsOn (atomKey a) cs) j noClaim zeroForm inside);
+        full = rw (of, claim, subgoal) full;
+      }
+
+-- ---- their ranges
+
+pub slots-safe : (slots₀ slots : List ℕ) (from predicate count subgoal : ℕ) → predicate < 32 → count ≤ 16 → subgoal < 8 → SafeSlots slots₀ from → SlotsAdded slots₀ from predicate count subgoal slots → SafeSlots slots (from + count)
+slots-safe slots₀ slots from predicate count subgoal place few room safe laid = record {
+  place = below-sum (λ k. getD slots k 0 + 9 ≤ 4608) from count (λ k here. rw (laid .before k here) (safe .place k here)) (λ j here. rw (laid .place j here) (omega arith));
+  subgoal = below-sum (λ k. getD slots (128 + k) 0 < 8) from count (λ k here. rw (laid .subgoalBefore k here) (safe .subgoal k here)) (λ j here. rw (← add-assoc 128 from j, laid .ofSubgoal j here) room);
+}
