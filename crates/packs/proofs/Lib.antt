@@ -17,7 +17,6 @@ pub mod SubgoalLines
 pub mod WeightedSums
 pub mod FormNumbers
 pub mod LineResiduals
-pub mod EveryPlace
 pub mod MultiplierTables
 pub mod MultiplierAnswers
 pub mod MultiplierLines

@@ -178,10 +178,10 @@ module _ {line : Bytes} {t : Tables} {s : State} {o : Opened} {many from index :
     told noLetter passed progress = absurd progress
 
 pub line-closed : {line : Bytes} {t : Tables} {s : State} {o : Opened} {many from index : ℕ} {small : List ℕ} {row : List ℤ} {variables : List ℕ} {numbers₀ : List ℤ} {r : Closed} {names facts : List ℕ} {claims numbers : List ℤ} {slots : List ℕ}
-    → Safe t s → NoWeights (t .numbers) → Opens line (t .names) (t .facts) s o → o .fault ≡ 0 → FieldsRead line t s o many from index small row variables numbers₀ → index ≡ length (partsFrom 44 line (o .from))
+    → Safe t s → Opens line (t .names) (t .facts) s o → o .fault ≡ 0 → FieldsRead line t s o many from index small row variables numbers₀ → index ≡ length (partsFrom 44 line (o .from))
     → CloseDone o s many small row (t .names) (t .facts) (t .claims) numbers₀ (t .slots) r names facts claims numbers slots
     → LineClosed line t s o r (tables names facts claims variables numbers slots)
-line-closed safe clear opens fine read all done =
+line-closed safe opens fine read all done =
     let ranges = kept safe opens fine read all done (opens .known fine) refl in
     record {
       number = ranges .number;

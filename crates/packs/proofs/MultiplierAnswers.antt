@@ -24,7 +24,7 @@ use Rattle.tables.specs.Tables.{Tables, predicateAt, ClaimAt, RuleStands, Holds
 use Rattle.residuals.specs.Weights.{atomsSum, numberAt}
 use Rattle.closing.specs.Closing.{ClosesM}
 use Rattle.packs.specs.Progress.{ProgressM, PassedAs}
-use Rattle.packs.proofs.EveryPlace.{every-place, some-place}
+use Rattle.packs.proofs.Places.{places-every, not-every}
 use Rattle.packs.proofs.FormNumbers.{residual-length, residual-number}
 use Rattle.packs.proofs.LineResiduals.{line-number}
 
@@ -84,7 +84,7 @@ module _ {line : Bytes} {t : Tables} {s : State} {w : Written} {o : Opened} {num
 
   justified : r .fault ≡ 0 → isJustified residue ≡ true
   unfolding isJustified
-  justified fine = every-place nonNeg (pos 0) residue λ i inside.
+  justified fine = places-every nonNeg residue (pos 0) λ i inside.
       let below : i < 17 = omega (arith, residue-length) in
       ap nonNeg (sym (sum-number i below)) ∙ closes .justified fine i below
 
@@ -92,14 +92,14 @@ module _ {line : Bytes} {t : Tables} {s : State} {w : Written} {o : Opened} {num
   unfolding isJustified
   unjustified bad =
       let (i, below, negative) = closes .unjustified bad in
-      some-place nonNeg (pos 0) residue i (omega (arith, below, residue-length)) (ap nonNeg (sym (sum-number i below)) ∙ negative)
+      not-every nonNeg residue (pos 0) i (omega (arith, below, residue-length)) (ap nonNeg (sym (sum-number i below)) ∙ negative)
 
   pub residual-answer : fault w line ≡ r .fault
   unfolding tests multiplierTests firstOf
   residual-answer = decided (closes .answer)
     where
       all-good : every isMultiplier (drop 1 (fieldsOf line)) ≡ true
-      all-good = every-place isMultiplier [] (drop 1 (fieldsOf line)) (progress .good)
+      all-good = places-every isMultiplier (drop 1 (fieldsOf line)) [] (progress .good)
 
       decided : (r .fault ≡ 0) ⊎ (r .fault ≡ 13) → fault w line ≡ r .fault
       decided (inl fine) = passed .left ∙ rw (all-good, justified fine) (sym fine)

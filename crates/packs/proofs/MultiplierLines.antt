@@ -25,7 +25,7 @@ use Rattle.residuals.specs.Weights.{Weighs, Summable}
 use Rattle.fields.specs.Fields.{FieldM}
 use Rattle.closing.specs.Closing.{ClosesM}
 use Rattle.packs.specs.Progress.{at, weightAfter, ProgressM, PassedAs}
-use Rattle.packs.proofs.EveryPlace.{some-place}
+use Rattle.packs.proofs.Places.{not-every}
 use Rattle.packs.proofs.LineResiduals.{same-place}
 use Rattle.packs.proofs.MultiplierTables.{m-written, m-holds}
 use Rattle.packs.proofs.MultiplierAnswers.{Finished, has-rule, residual-answer, residual-left}
@@ -108,7 +108,7 @@ unfolding tests multiplierTests firstOf
 m-fault line s w o index claims slots numbers₀ numbers r passed less done bad =
     let fs = drop 1 (fieldsOf line) in
     let found = bad-field (at fs index) (r .fault) (done .answer) bad in
-    passed .left ∙ rw (some-place isMultiplier [] fs index less (found .0)) (sym (found .1))
+    passed .left ∙ rw (not-every isMultiplier fs [] index less (found .0)) (sym (found .1))
 
 -- ---- sizes
 

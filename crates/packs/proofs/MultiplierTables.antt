@@ -21,6 +21,7 @@ use Rattle.theory.proofs.Steps.{withLast}
 use Rattle.tables.specs.declared.State.{State}
 use Rattle.tables.specs.Tables.{Tables, tables, RowStands, AtomStands, RuleStands, Holds}
 use Rattle.closing.specs.Closing.{withMultipliers as countMultipliers}
+use Rattle.packs.proofs.RuleCounts.{length-onLast}
 
 -- ---- rows that stay
 
@@ -58,12 +59,6 @@ m-written w line is unended = λ i. record { pack = add (is i) (fieldsOf line) (
     same-end = rw (unended, not-end (field 0 (fieldsOf line)) M is M-apart)
 
 -- ---- the last rule
-
-length-onLast : (change : Rule → Rule) (rs : List Rule) → length (onLast change rs) ≡ length rs
-unfolding onLast
-length-onLast change [] = refl
-length-onLast change (r ∷ []) = refl
-length-onLast change (r ∷ s ∷ rs) = ap suc (length-onLast change (s ∷ rs))
 
 one-line-more : (ms : List ℕ) (rs : List Rule) → (rs ≡ [] → ⊥) → multiplierLines (onLast (withMultipliers ms) rs) ≡ suc (multiplierLines rs)
 unfolding onLast multiplierLines

@@ -146,7 +146,7 @@ lines-again c =
     let fine = c .before .before .before .before .before .before .before .before .before .before .before .before .before .if1 .left in
     let fields = c .before .before .before .before .before .before .before .before .before .before .before .fields .inv .1 in
     let all = fields-all (read .safe) opens fine fields (c .before .before .before .before .before .before .before .before .before .before .fields-test .left) in
-    let judged = judged-whole (read .safe) opens fine (line-closed (read .safe) (read .clear) opens fine fields all (c .before .before .close .ensures)) in
+    let judged = judged-whole (read .safe) opens fine (line-closed (read .safe) opens fine fields all (c .before .before .close .ensures)) in
     (c .before .if4 .left, lines-more read (c .before .before .before .before .before .before .before .before .before .before .before .before .before .before .before .before .before .before .before .lines-test .taken) (c .before .before .before .before .before .before .before .before .before .before .before .before .before .before .before .before .before .before .find .ensures) judged (c .before .if4 .left))
 
 returns : tie.Need-returns Inv-fields μ-fields Inv-lines μ-lines
@@ -173,7 +173,7 @@ returns-4 c =
     let fine = c .before .before .before .before .before .before .before .before .before .before .before .before .if1 .left in
     let fields = c .before .before .before .before .before .before .before .before .before .before .fields .inv .1 in
     let all = fields-all (read .safe) opens fine fields (c .before .before .before .before .before .before .before .before .before .fields-test .left) in
-    let judged = judged-whole (read .safe) opens fine (line-closed (read .safe) (read .clear) opens fine fields all (c .before .close .ensures)) in
+    let judged = judged-whole (read .safe) opens fine (line-closed (read .safe) opens fine fields all (c .before .close .ensures)) in
     lines-refused read (c .before .before .before .before .before .before .before .before .before .before .before .before .before .before .before .before .before .before .lines-test .taken) (c .before .before .before .before .before .before .before .before .before .before .before .before .before .before .before .before .before .find .ensures) judged (c .if4 .taken)
 
 pub load-spec : {M : Type 1} → statement M
