@@ -1,16 +1,17 @@
 -- Demand 3: one theorem, from the bytes handed in to whole derivations.
-use mathlib.Core.Path.{_≡_, refl}
+use mathlib.Core.Path.{_≡_, refl, sym, _∙_, ap}
 use mathlib.Core.List.{List}
 use Prim.Native.Char.{code}
 use lib.IntN.{ℤ}
 use Rattle.theory.specs.Text.{Bytes}
 use Rattle.theory.specs.Packs.{Pack, Atom, written}
 use Rattle.theory.specs.Written.{packOf}
-use Rattle.theory.specs.Check.{verdictOf, checkOf}
+use Rattle.theory.specs.Check.{Numbers, verdictOf, checkOf}
 use Rattle.theory.specs.Reserve.{queryOf, fields}
 use Rattle.theory.specs.Limits.{Fits, Justified}
 use Rattle.theory.specs.Derivations.{GivenFact, Derivable}
-use Rattle.theory.specs.Promises.{DemandThree}
+use Rattle.theory.specs.Answers.{numbersOf, fieldsOf}
+use Rattle.theory.specs.Promises.{DemandThree, AnswersKept}
 use Rattle.theory.proofs.Acceptance.{accepts-from-verdict, of-pack, accepted-exactly}
 use Rattle.theory.proofs.Soundness.{derivable-meets, derivable-is-fact}
 use Rattle.theory.proofs.Reservations.{bound-exactly, impossible-exactly}
@@ -51,3 +52,14 @@ demand-three text Given given = record {
 -- Of document 01's derivations: the given facts are all that meet the claims on their predicates. No premise is left.
 pub demand-three-01 : (text : Bytes) → DemandThree text (GivenFact (packOf text))
 demand-three-01 text = demand-three text (GivenFact (packOf text)) (λ f g. g)
+
+-- Of the calls' own answers.
+pub answers-kept : (text : Bytes) (Given : Atom → Type 0) → DemandThree text Given → AnswersKept text Given
+answers-kept text Given kept = record {
+  accepted = λ area answer promised counts is. kept .claimsMet area (ap (λ (n : Numbers). n .number) (sym promised ∙ ap numbersOf is));
+  bounded = λ query answer promised bound is. kept .boundKept query (bound .size) (bound .claim) (sym promised ∙ ap fieldsOf is);
+  impossible = λ query answer promised claim is. kept .noneSuch query claim (sym promised ∙ ap fieldsOf is);
+}
+
+pub answers-kept-01 : (text : Bytes) → AnswersKept text (GivenFact (packOf text))
+answers-kept-01 text = answers-kept text (GivenFact (packOf text)) (demand-three-01 text)

@@ -15,7 +15,7 @@ use Rattle.theory.specs.Residuals.{weighted, claimForm, subgoalForms, co
 use Rattle.theory.specs.Faults.{firstOf, isSome, isUnfit, arityIn, isGiven, givenIn, isEmpty, noRule, lastOf, mayStand, noClaim, residualDue, predicateTests, claimTests, atomTests, headTests, subgoalTests, multiplierTests, tests, fault}
 use Rattle.theory.specs.Check.{numbers, Checked, multiplierLines, refused, judge, isFinished, verdictOf, checkOf}
 use Rattle.theory.specs.Measure.{Measured, measured, measureTerm, measureOf}
-use Rattle.theory.specs.Reserve.{Fields, fields, sizeFrom, queryFrom, queryOf, queryFault, unknownsAtMostZero, knownPart, isUsable, numerator, boundBy, usableFrom, impossibles, smallest, bounded, impossibleOr, reservation, refusal, reserveOf}
+use Rattle.theory.specs.Reserve.{Fields, fields, sizeFrom, queryFrom, queryOf, queryFault, unknownsAtMostZero, knownPart, isUsable, numerator, boundBy, usableFrom, impossibles, smallest, bounded, impossibleOr, reservation, refusal, answerOf, reserveOf}
 
 -- a call with quoted texts, and what it answers
 pub data Example : Type 0 where
@@ -29,7 +29,7 @@ pub data Answer : Type 0 where
   sized : Measured → Answer
 
 unfoldable pub answerTo : Example → Answer
-unfolding bytes same among every partsAt joined linesOf isNameByte isWord valueBehind isDecimal natural negated integer arity symbolFrom tokenOf firstTerms behind behindAll termsOf theOnly readTerm contribution size variables occurrences zeroForm plus times minus constantForm formOf key sameKey declaredAs claimsOn letterOf termsFrom kindFrom predicateFrom claimFrom atomFrom multipliersFrom nothing onLast add write writeAll packOf weighted claimForm subgoalForms combined residual numbered atomsVariables ruleVariables residualNumbers isJustified firstOf isSome isUnfit arityIn isGiven givenIn isEmpty noRule lastOf mayStand noClaim residualDue predicateTests claimTests atomTests headTests subgoalTests multiplierTests tests fault multiplierLines refused judge isFinished verdictOf checkOf measureTerm measureOf sizeFrom queryFrom queryOf queryFault unknownsAtMostZero knownPart isUsable numerator boundBy usableFrom impossibles smallest bounded impossibleOr reservation refusal reserveOf flatMap
+unfolding bytes same among every partsAt joined linesOf isNameByte isWord valueBehind isDecimal natural negated integer arity symbolFrom tokenOf firstTerms behind behindAll termsOf theOnly readTerm contribution size variables occurrences zeroForm plus times minus constantForm formOf key sameKey declaredAs claimsOn letterOf termsFrom kindFrom predicateFrom claimFrom atomFrom multipliersFrom nothing onLast add write writeAll packOf weighted claimForm subgoalForms combined residual numbered atomsVariables ruleVariables residualNumbers isJustified firstOf isSome isUnfit arityIn isGiven givenIn isEmpty noRule lastOf mayStand noClaim residualDue predicateTests claimTests atomTests headTests subgoalTests multiplierTests tests fault multiplierLines refused judge isFinished verdictOf checkOf measureTerm measureOf sizeFrom queryFrom queryOf queryFault unknownsAtMostZero knownPart isUsable numerator boundBy usableFrom impossibles smallest bounded impossibleOr reservation refusal answerOf reserveOf flatMap
 answerTo (check pack area) = checked (checkOf (bytes pack) area)
 answerTo (reserve pack query) = reserved (reserveOf (bytes pack) (bytes query))
 answerTo (measure term) = sized (measureOf (bytes term))

@@ -14,7 +14,7 @@ use Rattle.theory.specs.Packs.{Predicate, Pack, declaredAs}
 use Rattle.theory.specs.Written.{field, packOf}
 use Rattle.theory.specs.Faults.{isSome, arityIn}
 use Rattle.theory.specs.Check.{verdictOf}
-use Rattle.theory.specs.Reserve.{Query, queryKey, queryFrom, queryOf, sizeGiven, queryFault, Fields, reservation, refusal, reserveOf}
+use Rattle.theory.specs.Reserve.{Query, queryKey, queryFrom, queryOf, sizeGiven, queryFault, Fields, reservation, refusal, answerOf, reserveOf}
 use Rattle.theory.specs.Limits.{_∈_, PredicateFits}
 use Rattle.theory.proofs.Bytes.{same-refl}
 use Rattle.theory.proofs.Spelling.{decimal-of-natural, natural-within, natural-wider}
@@ -41,7 +41,7 @@ unrefused fault y x other e =
 
 -- an answer with another letter than `R`
 pub answered : (text query : Bytes) (x : Fields) → eqb (x .letter) (code "R") ≡ false → reserveOf text query ≡ x → Answered text query x
-unfolding reserveOf
+unfolding reserveOf answerOf
 answered text query x other e =
     let checked = unrefused (verdictOf text .returned .number) _ x other e in
     let asked = unrefused (queryFault (packOf text) query) _ x other (checked .1) in

@@ -138,9 +138,10 @@ reservation p q =
 unfoldable pub refusal : ℕ → Fields
 refusal n = fields (code "R") n 0
 
+-- What reserve answers to a query on an accepted pack.
+unfoldable pub answerOf : Pack → Bytes → Fields
+answerOf p query = cond (eqb (queryFault p query) 0) (reservation p (queryOf query)) (refusal (queryFault p query))
+
 -- What reserve returns. The pack is checked first.
 unfoldable pub reserveOf : Bytes → Bytes → Fields
-reserveOf text query =
-    cond (eqb (verdictOf text .returned .number) 0)
-    (cond (eqb (queryFault (packOf text) query) 0) (reservation (packOf text) (queryOf query)) (refusal (queryFault (packOf text) query)))
-    (refusal (verdictOf text .returned .number))
+reserveOf text query = cond (eqb (verdictOf text .returned .number) 0) (answerOf (packOf text) query) (refusal (verdictOf text .returned .number))
