@@ -1,19 +1,17 @@
 -- Tables of zeros, and the state before any line: they stand for a pack of nothing.
-use mathlib.Core.Path.{_≡_, refl}
+use mathlib.Core.Path.{_≡_, refl, subst⁻¹}
 use mathlib.Core.List.{List, []}
 use Prim.Native.Nat.{ℕ, _+_, _≤_, _<_}
 use native.Mathlib.Omega.{arith}
 use lib.IntN.{ℤ, pos}
-use lib.ListN.{replicate, length-replicate}
+use lib.ListN.{length-replicate}
 use Rattle.integers.proofs.Lists.{same-everywhere}
 use Rattle.theory.specs.Written.{nothing}
 use Rattle.theory.specs.Faults.{isEmpty}
 use Rattle.theory.specs.Check.{multiplierLines}
-use Rattle.tables.specs.Tables.{Tables, tables, Holds, NoWeights, Safe}
-use Rattle.packs.specs.Loading.{begun}
-
-abbrev pub fresh : Tables
-fresh = tables (replicate 64 0) (replicate 96 0) (replicate 4608 (pos 0)) (replicate 64 0) (replicate 1305 (pos 0)) (replicate 256 0)
+use Rattle.tables.specs.declared.State.{State}
+use Rattle.tables.specs.Tables.{Tables, Holds, NoWeights, Safe}
+use Rattle.packs.specs.Loading.{begun, fresh}
 
 pub fresh-safe : Safe fresh begun
 fresh-safe =
@@ -41,3 +39,10 @@ fresh-holds =
       last = λ some. absurd (some refl);
       ended = refl;
     }
+
+-- tables of zeros and that state are ready for the lines
+pub fresh-ready : {t : Tables} {s : State} → t ≡ fresh → s ≡ begun → Safe t s × NoWeights (t .numbers)
+fresh-ready {t = t} {s = s} isFresh isBegun = (
+  subst⁻¹ (λ (x : State). Safe t x) isBegun (subst⁻¹ (λ (x : Tables). Safe x begun) isFresh fresh-safe),
+  subst⁻¹ (λ (x : Tables). NoWeights (x .numbers)) isFresh fresh-clear,
+)

@@ -28,4 +28,4 @@ pub mod LineEnds
 pub mod LineLoop
 pub mod JudgedLines
 pub mod FreshTables
-pub mod CheckAnswers
+pub mod LoadAnswers

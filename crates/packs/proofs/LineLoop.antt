@@ -17,7 +17,7 @@ use Rattle.tables.specs.declared.State.{State}
 use Rattle.tables.specs.declared.Closed.{Closed}
 use Rattle.tables.specs.Tables.{Tables, Holds, NoWeights, Safe}
 use Rattle.packs.specs.Between.{ClosedFor, LineJudged, Reached, LinesRead}
-use Rattle.packs.specs.Loading.{Loads, LoadedFor, OfLine, faultVerdict}
+use Rattle.packs.specs.Loading.{LoadsLines, LinesLoadedFor, OfLine, faultVerdict}
 use Rattle.packs.proofs.FaultNumbers.{fault-number}
 
 -- ---- verdicts
@@ -62,7 +62,7 @@ lines-begin safe clear =
 
 module _ {text : Bytes} {start : State} {t₀ : Tables} {s : State} {t : Tables} {line at : ℕ} (read : LinesRead text start t₀ s t line at) where
   -- past the end of the text
-  pub lines-end : length text ≤ at → Loads text start t₀ (record { fault = 0; line = line; state = s }) t
+  pub lines-end : length text ≤ at → LoadsLines text start t₀ (record { fault = 0; line = line; state = s }) t
   lines-end past =
       record {
         safe = λ e. read .safe;
@@ -75,7 +75,7 @@ module _ {text : Bytes} {start : State} {t₀ : Tables} {s : State} {t : Tables}
       none : linesOf (drop at text) ≡ []
       none = lines-done text at past
 
-      reached : (w₀ : Written) → Reached text w₀ s t line at → LoadedFor text w₀ (record { fault = 0; line = line; state = s }) t
+      reached : (w₀ : Written) → Reached text w₀ s t line at → LinesLoadedFor text w₀ (record { fault = 0; line = line; state = s }) t
       reached w₀ there =
           let written : writeAll w₀ (linesOf text) ≡ there .w = there .written ∙ ap (writeAll (there .w)) none ∙ writeAll-none (there .w) in
           record {
@@ -124,7 +124,7 @@ module _ {text : Bytes} {start : State} {t₀ : Tables} {s : State} {t : Tables}
       verdict : judge w₀ 0 (linesOf text) ≡ refused (there .w) (line + 1) (part text at end) (r .fault)
       verdict = there .judged ∙ ap (judge (there .w) line) lines ∙ judge-refused (there .w) line (part text at end) _ (r .fault) (behind .answer) bad
 
-      refused-for : LoadedFor text w₀ (record { fault = r .fault; line = line + 1; state = s }) t₁
+      refused-for : LinesLoadedFor text w₀ (record { fault = r .fault; line = line + 1; state = s }) t₁
       refused-for =
           record {
             fault = λ some other. number other;
@@ -137,7 +137,7 @@ module _ {text : Bytes} {start : State} {t₀ : Tables} {s : State} {t : Tables}
           }
 
     -- the next line is refused
-    pub lines-refused : (r .fault ≡ 0 → ⊥) → Loads text start t₀ (record { fault = r .fault; line = line + 1; state = s }) t₁
+    pub lines-refused : (r .fault ≡ 0 → ⊥) → LoadsLines text start t₀ (record { fault = r .fault; line = line + 1; state = s }) t₁
     lines-refused bad =
         record {
           safe = λ e. absurd (bad e);

@@ -1,25 +1,27 @@
 // Check: loading a pack's lines into the tables, and the residual area.
 ghost use mathlib.Core.Path.{_≡_};
+ghost use mathlib.Core.Bool.{false};
 ghost use Prim.Native.Nat.{ℕ, _+_, _≤_, _<_};
 ghost use lib.ListN.{length};
 ghost use Rattle.theory.specs.Answers.{numbersOf, refusalNumbers};
 ghost use Rattle.theory.specs.Check.{checkOf};
+ghost use Rattle.theory.specs.declared.Verdict.the-variants.{Refused};
 ghost use Rattle.tables.specs.Tables.{tables, Safe, NoWeights};
-ghost use Rattle.packs.specs.Loading.{Loads, begun, Refuses, Laid};
+ghost use Rattle.packs.specs.Loading.{LoadsLines, begun, fresh, Refuses, Laid, Loads};
 use tables::State;
 use theory::Counts;
 use theory::Refusal;
 use theory::Verdict;
 
 /// A text whose lines are judged: the number of the first fault, or 0, its line, and the state there.
-pub struct Loaded {
+pub struct LoadedLines {
     pub fault: u8,
     pub line: usize,
     pub state: State,
 }
 
 /// Judges the lines of a text, behind lines that have filled the tables and left the state. Left at the first fault.
-pub fn load(
+pub fn load_lines(
     text: &[u8],
     start: State,
     names: &mut [u64; 64],
@@ -28,9 +30,9 @@ pub fn load(
     variables: &mut [u64; 64],
     numbers: &mut [i64; 1305],
     slots: &mut [u16; 256],
-) -> Loaded
+) -> LoadedLines
     requires { ⌜ (Safe (tables (now names) (now facts) (now claims) (now variables) (now numbers) (now slots)) start) × (NoWeights (now numbers)) ⌝ }
-    ensures { λ r. ⌜ Loads (now (text .entry)) start (tables (now (names .entry)) (now (facts .entry)) (now (claims .entry)) (now (variables .entry)) (now (numbers .entry)) (now (slots .entry))) r (tables (now (names .exit)) (now (facts .exit)) (now (claims .exit)) (now (variables .exit)) (now (numbers .exit)) (now (slots .exit))) ⌝ }
+    ensures { λ r. ⌜ LoadsLines (now (text .entry)) start (tables (now (names .entry)) (now (facts .entry)) (now (claims .entry)) (now (variables .entry)) (now (numbers .entry)) (now (slots .entry))) r (tables (now (names .exit)) (now (facts .exit)) (now (claims .exit)) (now (variables .exit)) (now (numbers .exit)) (now (slots .exit))) ⌝ }
 {
     let len = text.len();
     let mut state = start;
@@ -98,7 +100,7 @@ pub fn load(
         state = c.state;
         at = end + 1;
     }
-    Loaded {
+    LoadedLines {
         fault,
         line: number,
         state,
@@ -166,22 +168,95 @@ fn lay(area: &mut [i64], numbers: &[i64; 1305])
     }
 }
 
+/// A text that is judged: the verdict, whether that is for an unjustified claim, and the state.
+pub struct Loaded {
+    pub verdict: Verdict,
+    pub unjustified: bool,
+    pub state: State,
+}
+
+fn refused(refusal: Refusal) -> Loaded
+    ensures { λ r. ⌜ (r .verdict ≡ Refused refusal) × (r .unjustified ≡ false) ⌝ }
+{
+    Loaded {
+        verdict: Verdict::Refused(refusal),
+        unjustified: false,
+        state: start(),
+    }
+}
+
+/// Judges a text and fills the tables, which are empty at first, with what its lines write. For an unjustified claim the
+/// residual stands in front of the numbers.
+pub fn load(
+    text: &[u8],
+    names: &mut [u64; 64],
+    facts: &mut [u8; 96],
+    claims: &mut [i16; 4608],
+    variables: &mut [u64; 64],
+    numbers: &mut [i64; 1305],
+    slots: &mut [u16; 256],
+) -> Loaded
+    requires { ⌜ tables (now names) (now facts) (now claims) (now variables) (now numbers) (now slots) ≡ fresh ⌝ }
+    ensures { λ r. ⌜ Loads (now (text .entry)) r (tables (now (names .exit)) (now (facts .exit)) (now (claims .exit)) (now (variables .exit)) (now (numbers .exit)) (now (slots .exit))) ⌝ }
+{
+    let len = text.len();
+    if 32768 < len {
+        return refused(Refusal::LongText);
+    }
+    if len == 0 {
+        return refused(Refusal::UnfinishedText);
+    }
+    if text[len - 1] != 10 {
+        return refused(Refusal::UnfinishedText);
+    }
+    let l = load_lines(
+        text,
+        start(),
+        names,
+        facts,
+        claims,
+        variables,
+        numbers,
+        slots,
+    );
+    let fault = l.fault;
+    let state = l.state;
+    let line = short(l.line);
+    if fault == 13 {
+        return Loaded {
+            verdict: Verdict::Refused(refusal(
+                fault,
+                line,
+                byte(state.rules),
+                byte(state.multipliers + 1),
+            )),
+            unjustified: true,
+            state,
+        };
+    }
+    if fault != 0 {
+        return refused(refusal(fault, line, 0, 0));
+    }
+    if !state.ended {
+        return refused(Refusal::NoEnd);
+    }
+    Loaded {
+        verdict: Verdict::Accepted(Counts {
+            lines: line,
+            rules: byte(state.rules),
+            multiplier_lines: short(state.multiplier_lines),
+        }),
+        unjustified: false,
+        state,
+    }
+}
+
 /// Checks a pack. For an unjustified claim the area's first 17 numbers are the residual; otherwise it stays.
 pub fn check(text: &[u8], area: &mut [i64]) -> Verdict
     ensures { λ r. ⌜ (numbersOf r ≡ checkOf (now (text .entry)) (now (area .entry)) .returned) × (now (area .exit) ≡ checkOf (now (text .entry)) (now (area .entry)) .area) ⌝ }
 {
     if area.len() < 17 {
         return Verdict::Refused(Refusal::ShortArea);
-    }
-    let len = text.len();
-    if 32768 < len {
-        return Verdict::Refused(Refusal::LongText);
-    }
-    if len == 0 {
-        return Verdict::Refused(Refusal::UnfinishedText);
-    }
-    if text[len - 1] != 10 {
-        return Verdict::Refused(Refusal::UnfinishedText);
     }
     let mut names = [0u64; 64];
     let mut facts = [0u8; 96];
@@ -191,7 +266,6 @@ pub fn check(text: &[u8], area: &mut [i64]) -> Verdict
     let mut slots = [0u16; 256];
     let l = load(
         text,
-        start(),
         &mut names,
         &mut facts,
         &mut claims,
@@ -199,27 +273,9 @@ pub fn check(text: &[u8], area: &mut [i64]) -> Verdict
         &mut numbers,
         &mut slots,
     );
-    let fault = l.fault;
-    let state = l.state;
-    let line = short(l.line);
-    if fault == 13 {
+    if l.unjustified {
         lay(area, &numbers);
-        return Verdict::Refused(refusal(
-            fault,
-            line,
-            byte(state.rules),
-            byte(state.multipliers + 1),
-        ));
+        return l.verdict;
     }
-    if fault != 0 {
-        return Verdict::Refused(refusal(fault, line, 0, 0));
-    }
-    if !state.ended {
-        return Verdict::Refused(Refusal::NoEnd);
-    }
-    Verdict::Accepted(Counts {
-        lines: line,
-        rules: byte(state.rules),
-        multiplier_lines: short(state.multiplier_lines),
-    })
+    l.verdict
 }

@@ -1,211 +1,127 @@
 -- `packs::load` meets its contract. Assumes nothing.
-use mathlib.Core.Path.{_≡_, refl}
-use mathlib.Core.Logic.{⊎-elim}
-use Prim.Native.Nat.{_+_, _-_}
+use mathlib.Core.Path.{refl, subst⁻¹}
 use native.Mathlib.Omega.{arith}
+use Rattle.integers.proofs.Truth.{not-true, not-false}
+use Rattle.theory.specs.declared.Refusal.the-variants.{LongText, UnfinishedText}
+use Rattle.tables.specs.declared.State.{State}
+use Rattle.packs.proofs.FreshTables.{fresh-ready}
+use Rattle.packs.proofs.LoadAnswers.{is-finished, not-finished, none-unfinished, long-text, unfinished-text, refused-text, fresh-size, refused-line, refused-claim, unended, accepted}
 use borrow.Author.Needs.{needs}
-use Rattle.tables.specs.Tables.{tables}
-use Rattle.packs.specs.Between.{FieldsRead, LinesRead}
-use Rattle.packs.proofs.FieldLoop.{empty-stores, fields-begin, fields-ready, fields-more, fields-all, fields-closable}
-use Rattle.packs.proofs.LineEnds.{line-closed}
-use Rattle.packs.proofs.JudgedLines.{judged-opened, judged-field, judged-whole}
-use Rattle.packs.proofs.LineLoop.{lines-begin, lines-end, lines-more, lines-refused}
 use Rattle.packs.proofs.load.Statement.{statement}
 use Rattle.packs.proofs.load.Tie as tie
 use Rattle.packs.proofs.load.Reads as reads
 use Rattle.packs.proofs.load.Lts as lts
-use Rattle.closing.proofs.close.Reads as close-reads
-use Rattle.fields.proofs.field.Reads as field-reads
-use Rattle.opening.proofs.open.Reads as open-reads
-use Rattle.text.proofs.find.Reads as find-reads
+use Rattle.packs.proofs.byte.Reads as byte-reads
+use Rattle.packs.proofs.load_lines.Reads as load-lines-reads
+use Rattle.packs.proofs.refusal.Reads as refusal-reads
+use Rattle.packs.proofs.refused.Reads as refused-reads
+use Rattle.packs.proofs.short.Reads as short-reads
+use Rattle.packs.proofs.start.Reads as start-reads
 
-abbrev Inv-fields : tie.InvT-fields
-Inv-fields text names facts claims variables₀ numbers₀ slots len state fault₀ number at end line o letter width small₀ row₀ many₀ from₀ index₀ variables numbers fault small row many from index =
-    (fault ≡ 0) × FieldsRead line (tables names facts claims variables₀ numbers₀ slots) state o many from index small row variables numbers
+refused-requires : tie.Need-refused-requires
+refused-requires c κs = search needs
 
-abbrev μ-fields : tie.MeasureT-fields
-μ-fields text names facts claims variables₀ numbers₀ slots len state fault₀ number at end line o letter width small₀ row₀ many₀ from₀ index₀ variables numbers fault small row many from index =
-    width + 1 - from
+returns : tie.Need-returns
+returns c = refused-text _ LongText (c .refused .ensures) (fresh-size (c .before .before .before .pre)) (long-text _ (c .before .if1 .taken)) (λ e. omega arith)
 
-abbrev Inv-lines : tie.InvT-lines
-Inv-lines text names₀ facts₀ claims₀ variables₀ numbers₀ slots₀ len state₀ fault₀ number₀ at₀ names facts claims variables numbers slots state fault number at =
-    (fault ≡ 0) × LinesRead text state₀ (tables names₀ facts₀ claims₀ variables₀ numbers₀ slots₀) state (tables names facts claims variables numbers slots) number at
+refused-requires-2 : tie.Need-refused-requires-2
+refused-requires-2 c κs = search needs
 
-abbrev μ-lines : tie.MeasureT-lines
-μ-lines text names₀ facts₀ claims₀ variables₀ numbers₀ slots₀ len state₀ fault₀ number₀ at₀ names facts claims variables numbers slots state fault number at =
-    len - at
+returns-2 : tie.Need-returns-2
+returns-2 c = refused-text _ UnfinishedText (c .refused2 .ensures) (fresh-size (c .before .before .before .before .pre)) (unfinished-text _ (c .before .before .if1 .left) (none-unfinished _ (c .before .if2 .taken))) (λ e. omega arith)
 
-lines-holds : tie.Need-lines-holds Inv-fields μ-fields Inv-lines μ-lines
-lines-holds c = (refl, search (needs, lines-begin))
+sub-if3 : tie.Need-sub-if3
+sub-if3 c = search needs
 
-find-requires : tie.Need-find-requires Inv-fields μ-fields Inv-lines μ-lines
-find-requires c κs = search needs
+shared-slice-read-if3 : tie.Need-shared-slice-read-if3
+shared-slice-read-if3 c = search needs
 
-sub-line : tie.Need-sub-line Inv-fields μ-fields Inv-lines μ-lines
-sub-line c = search needs
+refused-requires-3 : tie.Need-refused-requires-3
+refused-requires-3 c κs = search needs
 
-part-line-start : tie.Need-part-line-start Inv-fields μ-fields Inv-lines μ-lines
-part-line-start c = search needs
+returns-3 : tie.Need-returns-3
+returns-3 c = refused-text _ UnfinishedText (c .refused3 .ensures) (fresh-size (c .before .before .before .before .before .before .pre)) (unfinished-text _ (c .before .before .before .before .if1 .left) (not-finished _ (c .before .before .before .if2 .left) (c .before .if3 .taken))) (λ e. omega arith)
 
-part-line-end : tie.Need-part-line-end Inv-fields μ-fields Inv-lines μ-lines
-part-line-end c = search needs
+start-requires : tie.Need-start-requires
+start-requires c κs = search needs
 
-add-number : tie.Need-add-number Inv-fields μ-fields Inv-lines μ-lines
-add-number c = search needs
+load-lines-requires : tie.Need-load-lines-requires
+load-lines-requires c κs = fresh-ready (c .before .before .before .before .before .before .before .before .before .before .before .before .pre) (c .before .before .before .before .before .before .start .ensures)
 
-open-requires : tie.Need-open-requires Inv-fields μ-fields Inv-lines μ-lines
-open-requires c κs = search needs
+short-requires : tie.Need-short-requires
+short-requires c κs = search needs
 
-fields-holds : tie.Need-fields-holds Inv-fields μ-fields Inv-lines μ-lines
-fields-holds c =
-    let read = c .before .before .before .before .before .before .before .before .lines .inv .1 in
-    let opens = c .before .before .«open» .ensures in
-    let fine = c .before .if1 .left in
-    let came = c .if2 .came in (
-      fine,
-      fields-begin (read .safe) opens fine (read .clear) empty-stores
-          (λ e. ⊎-elim (λ way. way .1) (λ way. absurd (way .0 .left e)) came)
-          (λ other. ⊎-elim (λ way. absurd (other (way .0 .taken))) (λ way. way .1) came),
-    )
+byte-requires : tie.Need-byte-requires
+byte-requires c κs = search needs
 
-find-requires-2 : tie.Need-find-requires-2 Inv-fields μ-fields Inv-lines μ-lines
-find-requires-2 c κs = search needs
+add-byte : tie.Need-add-byte
+add-byte c = search needs
 
-sub-field : tie.Need-sub-field Inv-fields μ-fields Inv-lines μ-lines
-sub-field c = search needs
+byte-requires-2 : tie.Need-byte-requires-2
+byte-requires-2 c κs = search needs
 
-part-field-start : tie.Need-part-field-start Inv-fields μ-fields Inv-lines μ-lines
-part-field-start c = search needs
+refusal-requires : tie.Need-refusal-requires
+refusal-requires c κs = search needs
 
-part-field-end : tie.Need-part-field-end Inv-fields μ-fields Inv-lines μ-lines
-part-field-end c = search needs
-
-field-requires : tie.Need-field-requires Inv-fields μ-fields Inv-lines μ-lines
-field-requires c κs =
-    let read = c .before .before .before .before .before .before .before .before .before .before .before .before .before .before .before .before .before .before .lines .inv .1 in
-    let opens = c .before .before .before .before .before .before .before .before .before .before .before .before .«open» .ensures in
-    let fine = c .before .before .before .before .before .before .before .before .before .before .before .if1 .left in
-    let fields = c .before .before .before .before .before .before .before .before .before .fields .inv .1 in
-    fields-ready (read .safe) opens fine fields (c .before .before .before .before .before .before .before .before .fields-test .taken) (c .before .before .before .before .before .before .before .find2 .ensures)
-
-add-index : tie.Need-add-index Inv-fields μ-fields Inv-lines μ-lines
-add-index c =
-    let read = c .before .before .before .before .before .before .before .before .before .before .before .before .before .before .before .before .before .before .before .before .lines .inv .1 in
-    let opens = c .before .before .before .before .before .before .before .before .before .before .before .before .before .before .«open» .ensures in
-    let fine = c .before .before .before .before .before .before .before .before .before .before .before .before .before .if1 .left in
-    let fields = c .before .before .before .before .before .before .before .before .before .before .before .fields .inv .1 in
-    let short = opens .short fine in
-    let low = fields .low in
-    let inside = c .before .before .before .before .before .before .before .before .before .before .fields-test .taken in
-    record { fits = omega arith }
-
-add-from : tie.Need-add-from Inv-fields μ-fields Inv-lines μ-lines
-add-from c =
-    let read = c .before .before .before .before .before .before .before .before .before .before .before .before .before .before .before .before .before .before .before .before .lines .inv .1 in
-    let opens = c .before .before .before .before .before .before .before .before .before .before .before .before .before .before .«open» .ensures in
-    let fine = c .before .before .before .before .before .before .before .before .before .before .before .before .before .if1 .left in
-    let short = opens .short fine in
-    let high = c .before .before .before .before .before .before .before .before .before .find2 .ensures .high in
-    record { fits = omega arith }
-
-fields-less : tie.Need-fields-less Inv-fields μ-fields Inv-lines μ-lines
-fields-less c = search needs
-
-fields-again : tie.Need-fields-again Inv-fields μ-fields Inv-lines μ-lines
-fields-again c =
-    let read = c .before .before .before .before .before .before .before .before .before .before .before .before .before .before .before .before .before .before .before .before .lines .inv .1 in
-    let opens = c .before .before .before .before .before .before .before .before .before .before .before .before .before .before .«open» .ensures in
-    let fine = c .before .before .before .before .before .before .before .before .before .before .before .before .before .if1 .left in
-    let fields = c .before .before .before .before .before .before .before .before .before .before .before .fields .inv .1 in
-    (c .if3 .left, fields-more (read .safe) opens fine fields (c .before .before .before .before .before .before .before .before .before .before .fields-test .taken) (c .before .before .before .before .before .before .before .before .before .find2 .ensures) (c .before .field .ensures) (c .if3 .left))
-
-close-requires : tie.Need-close-requires Inv-fields μ-fields Inv-lines μ-lines
-close-requires c κs =
-    let read = c .before .before .before .before .before .before .before .before .before .before .before .before .before .before .before .before .before .lines .inv .1 in
-    let opens = c .before .before .before .before .before .before .before .before .before .before .before .«open» .ensures in
-    let fine = c .before .before .before .before .before .before .before .before .before .before .if1 .left in
-    let fields = c .before .before .before .before .before .before .before .before .fields .inv .1 in
-    fields-closable (read .safe) opens fine fields (c .before .before .before .before .before .before .before .fields-test .left)
-
-add-at : tie.Need-add-at Inv-fields μ-fields Inv-lines μ-lines
-add-at c =
-    let addressable = c .before .before .before .before .before .before .before .before .before .before .before .before .before .before .before .before .before .before .before .before .before .before .good .0 .1 in
-    let high = c .before .before .before .before .before .before .before .before .before .before .before .before .before .before .before .before .before .before .find .ensures .high in
-    record { fits = omega arith }
-
-lines-less : tie.Need-lines-less Inv-fields μ-fields Inv-lines μ-lines
-lines-less c =
-    let inside = c .before .before .before .before .before .before .before .before .before .before .before .before .before .before .before .before .before .before .before .lines-test .taken in
-    let low = c .before .before .before .before .before .before .before .before .before .before .before .before .before .before .before .before .before .before .find .ensures .low in
-    omega arith
-
-lines-again : tie.Need-lines-again Inv-fields μ-fields Inv-lines μ-lines
-lines-again c =
-    let read = c .before .before .before .before .before .before .before .before .before .before .before .before .before .before .before .before .before .before .before .before .lines .inv .1 in
-    let opens = c .before .before .before .before .before .before .before .before .before .before .before .before .before .before .«open» .ensures in
-    let fine = c .before .before .before .before .before .before .before .before .before .before .before .before .before .if1 .left in
-    let fields = c .before .before .before .before .before .before .before .before .before .before .before .fields .inv .1 in
-    let all = fields-all (read .safe) opens fine fields (c .before .before .before .before .before .before .before .before .before .before .fields-test .left) in
-    let judged = judged-whole (read .safe) opens fine (line-closed (read .safe) opens fine fields all (c .before .before .close .ensures)) in
-    (c .before .if4 .left, lines-more read (c .before .before .before .before .before .before .before .before .before .before .before .before .before .before .before .before .before .before .before .lines-test .taken) (c .before .before .before .before .before .before .before .before .before .before .before .before .before .before .before .before .before .before .find .ensures) judged (c .before .if4 .left))
-
-returns : tie.Need-returns Inv-fields μ-fields Inv-lines μ-lines
-returns c = rw (c .before .lines .inv .0) (lines-end (c .before .lines .inv .1) (c .lines-test .left))
-
-returns-2 : tie.Need-returns-2 Inv-fields μ-fields Inv-lines μ-lines
-returns-2 c =
-    let read = c .before .before .before .before .before .before .before .lines .inv .1 in
-    lines-refused read (c .before .before .before .before .before .before .lines-test .taken) (c .before .before .before .before .before .find .ensures) (judged-opened (read .safe) (c .before .«open» .ensures) (c .if1 .taken)) (c .if1 .taken)
-
-returns-3 : tie.Need-returns-3 Inv-fields μ-fields Inv-lines μ-lines
-returns-3 c =
-    let read = c .before .before .before .before .before .before .before .before .before .before .before .before .before .before .before .before .before .before .before .before .lines .inv .1 in
-    let opens = c .before .before .before .before .before .before .before .before .before .before .before .before .before .before .«open» .ensures in
-    let fine = c .before .before .before .before .before .before .before .before .before .before .before .before .before .if1 .left in
-    let fields = c .before .before .before .before .before .before .before .before .before .before .before .fields .inv .1 in
-    let judged = judged-field (read .safe) opens fine fields (c .before .before .before .before .before .before .before .before .before .before .fields-test .taken) (c .before .before .before .before .before .before .before .before .before .find2 .ensures) (c .before .field .ensures) (c .if3 .taken) in
-    lines-refused read (c .before .before .before .before .before .before .before .before .before .before .before .before .before .before .before .before .before .before .before .lines-test .taken) (c .before .before .before .before .before .before .before .before .before .before .before .before .before .before .before .before .before .before .find .ensures) judged (c .if3 .taken)
-
-returns-4 : tie.Need-returns-4 Inv-fields μ-fields Inv-lines μ-lines
+returns-4 : tie.Need-returns-4
 returns-4 c =
-    let read = c .before .before .before .before .before .before .before .before .before .before .before .before .before .before .before .before .before .before .before .lines .inv .1 in
-    let opens = c .before .before .before .before .before .before .before .before .before .before .before .before .before .«open» .ensures in
-    let fine = c .before .before .before .before .before .before .before .before .before .before .before .before .if1 .left in
-    let fields = c .before .before .before .before .before .before .before .before .before .before .fields .inv .1 in
-    let all = fields-all (read .safe) opens fine fields (c .before .before .before .before .before .before .before .before .before .fields-test .left) in
-    let judged = judged-whole (read .safe) opens fine (line-closed (read .safe) opens fine fields all (c .before .close .ensures)) in
-    lines-refused read (c .before .before .before .before .before .before .before .before .before .before .before .before .before .before .before .before .before .before .lines-test .taken) (c .before .before .before .before .before .before .before .before .before .before .before .before .before .before .before .before .before .find .ensures) judged (c .if4 .taken)
+    refused-claim _ (c .before .before .before .before .before .before .before .before .before .before .before .before .before .before .before .before .before .before .if1 .left) (is-finished _ (c .before .before .before .before .before .before .before .before .before .before .before .before .before .before .before .before .before .if2 .left) (c .before .before .before .before .before .before .before .before .before .before .before .before .before .before .before .if3 .left)) (c .before .before .before .before .before .before .before .before .before .before .before .before .before .before .start .ensures) (c .before .before .before .before .before .before .before .before .before .before .before .before .before .before .before .before .before .before .before .before .pre) (c .before .before .before .before .before .before .before .load-lines .ensures) (c .refusal .result) (c .before .before .before .before .if4 .taken)
+    (rw (c .before .before .before .before .before .short .ensures, c .before .before .before .byte .ensures, c .before .byte2 .ensures) at (c .refusal .ensures))
+
+refusal-requires-2 : tie.Need-refusal-requires-2
+refusal-requires-2 c κs = search needs
+
+refused-requires-4 : tie.Need-refused-requires-4
+refused-requires-4 c κs = search needs
+
+returns-5 : tie.Need-returns-5
+returns-5 c =
+    refused-line _ (c .before .before .before .before .before .before .before .before .before .before .before .before .before .before .before .before .before .if1 .left) (is-finished _ (c .before .before .before .before .before .before .before .before .before .before .before .before .before .before .before .before .if2 .left) (c .before .before .before .before .before .before .before .before .before .before .before .before .before .before .if3 .left)) (c .before .before .before .before .before .before .before .before .before .before .before .before .before .start .ensures) (c .before .before .before .before .before .before .before .before .before .before .before .before .before .before .before .before .before .before .before .pre) (c .before .before .before .before .before .before .load-lines .ensures) (c .before .refusal2 .result) (c .refused4 .ensures) (c .before .before .if5 .taken) (c .before .before .before .if4 .left)
+    (rw (c .before .before .before .before .short .ensures) at (c .before .refusal2 .ensures))
+
+refused-requires-5 : tie.Need-refused-requires-5
+refused-requires-5 c κs = search needs
+
+returns-6 : tie.Need-returns-6
+returns-6 c =
+    unended _ (c .before .before .before .before .before .before .before .before .before .before .before .before .before .before .before .before .before .before .if1 .left) (is-finished _ (c .before .before .before .before .before .before .before .before .before .before .before .before .before .before .before .before .before .if2 .left) (c .before .before .before .before .before .before .before .before .before .before .before .before .before .before .before .if3 .left)) (c .before .before .before .before .before .before .before .before .before .before .before .before .before .before .start .ensures) (c .before .before .before .before .before .before .before .before .before .before .before .before .before .before .before .before .before .before .before .before .pre) (c .before .before .before .before .before .before .before .load-lines .ensures) (c .before .before .before .if5 .left) (c .refused5 .ensures) (not-true _ (c .before .if6 .taken))
+
+byte-requires-3 : tie.Need-byte-requires-3
+byte-requires-3 c κs = search needs
+
+short-requires-2 : tie.Need-short-requires-2
+short-requires-2 c κs = search needs
+
+returns-7 : tie.Need-returns-7
+returns-7 c =
+    accepted _ (c .before .before .before .before .before .before .before .before .before .before .before .before .before .before .before .before .before .before .before .if1 .left) (is-finished _ (c .before .before .before .before .before .before .before .before .before .before .before .before .before .before .before .before .before .before .if2 .left) (c .before .before .before .before .before .before .before .before .before .before .before .before .before .before .before .before .if3 .left)) (c .before .before .before .before .before .before .before .before .before .before .before .before .before .before .before .start .ensures) (c .before .before .before .before .before .before .before .before .before .before .before .before .before .before .before .before .before .before .before .before .before .pre) (c .before .before .before .before .before .before .before .before .load-lines .ensures) (c .before .before .before .before .if5 .left) refl refl
+    (rw (c .before .before .before .before .before .before .short .ensures, c .before .byte3 .ensures, c .short2 .ensures) refl) (not-false _ (c .before .before .if6 .left))
 
 pub load-spec : {M : Type 1} → statement M
 load-spec =
     tie.close
     (tie.spec
-    Inv-fields
-    μ-fields
-    Inv-lines
-    μ-lines
-    lines-holds
-    find-requires
-    sub-line
-    part-line-start
-    part-line-end
-    add-number
-    open-requires
-    fields-holds
-    find-requires-2
-    sub-field
-    part-field-start
-    part-field-end
-    field-requires
-    add-index
-    add-from
-    fields-less
-    fields-again
-    close-requires
-    add-at
-    lines-less
-    lines-again
+    refused-requires
     returns
+    refused-requires-2
     returns-2
+    sub-if3
+    shared-slice-read-if3
+    refused-requires-3
     returns-3
-    returns-4)
+    start-requires
+    load-lines-requires
+    short-requires
+    byte-requires
+    add-byte
+    byte-requires-2
+    refusal-requires
+    returns-4
+    refusal-requires-2
+    refused-requires-4
+    returns-5
+    refused-requires-5
+    returns-6
+    byte-requires-3
+    short-requires-2
+    returns-7)
