@@ -1,0 +1,2 @@
+-- What the proof of `size` cites.
+pub mod Sizes

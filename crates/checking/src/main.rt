@@ -1,0 +1,158 @@
+// Checks the packs on standard input and prints for each the four numbers, a colon, and the area as the call leaves it.
+// A case is a line `length,area`, then so many bytes of text, then a byte 10; the area has so many numbers, each 7 at
+// entry. Where the cases and the expected output come from is said in the file origin.md.
+ghost use mathlib.Core.Path.{_≡_};
+ghost use Prim.Native.Nat.{_≤_, _<_};
+ghost use lib.IntN.{natAbs};
+ghost use lib.ListN.{length};
+use libc::STDOUT_FILENO;
+use text::Natural;
+use theory::Counts;
+use theory::Refusal;
+use theory::Verdict;
+
+fn show(n: u64) {
+    io::print_decimal(STDOUT_FILENO, n);
+}
+
+fn show_four(a: u64, b: u64, c: u64, d: u64) {
+    show(a);
+    io::write_all(STDOUT_FILENO, b",");
+    show(b);
+    io::write_all(STDOUT_FILENO, b",");
+    show(c);
+    io::write_all(STDOUT_FILENO, b",");
+    show(d);
+}
+
+fn show_line(number: u64, line: u16) {
+    show_four(number, line as u64, 0, 0);
+}
+
+fn show_refusal(r: Refusal) {
+    match r {
+        Refusal::ShortArea => show_four(1, 0, 0, 0),
+        Refusal::LongText => show_four(2, 0, 0, 0),
+        Refusal::UnfinishedText => show_four(3, 0, 0, 0),
+        Refusal::UnfitLine(line) => show_line(4, line),
+        Refusal::Letter(line) => show_line(5, line),
+        Refusal::NoEnd => show_four(6, 0, 0, 0),
+        Refusal::Name(line) => show_line(7, line),
+        Refusal::Declaration(line) => show_line(8, line),
+        Refusal::FieldCount(line) => show_line(9, line),
+        Refusal::Number(line) => show_line(10, line),
+        Refusal::NoTerm(line) => show_line(11, line),
+        Refusal::CountLimit(line) => show_line(12, line),
+        Refusal::Unjustified(line, rule, claim) => {
+            show_four(13, line as u64, rule as u64, claim as u64)
+        }
+    }
+}
+
+fn show_counts(c: Counts) {
+    show_four(0, c.lines as u64, c.rules as u64, c.multiplier_lines as u64);
+}
+
+fn show_verdict(v: Verdict) {
+    match v {
+        Verdict::Accepted(counts) => show_counts(counts),
+        Verdict::Refused(refusal) => show_refusal(refusal),
+    }
+}
+
+// How far a number lies from 0. The difference fits at every number, where a negation does not at the least one.
+fn size(z: i64) -> u64
+    ensures { λ r. ⌜ r ≡ natAbs z ⌝ }
+{
+    if z < 0 { (-1 - z) as u64 + 1 } else { z as u64 }
+}
+
+fn show_signed(z: i64) {
+    if z < 0 {
+        io::write_all(STDOUT_FILENO, b"-");
+    }
+    show(size(z));
+}
+
+fn show_area(area: &[i64]) {
+    io::write_all(STDOUT_FILENO, b":");
+    let mut i: usize = 0;
+    while i < area.len() {
+        if 0 < i {
+            io::write_all(STDOUT_FILENO, b",");
+        }
+        show_signed(area[i]);
+        i += 1;
+    }
+    io::write_all(STDOUT_FILENO, b"\n");
+}
+
+// Checks a text with the area that is lent, and shows the answer and the area.
+fn check_into(text: &[u8], area: &mut [i64]) {
+    let verdict = packs::check(text, area);
+    show_verdict(verdict);
+    show_area(area);
+}
+
+// Checks a text with an area of so many sevens.
+fn check_one(text: &[u8], room: usize)
+    requires { ⌜ room ≤ 19 ⌝ }
+{
+    let mut area = [7i64; 19];
+    check_into(text, &mut area[..room]);
+}
+
+// A number of a header, or one that no case has.
+fn number(field: &[u8]) -> usize {
+    let read = text::read_natural(field, 99998);
+    match read {
+        Natural::Whole(n) => n as usize,
+        Natural::NoNatural => 99999,
+    }
+}
+
+// Runs the case at a place and gives the place behind it, or the end where there is none.
+fn run_case(input: &[u8], at: usize) -> usize
+    requires { ⌜ at < length (now input) ⌝ }
+    ensures { λ r. ⌜ at < r ⌝ }
+{
+    let end = text::find(input, 10, at);
+    let comma = text::find(input, 44, at);
+    if end <= comma {
+        return input.len();
+    }
+    let length = number(&input[at..comma]);
+    let room = number(&input[comma + 1..end]);
+    if input.len() - end < 2 {
+        return input.len();
+    }
+    let from = end + 1;
+    if input.len() - from < length {
+        return input.len();
+    }
+    if 19 < room {
+        return input.len();
+    }
+    let to = from + length;
+    check_one(&input[from..to], room);
+    to + 1
+}
+
+fn run_cases(input: &[u8]) {
+    let n = input.len();
+    let mut at: usize = 0;
+    while at < n {
+        at = run_case(input, at);
+    }
+}
+
+// Room for all of the input. It has its own function, as the proof of `main` would otherwise go through every element.
+fn input_room() -> [u8; 1048576] {
+    [0u8; 1048576]
+}
+
+fn main() {
+    let mut input = input_room();
+    let n = io::read_full(0, &mut input);
+    run_cases(&input[..n]);
+}
