@@ -3,7 +3,7 @@ use mathlib.Core.Bool.{Bool}
 use mathlib.Core.List.{List, []}
 use Prim.Native.Nat.{ℕ, _≤_}
 use native.Mathlib.Omega.{arith}
-use lib.IntN.{ℤ, pos, natAbs, *ℤ-zero}
+use lib.IntN.{ℤ, natAbs, *ℤ-zero}
 use lib.ListN.{length, getD}
 use lib.Dec.{ltb}
 use Rattle.integers.proofs.Truth.{by-truth, ltb-lt, ltb-ge}

@@ -40,7 +40,7 @@ exact operation x y hx hy h =
 exact-sum : (x y : ℤ) → natAbs x ≤ 2 ^ 61 → natAbs y ≤ 2 ^ 61 → Exact _+ℤ_ x y
 exact-sum x y hx hy = exact _+ℤ_ x y (omega arith) (omega arith) (omega (arith, natAbs-add x y))
 
-exact-product : (x y : ℤ) → natAbs x ≤ 2 ^ 36 → natAbs y ≤ 2 ^ 24 → Exact _*ℤ_ x y
+pub exact-product : (x y : ℤ) → natAbs x ≤ 2 ^ 36 → natAbs y ≤ 2 ^ 24 → Exact _*ℤ_ x y
 exact-product x y hx hy = exact _*ℤ_ x y (omega arith) (omega arith) (omega (arith, natAbs-mul x y, mul-le-mul hx hy))
 
 -- ---- under what plus requires, and what times requires

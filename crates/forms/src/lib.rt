@@ -1,5 +1,5 @@
 // Forms, by value.
-ghost use Prim.Native.Nat.{ℕ, _≤_, _^_};
+ghost use Prim.Native.Nat.{_≤_, _^_};
 ghost use lib.IntN.{natAbs};
 ghost use Rattle.forms.specs.Sums.{Within, Zero, Sum, Multiple};
 

@@ -19,7 +19,7 @@ use Rattle.text.proofs.WordKinds.{isNameWord, name-told}
 use Rattle.opening.specs.declared.Named.{Named}
 use Rattle.opening.specs.Opening.{Begins, NameRead}
 
-read-words : (bs : Bytes) (r : Word) (words : Words) → WordRead bs r → r ≡ Name words → words ≡ wordsOf bs
+pub read-words : (bs : Bytes) (r : Word) (words : Words) → WordRead bs r → r ≡ Name words → words ≡ wordsOf bs
 read-words bs r words (name h) e = cc
 read-words bs r words (variable h) e = let never : _≡_ {A = ℕ} 0 1 = cc in absurd (omega arith)
 read-words bs r words (neither h k) e = let never : _≡_ {A = ℕ} 0 1 = cc in absurd (omega arith)

@@ -1,9 +1,7 @@
 // A line's tests up to the count of its fields, one function for each letter, all with one contract.
 ghost use mathlib.Core.Path.{_≡_};
-ghost use mathlib.Core.Bool.{true, false, not};
-ghost use Prim.Native.Nat.{ℕ, _+_, _*_, _≤_, _<_, _^_};
-ghost use lib.IntN.{pos, natAbs};
-ghost use lib.ListN.{length, getD};
+ghost use mathlib.Core.Bool.{true, false};
+ghost use Prim.Native.Nat.{ℕ, _+_, _≤_, _<_};
 ghost use Rattle.tables.specs.Tables.{SafeState, SafeFacts};
 ghost use Rattle.opening.specs.Opening.{Begins, KnownLetter, NameRead, Completes, Stands, OpensLetter, Opens};
 use tables::Opened;

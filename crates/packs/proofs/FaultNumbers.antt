@@ -6,7 +6,7 @@ use Prim.Native.Nat.{ℕ}
 use Rattle.theory.specs.Text.{Bytes, fieldsOf}
 use Rattle.theory.specs.Packs.{Pack}
 use Rattle.theory.specs.Written.{Letter, P, C, H, B, M, E, noLetter, lineLetter, Written}
-use Rattle.theory.specs.Faults.{Test, test, firstOf, predicateTests, claimTests, atomTests, headTests, subgoalTests, multiplierTests, tests, fault}
+use Rattle.theory.specs.Faults.{Test, firstOf, predicateTests, claimTests, atomTests, headTests, subgoalTests, multiplierTests, tests, fault}
 use Rattle.integers.proofs.Truth.{by-truth}
 use Rattle.packs.specs.Loading.{OfLine, four, five, seven, eight, nine, ten, eleven, twelve}
 

@@ -1,9 +1,8 @@
 -- Tables of zeros, and the state before any line: they stand for a pack of nothing.
 use mathlib.Core.Path.{_≡_, refl, subst⁻¹}
-use mathlib.Core.List.{List, []}
-use Prim.Native.Nat.{ℕ, _+_, _≤_, _<_}
+use Prim.Native.Nat.{ℕ, _+_, _<_}
 use native.Mathlib.Omega.{arith}
-use lib.IntN.{ℤ, pos}
+use lib.IntN.{pos}
 use lib.ListN.{length-replicate}
 use Rattle.integers.proofs.Lists.{same-everywhere}
 use Rattle.theory.specs.Written.{nothing}

@@ -1,5 +1,5 @@
 -- A line that is judged: refused when it is opened, refused at one of its fields, or read whole.
-use mathlib.Core.Path.{_≡_, sym, _∙_}
+use mathlib.Core.Path.{_≡_}
 use mathlib.Core.Logic.{_⊎_, inl, inr}
 use mathlib.Core.List.{List}
 use Prim.Native.Nat.{ℕ, _≤_}
@@ -17,7 +17,7 @@ use Rattle.tables.specs.declared.Closed.{Closed}
 use Rattle.tables.specs.Tables.{Tables, tables, Holds, Safe}
 use Rattle.opening.specs.Opening.{Opens, Passed}
 use Rattle.fields.specs.Fields.{FieldDone}
-use Rattle.packs.specs.Between.{FieldsRead, ClosedFor, LineClosed, LineJudged}
+use Rattle.packs.specs.Between.{FieldsRead, LineClosed, LineJudged}
 use Rattle.packs.proofs.Passing.{outline}
 use Rattle.packs.proofs.FieldLoop.{fields-size, fields-number, fields-fault}
 

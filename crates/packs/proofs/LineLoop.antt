@@ -1,6 +1,5 @@
 -- The loop over the lines of a text: before the first, behind a line that passes, and where it ends.
 use mathlib.Core.Path.{_≡_, refl, sym, _∙_, ap}
-use mathlib.Core.Bool.{Bool}
 use mathlib.Core.List.{List, [], _∷_}
 use Prim.Native.Nat.{ℕ, _+_, _≤_, _<_}
 use native.Mathlib.Omega.{arith}
@@ -10,12 +9,12 @@ use lib.ListN.{length, take, drop}
 use Rattle.theory.specs.Text.{Bytes, fieldsOf, linesOf}
 use Rattle.theory.specs.Written.{Written, write, writeAll, multipliersFrom}
 use Rattle.theory.specs.Faults.{fault, lastRule, residualDue}
-use Rattle.theory.specs.Check.{Judgement, numbers, plain, refused, judge}
+use Rattle.theory.specs.Check.{numbers, refused, judge}
 use Rattle.text.specs.Scans.{part, Finds}
 use Rattle.text.proofs.Cuts.{lines-done, lines-step}
 use Rattle.tables.specs.declared.State.{State}
 use Rattle.tables.specs.declared.Closed.{Closed}
-use Rattle.tables.specs.Tables.{Tables, Holds, NoWeights, Safe}
+use Rattle.tables.specs.Tables.{Tables, NoWeights, Safe}
 use Rattle.packs.specs.Between.{ClosedFor, LineJudged, Reached, LinesRead}
 use Rattle.packs.specs.Loading.{LoadsLines, LinesLoadedFor, OfLine, faultVerdict}
 use Rattle.packs.proofs.FaultNumbers.{fault-number}

@@ -1,27 +1,26 @@
 -- What loading a text answers, by the tests of the whole text and what loading its lines leaves; and what check makes of it.
 use mathlib.Core.Path.{_≡_, refl, sym, _∙_, ap, subst⁻¹}
-use mathlib.Core.Bool.{true, false, cond}
-use mathlib.Core.List.{List, [], _∷_, _++_}
+use mathlib.Core.Bool.{true, false}
+use mathlib.Core.List.{List, [], _∷_}
 use Prim.Native.Nat.{ℕ, zero, suc, _+_, _-_, _≤_, _<_}
 use native.Mathlib.Omega.{arith}
-use lib.Dec.{ltb, eqb}
+use lib.Dec.{eqb}
 use lib.IntN.{ℤ, pos}
-use lib.ListN.{length, getD, take, drop, length-replicate}
+use lib.ListN.{length, getD, take, length-replicate}
 use lib.Seq.{length-take-le}
 use borrow.Author.Tests.{lt-ltb, le-ltb, eq-eqb, ne-eqb}
 use Rattle.integers.proofs.Truth.{never-both}
 use Rattle.theory.specs.Text.{Bytes, linesOf}
-use Rattle.theory.specs.Written.{nothing, writeAll}
-use Rattle.theory.specs.Check.{Numbers, Judgement, numbers, plain, judge, isFinished, verdictOf, checkOf, multiplierLines}
+use Rattle.theory.specs.Written.{nothing}
+use Rattle.theory.specs.Check.{Numbers, Judgement, numbers, plain, judge, isFinished, verdictOf, checkOf}
 use Rattle.theory.specs.Answers.{numbersOf, refusalNumbers}
 use Rattle.theory.specs.declared.Refusal.{Refusal}
-use Rattle.theory.specs.declared.Verdict.{Verdict}
-use Rattle.theory.specs.declared.Verdict.the-variants.{Accepted, Refused}
+use Rattle.theory.specs.declared.Verdict.the-variants.{Refused}
 use Rattle.tables.specs.declared.State.{State}
 use Rattle.tables.specs.Tables.{Tables, Holds}
 use Rattle.packs.specs.declared.LoadedLines.{LoadedLines}
 use Rattle.packs.specs.declared.Loaded.{Loaded}
-use Rattle.packs.specs.Loading.{begun, fresh, LinesLoadedFor, LoadsLines, Refuses, Laid, Loads, faultVerdict}
+use Rattle.packs.specs.Loading.{begun, fresh, LinesLoadedFor, LoadsLines, Refuses, Laid, Loads}
 use Rattle.packs.proofs.FreshTables.{fresh-holds}
 
 -- ---- the tests of the whole text

@@ -1,7 +1,6 @@
 -- A line's refusal by its number.
 use mathlib.Core.Path.{_≡_, refl, sym, _∙_, ap}
 use Prim.Native.Nat.{ℕ}
-use native.Mathlib.Omega.{arith}
 use Rattle.theory.specs.Check.{numbers}
 use Rattle.theory.specs.Answers.{refusalNumbers}
 use Rattle.theory.specs.declared.Refusal.{Refusal}

@@ -1,9 +1,9 @@
 // Check: loading a pack's lines into the tables, and the residual area.
 ghost use mathlib.Core.Path.{_≡_};
 ghost use mathlib.Core.Bool.{false};
-ghost use Prim.Native.Nat.{ℕ, _+_, _≤_, _<_};
+ghost use Prim.Native.Nat.{_+_, _≤_, _<_};
 ghost use lib.ListN.{length};
-ghost use Rattle.theory.specs.Answers.{numbersOf, refusalNumbers};
+ghost use Rattle.theory.specs.Answers.{numbersOf};
 ghost use Rattle.theory.specs.Check.{checkOf};
 ghost use Rattle.theory.specs.declared.Verdict.the-variants.{Refused};
 ghost use Rattle.tables.specs.Tables.{tables, Safe, NoWeights};

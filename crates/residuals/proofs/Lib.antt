@@ -1,4 +1,4 @@
--- Laws that callers use: Weighing's weighs-small and head-summable. The rest is for the functions' own proofs.
+-- Laws that callers use: Fits, and Weighing's weighs-small and head-summable. The rest is for the functions' own proofs.
 pub mod Fits
 pub mod Stretches
 pub mod Rows

@@ -1,9 +1,9 @@
 // The weights of an `M` line, and the residual: the rows of the rule's arguments, each times its weight.
 ghost use mathlib.Core.Path.{_≡_};
 ghost use mathlib.Core.Bool.{true, false, not};
-ghost use Prim.Native.Nat.{ℕ, _+_, _*_, _≤_, _<_, _^_};
-ghost use lib.IntN.{pos, natAbs};
-ghost use lib.ListN.{length, getD};
+ghost use Prim.Native.Nat.{_+_, _*_, _≤_, _<_, _^_};
+ghost use lib.IntN.{natAbs};
+ghost use lib.ListN.{length};
 ghost use lib.Signed.{nonNeg};
 ghost use Rattle.tables.specs.Tables.{SafeClaims};
 ghost use Rattle.residuals.specs.Weights.{Summable, Weighs, HeadWeighed, FormAt, WithConstant, Partial, SumsTo, Judged, Left, WeightsCleared};

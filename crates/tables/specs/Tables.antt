@@ -1,6 +1,6 @@
 -- The tables and the state, and how they stand for what the lines so far write.
 use mathlib.Core.Path.{_≡_}
-use mathlib.Core.Bool.{Bool, true, false, not}
+use mathlib.Core.Bool.{true, not}
 use mathlib.Core.List.{List, []}
 use Prim.Native.Nat.{ℕ, zero, suc, _+_, _*_, _≤_, _<_}
 use lib.IntN.{ℤ, pos, natAbs}
@@ -8,7 +8,7 @@ use lib.ListN.{length, getD}
 use Rattle.theory.specs.Text.{Bytes, isName}
 use Rattle.theory.specs.Terms.{Term, Terms, variable, nil, cons, arity}
 use Rattle.theory.specs.Forms.{zeroForm, formOf}
-use Rattle.theory.specs.Packs.{Kind, given, ruled, Predicate, Claim, Atom, Rule, Pack, variableLimit, Key, keyOf, atomKey, claimsOn, claimsOnAll}
+use Rattle.theory.specs.Packs.{Kind, given, ruled, Predicate, Claim, Atom, Rule, Pack, keyOf, atomKey, claimsOn, claimsOnAll}
 use Rattle.theory.specs.Written.{Written}
 use Rattle.theory.specs.Residuals.{claimForm, subgoalForms, ruleVariables}
 use Rattle.theory.specs.Faults.{isEmpty, lastRule, noClaim}

@@ -110,11 +110,11 @@ decimal-formed n = decimal-writes n .formed
 
 -- ---- nothing else has it
 
-decimal-one : (d : ℕ) → d < 10 → decimal d ≡ digit d ∷ []
+pub decimal-one : (d : ℕ) → d < 10 → decimal d ≡ digit d ∷ []
 unfolding decimal
 decimal-one d h = digits-one d d h
 
-decimal-more : (n d : ℕ) → 0 < n → d < 10 → decimal (n * 10 + d) ≡ decimal n ++ (digit d ∷ [])
+pub decimal-more : (n d : ℕ) → 0 < n → d < 10 → decimal (n * 10 + d) ≡ decimal n ++ (digit d ∷ [])
 unfolding decimal
 decimal-more n d h k =
     let m : ℕ = n * 10 + d in

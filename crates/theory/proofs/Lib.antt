@@ -53,6 +53,7 @@ pub mod Bounds
 pub mod UsableClaims
 pub mod Reservations
 pub mod ReserveAnswers
+pub mod RefusalNumbers
 pub mod ReserveSound
 -- demand 3, and document 01's starred examples
 pub mod DemandThree

@@ -49,7 +49,7 @@ answered text query x other e =
 
 -- ---- the asked argument
 
-written-zero : decimal 0 ≡ bytes "0"
+pub written-zero : decimal 0 ≡ bytes "0"
 unfolding decimal bytes lastDigits
 written-zero = refl
 

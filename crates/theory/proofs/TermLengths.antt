@@ -1,6 +1,5 @@
 -- Sizes against lengths: a term's size, and how many variables it has, are at most the length of its text; and so for the terms of a line.
 use mathlib.Core.Path.{_≡_, refl, ap}
-use mathlib.Core.Bool.{true}
 use mathlib.Core.List.{List, [], _∷_}
 use Prim.Native.Nat.{ℕ, suc, _+_, _≤_}
 use Prim.Native.Char.{code}

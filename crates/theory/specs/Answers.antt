@@ -1,12 +1,10 @@
 -- Document 01, the tables of "What check returns" and "Reserving": the numbers and values of each case of an answer.
 use Prim.Native.Nat.{ℕ}
 use Prim.Native.Char.{code}
-use Rattle.theory.specs.declared.Counts.{Counts}
 use Rattle.theory.specs.declared.Refusal.{Refusal}
 use Rattle.theory.specs.declared.Refusal.the-variants.{ShortArea, LongText, UnfinishedText, UnfitLine, Letter, NoEnd, Name, Declaration, FieldCount, Number, NoTerm, CountLimit, Unjustified}
 use Rattle.theory.specs.declared.Verdict.{Verdict}
 use Rattle.theory.specs.declared.Verdict.the-variants.{Accepted, Refused}
-use Rattle.theory.specs.declared.Bound.{Bound}
 use Rattle.theory.specs.declared.QueryRefusal.{QueryRefusal}
 use Rattle.theory.specs.declared.QueryRefusal.the-variants.{UnfitQuery, QueryName, QueryFieldCount, AskedArgument, SizeField, AskedIsKnown}
 use Rattle.theory.specs.declared.Reservation.{Reservation}

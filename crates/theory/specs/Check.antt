@@ -1,12 +1,12 @@
 -- Document 01, "What check returns": the four numbers and the residual area, for every text and every area.
-use mathlib.Core.Bool.{Bool, true, false, cond}
+use mathlib.Core.Bool.{Bool, false, cond}
 use mathlib.Core.List.{List, [], _∷_, _++_}
-use Prim.Native.Nat.{ℕ, suc, _+_}
+use Prim.Native.Nat.{ℕ, _+_}
 use lib.Dec.{eqb, ltb}
 use lib.IntN.{ℤ}
 use lib.ListN.{length, drop}
 use Rattle.theory.specs.Text.{Bytes, fieldsOf, linesOf}
-use Rattle.theory.specs.Packs.{Rule, Pack, textLimit}
+use Rattle.theory.specs.Packs.{Rule, textLimit}
 use Rattle.theory.specs.Written.{Written, nothing, write, multipliersFrom}
 use Rattle.theory.specs.Faults.{fault, lastRule, residualDue}
 

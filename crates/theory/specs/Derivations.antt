@@ -1,13 +1,13 @@
 -- Document 01, "Derivations": facts, which facts meet a claim, and derivations. And what a query asks of a fact.
 use mathlib.Core.Path.{_≡_}
 use mathlib.Core.List.{List, [], _∷_}
-use mathlib.Core.Option.{Option, some, none}
+use mathlib.Core.Option.{some, none}
 use Prim.Native.Nat.{ℕ}
 use lib.IntN.{ℤ, pos, _+ℤ_, _*ℤ_}
 use lib.ListN.{getD}
 use lib.Signed.{_≤ℤ_}
 use Rattle.theory.specs.Terms.{arity, argumentSizes, AllGround, Substitution, allUnder}
-use Rattle.theory.specs.Packs.{Kind, given, Predicate, Claim, Atom, Rule, Pack, atomKey, declaredAs, claimsOn}
+use Rattle.theory.specs.Packs.{given, Predicate, Claim, Atom, Rule, Pack, atomKey, declaredAs, claimsOn}
 use Rattle.theory.specs.Reserve.{Query, queryKey, sizeGiven}
 use Rattle.theory.specs.Limits.{_∈_}
 

@@ -10,7 +10,7 @@ use lib.Signed.{_≤ℤ_}
 use Rattle.theory.specs.Text.{Bytes, isName}
 use Rattle.theory.specs.Terms.{arity, AllWellFormed}
 use Rattle.theory.specs.Forms.{Form}
-use Rattle.theory.specs.Packs.{Kind, ruled, Predicate, Claim, Atom, Rule, Pack, textLimit, lineLimit, predicateLimit, claimLimit, ruleLimit, subgoalLimit, variableLimit, numberLimit, Key, keyOf, claimKey, atomKey, declaredAs, claimsOn, claimsOnAll, packLines, written}
+use Rattle.theory.specs.Packs.{ruled, Predicate, Claim, Atom, Rule, Pack, textLimit, lineLimit, predicateLimit, claimLimit, ruleLimit, subgoalLimit, variableLimit, numberLimit, Key, keyOf, claimKey, atomKey, declaredAs, claimsOn, claimsOnAll, packLines, written}
 use Rattle.theory.specs.Residuals.{residual, ruleVariables}
 use Rattle.theory.specs.Faults.{noClaim}
 use Rattle.theory.specs.Check.{areaNeeded}

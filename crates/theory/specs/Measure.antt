@@ -1,5 +1,5 @@
 -- Document 01, "What check returns": measure. Its refusal, or 0 with the size of a ground term.
-use mathlib.Core.Bool.{Bool, true, false, cond}
+use mathlib.Core.Bool.{false, cond}
 use mathlib.Core.Option.{Option, some, none}
 use Prim.Native.Nat.{ℕ}
 use Rattle.theory.specs.Text.{Bytes}

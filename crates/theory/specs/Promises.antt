@@ -6,10 +6,10 @@ use Prim.Native.Nat.{ℕ, _≤_}
 use Prim.Native.Char.{code}
 use lib.IntN.{ℤ}
 use Rattle.theory.specs.Text.{Bytes}
-use Rattle.theory.specs.Packs.{Pack, Atom}
+use Rattle.theory.specs.Packs.{Atom}
 use Rattle.theory.specs.Written.{packOf}
 use Rattle.theory.specs.Check.{checkOf}
-use Rattle.theory.specs.Reserve.{Query, queryOf, fields, reserveOf}
+use Rattle.theory.specs.Reserve.{queryOf, fields, reserveOf}
 use Rattle.theory.specs.Limits.{Acceptable}
 use Rattle.theory.specs.Answers.{numbersOf, fieldsOf}
 use Rattle.theory.specs.declared.Counts.{Counts}
@@ -18,7 +18,7 @@ use Rattle.theory.specs.declared.Verdict.the-variants.{Accepted}
 use Rattle.theory.specs.declared.Bound.{Bound}
 use Rattle.theory.specs.declared.Reservation.{Reservation}
 use Rattle.theory.specs.declared.Reservation.the-variants.{Bounded, Impossible}
-use Rattle.theory.specs.Derivations.{MeetsAll, GivenFact, Derivable, sizeAt, HasKnownSizes}
+use Rattle.theory.specs.Derivations.{MeetsAll, Derivable, sizeAt, HasKnownSizes}
 
 -- Demand 2: a pack is accepted exactly when area, text and lines have 01's form and limits and every residual number is at least 0.
 pub record DemandTwo (text : Bytes) (area : List ℤ) : Type 0 where

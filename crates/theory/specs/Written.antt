@@ -1,5 +1,5 @@
 -- Document 01, "The pack": what lines write. It knows no faults: of a line that is no line of a pack it takes what it can.
-use mathlib.Core.Bool.{Bool, true, false, cond, _||_}
+use mathlib.Core.Bool.{Bool, false, cond, _||_}
 use mathlib.Core.List.{List, [], _∷_, _++_, map}
 use mathlib.Core.Option.{Option·getD}
 use Prim.Native.Nat.{ℕ}
@@ -7,7 +7,7 @@ use Prim.Native.Char.{code}
 use lib.IntN.{ℤ, pos}
 use lib.ListN.{getD, drop}
 use Rattle.theory.specs.Text.{Bytes, bytes, same, fieldsOf, linesOf, natural, integer}
-use Rattle.theory.specs.Terms.{Term, Terms, variable, nil, cons, readTerm}
+use Rattle.theory.specs.Terms.{Terms, variable, nil, cons, readTerm}
 use Rattle.theory.specs.Packs.{Kind, given, ruled, Predicate, Claim, Atom, Rule, Pack, numberLimit}
 
 -- what a line is, by its first field

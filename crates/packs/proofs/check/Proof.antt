@@ -4,10 +4,6 @@ use Rattle.packs.proofs.LoadAnswers.{short-area, laid-area, same-area}
 use borrow.Author.Needs.{needs}
 use Rattle.packs.proofs.check.Statement.{statement}
 use Rattle.packs.proofs.check.Tie as tie
-use Rattle.packs.proofs.check.Reads as reads
-use Rattle.packs.proofs.check.Lts as lts
-use Rattle.packs.proofs.lay.Reads as lay-reads
-use Rattle.packs.proofs.load.Reads as load-reads
 
 returns : tie.Need-returns
 returns c = short-area _ _ (c .if1 .taken)

@@ -1,7 +1,6 @@
 -- `packs::lay` meets its contract. Assumes nothing.
-use Prim.Native.Nat.{_+_, _-_, _≤_}
+use Prim.Native.Nat.{_+_, _-_}
 use lib.ListN.{length}
-use mathlib.Core.Path.{_≡_}
 use borrow.Author.Needs.{needs}
 use Rattle.packs.proofs.AreaLaying.{Laying, laying-none, laying-more, laying-done}
 use Rattle.packs.proofs.lay.Statement.{statement}

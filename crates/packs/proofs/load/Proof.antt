@@ -1,22 +1,13 @@
 -- `packs::load` meets its contract. Assumes nothing.
-use mathlib.Core.Path.{refl, subst⁻¹}
+use mathlib.Core.Path.{refl}
 use native.Mathlib.Omega.{arith}
 use Rattle.integers.proofs.Truth.{not-true, not-false}
 use Rattle.theory.specs.declared.Refusal.the-variants.{LongText, UnfinishedText}
-use Rattle.tables.specs.declared.State.{State}
 use Rattle.packs.proofs.FreshTables.{fresh-ready}
 use Rattle.packs.proofs.LoadAnswers.{is-finished, not-finished, none-unfinished, long-text, unfinished-text, refused-text, fresh-size, refused-line, refused-claim, unended, accepted}
 use borrow.Author.Needs.{needs}
 use Rattle.packs.proofs.load.Statement.{statement}
 use Rattle.packs.proofs.load.Tie as tie
-use Rattle.packs.proofs.load.Reads as reads
-use Rattle.packs.proofs.load.Lts as lts
-use Rattle.packs.proofs.byte.Reads as byte-reads
-use Rattle.packs.proofs.load_lines.Reads as load-lines-reads
-use Rattle.packs.proofs.refusal.Reads as refusal-reads
-use Rattle.packs.proofs.refused.Reads as refused-reads
-use Rattle.packs.proofs.short.Reads as short-reads
-use Rattle.packs.proofs.start.Reads as start-reads
 
 refused-requires : tie.Need-refused-requires
 refused-requires c κs = search needs

@@ -12,12 +12,6 @@ use Rattle.packs.proofs.JudgedLines.{judged-opened, judged-field, judge
 use Rattle.packs.proofs.LineLoop.{lines-begin, lines-end, lines-more, lines-refused}
 use Rattle.packs.proofs.load_lines.Statement.{statement}
 use Rattle.packs.proofs.load_lines.Tie as tie
-use Rattle.packs.proofs.load_lines.Reads as reads
-use Rattle.packs.proofs.load_lines.Lts as lts
-use Rattle.closing.proofs.close.Reads as close-reads
-use Rattle.fields.proofs.field.Reads as field-reads
-use Rattle.opening.proofs.open.Reads as open-reads
-use Rattle.text.proofs.find.Reads as find-reads
 
 abbrev Inv-fields : tie.InvT-fields
 Inv-fields text names facts claims variables₀ numbers₀ slots len state fault₀ number at end line o letter width small₀ row₀ many₀ from₀ index₀ variables numbers fault small row many from index =

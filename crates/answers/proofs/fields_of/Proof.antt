@@ -1,0 +1,68 @@
+-- `answers::fields_of` meets its contract. Assumes nothing.
+use mathlib.Core.Path.{sym, _∙_, ap}
+use Rattle.theory.specs.Reserve.{fields}
+use borrow.Author.Needs.{needs}
+use Rattle.theory.specs.Answers.{fieldsOf}
+use Rattle.answers.proofs.fields_of.Statement.{statement}
+use Rattle.answers.proofs.fields_of.Tie as tie
+
+enum-known-reservation : tie.Need-enum-known-reservation
+enum-known-reservation c = search needs
+
+enum-told : tie.Need-enum-told
+enum-told c = search needs
+
+enum-known-reservation-2 : tie.Need-enum-known-reservation-2
+enum-known-reservation-2 c = search needs
+
+enum-known-reservation-3 : tie.Need-enum-known-reservation-3
+enum-known-reservation-3 c = search needs
+
+refusal-numbers-requires : tie.Need-refusal-numbers-requires
+refusal-numbers-requires c κs = search needs
+
+refused-requires : tie.Need-refused-requires
+refused-requires c κs = search needs
+
+enum-known-reservation-4 : tie.Need-enum-known-reservation-4
+enum-known-reservation-4 c = search needs
+
+query-number-requires : tie.Need-query-number-requires
+query-number-requires c κs = search needs
+
+refused-requires-2 : tie.Need-refused-requires-2
+refused-requires-2 c κs = search needs
+
+returns : tie.Need-returns
+returns c = ap fieldsOf (sym (c .before .reservation .given .1))
+
+returns-2 : tie.Need-returns-2
+returns-2 c = ap fieldsOf (sym (c .enum-told .given .1))
+
+returns-3 : tie.Need-returns-3
+returns-3 c = ap fieldsOf (sym (c .before .reservation2 .given .1))
+
+returns-4 : tie.Need-returns-4
+returns-4 c = c .refused .ensures ∙ ap (λ n. fields 82 (n .number) 0) (c .before .refusal-numbers .ensures) ∙ ap fieldsOf (sym (c .before .before .before .reservation3 .given .1))
+
+returns-5 : tie.Need-returns-5
+returns-5 c = c .refused2 .ensures ∙ ap (λ n. fields 82 n 0) (c .before .query-number .ensures) ∙ ap fieldsOf (sym (c .before .before .before .reservation4 .given .1))
+
+pub fields-of-spec : {M : Type 1} → statement M
+fields-of-spec =
+    tie.close
+    (tie.spec
+    enum-known-reservation
+    enum-told
+    enum-known-reservation-2
+    enum-known-reservation-3
+    refusal-numbers-requires
+    refused-requires
+    enum-known-reservation-4
+    query-number-requires
+    refused-requires-2
+    returns
+    returns-2
+    returns-3
+    returns-4
+    returns-5)

@@ -1,0 +1,108 @@
+-- `bounds::use_claim` meets its contract. Assumes nothing.
+use mathlib.Core.Path.{sym, _∙_}
+use borrow.Author.Needs.{needs}
+use Rattle.residuals.proofs.Fits.{widened}
+use Rattle.bounds.proofs.Using.{Asked, use-unasked, use-blocked, opposite-fits, opposite-natural, opposite-positive, use-impossible, use-bound}
+use Rattle.bounds.proofs.use_claim.Statement.{statement}
+use Rattle.bounds.proofs.use_claim.Tie as tie
+
+-- the claim's number for the asked argument
+asked : (c : tie.After-is-negative) → let args = c .before .before .before .args in Asked (args .claims .now) (args .place) (args .asked) (c .before .long .result) (c .is-negative .result)
+asked c = record {
+  low = c .before .before .before .pre .2;
+  read = widened _ (c .before .long .result) (record { sfits = c .before .before .long-arg .given }) (c .before .long .ensures);
+  told = c .is-negative .ensures;
+}
+
+add-long : tie.Need-add-long
+add-long c = search needs
+
+add-long-2 : tie.Need-add-long-2
+add-long-2 c = search needs
+
+mul-long : tie.Need-mul-long
+mul-long c = search needs
+
+element-copy-out-long : tie.Need-element-copy-out-long
+element-copy-out-long c = search needs
+
+long-requires : tie.Need-long-requires
+long-requires c κs = search needs
+
+is-negative-requires : tie.Need-is-negative-requires
+is-negative-requires c κs = search needs
+
+unusable-requires : tie.Need-unusable-requires
+unusable-requires c κs = search needs
+
+returns : tie.Need-returns
+returns c = use-unasked (c .unusable .ensures) (asked (c .before .before)) (c .before .if1 .taken)
+
+weigh-requires : tie.Need-weigh-requires
+weigh-requires c κs = search needs
+
+unusable-requires-2 : tie.Need-unusable-requires-2
+unusable-requires-2 c κs = search needs
+
+returns-2 : tie.Need-returns-2
+returns-2 c = use-blocked (c .unusable2 .ensures) (c .before .before .weigh .ensures) (c .before .if2 .taken)
+
+is-negative-requires-2 : tie.Need-is-negative-requires-2
+is-negative-requires-2 c κs = search needs
+
+returns-3 : tie.Need-returns-3
+returns-3 c =
+    let weighed = c .before .before .before .before in
+    use-impossible (asked (weighed .before .before)) (weighed .before .if1 .left) (weighed .weigh .ensures) (c .before .before .before .if2 .left) _ (c .before .is-negative2 .ensures) (c .if3 .taken)
+
+natural-requires : tie.Need-natural-requires
+natural-requires c κs = sym (c .before .before .is-negative2 .ensures) ∙ c .before .if3 .left
+
+sub-natural : tie.Need-sub-natural
+sub-natural c =
+    let weighed = c .before .before .before .before .before .before in
+    opposite-fits (asked (weighed .before .before)) (weighed .before .if1 .left) (c .before .before .before .before .before .before .before .before .before .before .before .pre .3)
+
+natural-requires-2 : tie.Need-natural-requires-2
+natural-requires-2 c κs =
+    let weighed = c .before .before .before .before .before .before in
+    opposite-natural (asked (weighed .before .before)) (weighed .before .if1 .left) (c .before .before .before .before .before .before .before .before .before .before .before .pre .3)
+
+div-t20 : tie.Need-div-t20
+div-t20 c =
+    let weighed = c .before .before .before .before .before .before .before in
+    opposite-positive (asked (weighed .before .before)) (weighed .before .if1 .left) (c .before .before .before .before .before .before .before .before .before .before .before .before .pre .3) (c .natural2 .result) (c .natural2 .ensures)
+
+returns-4 : tie.Need-returns-4
+returns-4 c =
+    let weighed = c .before .before .before .before .before .before .before in
+    use-bound (asked (weighed .before .before)) (weighed .before .if1 .left) (weighed .weigh .ensures) (c .before .before .before .before .before .before .if2 .left) _ (c .before .before .before .before .is-negative2 .ensures)
+    (c .before .natural .result)
+    (c .natural2 .result)
+    (c .before .before .before .before .before .before .before .before .before .before .before .before .pre .3)
+    (c .before .before .before .if3 .left)
+    (c .before .natural .ensures)
+    (c .natural2 .ensures)
+
+pub use-claim-spec : {M : Type 1} → statement M
+use-claim-spec =
+    tie.close
+    (tie.spec
+    add-long
+    add-long-2
+    mul-long
+    element-copy-out-long
+    long-requires
+    is-negative-requires
+    unusable-requires
+    returns
+    weigh-requires
+    unusable-requires-2
+    returns-2
+    is-negative-requires-2
+    returns-3
+    natural-requires
+    sub-natural
+    natural-requires-2
+    div-t20
+    returns-4)

@@ -1,0 +1,201 @@
+// The reservation that the claims on one predicate give.
+ghost use mathlib.Core.Path.{_≡_};
+ghost use mathlib.Core.Bool.{false};
+ghost use Prim.Native.Nat.{_+_, _≤_, _<_};
+ghost use lib.IntN.{pos, natAbs};
+ghost use lib.Signed.{ltZ};
+ghost use Rattle.tables.specs.Tables.{SafeClaims};
+ghost use Rattle.tables.specs.QuerySizes.{SafeSizes};
+ghost use Rattle.bounds.specs.Bounds.{share, blocked, Weighs, Uses, betterOf, ReservesBy};
+use theory::Bound;
+use theory::Reservation;
+
+fn long(x: i16) -> i64
+    ensures { λ r. ⌜ r ≡ x ⌝ }
+{
+    x as i64
+}
+
+fn is_negative(z: i64) -> bool
+    ensures { λ r. ⌜ r ≡ ltZ z (pos 0) ⌝ }
+{
+    z < 0
+}
+
+fn is_positive(z: i64) -> bool
+    ensures { λ r. ⌜ r ≡ ltZ (pos 0) z ⌝ }
+{
+    0 < z
+}
+
+fn signed(n: u32) -> i64
+    ensures { λ r. ⌜ r ≡ pos n ⌝ }
+{
+    n as i64
+}
+
+/// A number that is not below 0.
+fn natural(z: i64) -> u64
+    requires { ⌜ ltZ z (pos 0) ≡ false ⌝ }
+    ensures { λ r. ⌜ r ≡ natAbs z ⌝ }
+{
+    z as u64
+}
+
+fn byte(n: usize) -> u8
+    requires { ⌜ n < 256 ⌝ }
+    ensures { λ r. ⌜ r ≡ n ⌝ }
+{
+    n as u8
+}
+
+/// Whether a claim's number for an argument rules the claim out: the size is unknown and the number above 0.
+fn is_blocked(number: i64, size: u32) -> bool
+    ensures { λ r. ⌜ r ≡ blocked number size ⌝ }
+{
+    if size == 65536 {
+        is_positive(number)
+    } else {
+        false
+    }
+}
+
+/// What an argument adds to the numerator: its size times the claim's number, or nothing where it is unknown.
+fn share_of(number: i64, size: u32) -> i64
+    requires { ⌜ (natAbs number ≤ 9999) × (size ≤ 65536) ⌝ }
+    ensures { λ r. ⌜ r ≡ share number size ⌝ }
+{
+    if size == 65536 {
+        return 0;
+    }
+    number * signed(size)
+}
+
+/// A claim's numerator, and whether an unknown argument rules the claim out.
+pub struct Weighed {
+    pub blocked: bool,
+    pub numerator: i64,
+}
+
+fn weigh(claims: &[i16; 4608], place: usize, arity: usize, sizes: &[u32; 8]) -> Weighed
+    requires { ⌜ (place + 9 ≤ 4608) × (arity ≤ 8) × (SafeClaims (now claims)) × (SafeSizes (now sizes)) ⌝ }
+    ensures { λ r. ⌜ Weighs (now (claims .entry)) place arity (now (sizes .entry)) r ⌝ }
+{
+    let mut numerator = long(claims[place]);
+    let mut k: usize = 0;
+    while k < arity {
+        let number = long(claims[place + 1 + k]);
+        let size = sizes[k];
+        if is_blocked(number, size) {
+            return Weighed {
+                blocked: true,
+                numerator: 0,
+            };
+        }
+        numerator = numerator + share_of(number, size);
+        k += 1;
+    }
+    Weighed {
+        blocked: false,
+        numerator,
+    }
+}
+
+/// What comes of a claim: nothing where it is not usable; that no fact is possible; or a bound.
+pub struct Use {
+    pub usable: bool,
+    pub impossible: bool,
+    pub bound: u64,
+}
+
+fn unusable() -> Use
+    ensures { λ r. ⌜ (r .usable ≡ false) × (r .impossible ≡ false) × (r .bound ≡ 0) ⌝ }
+{
+    Use {
+        usable: false,
+        impossible: false,
+        bound: 0,
+    }
+}
+
+fn use_claim(
+    claims: &[i16; 4608],
+    place: usize,
+    arity: usize,
+    asked: usize,
+    sizes: &[u32; 8],
+) -> Use
+    requires { ⌜ (place + 9 ≤ 4608) × (arity ≤ 8) × (asked < 8) × (SafeClaims (now claims)) × (SafeSizes (now sizes)) ⌝ }
+    ensures { λ r. ⌜ Uses (now (claims .entry)) place arity asked (now (sizes .entry)) r ⌝ }
+{
+    let number = long(claims[place + 1 + asked]);
+    if !is_negative(number) {
+        return unusable();
+    }
+    let w = weigh(claims, place, arity, sizes);
+    if w.blocked {
+        return unusable();
+    }
+    if is_negative(w.numerator) {
+        return Use {
+            usable: true,
+            impossible: true,
+            bound: 0,
+        };
+    }
+    Use {
+        usable: true,
+        impossible: false,
+        bound: natural(w.numerator) / natural(0 - number),
+    }
+}
+
+/// The smaller bound, the lower claim's of equal ones. Claim 0 stands for no bound yet.
+fn better(best: Bound, u: Use, claim: u8) -> Bound
+    ensures { λ r. ⌜ r ≡ betterOf best u claim ⌝ }
+{
+    if !u.usable {
+        return best;
+    }
+    if best.claim == 0 {
+        return Bound {
+            size: u.bound,
+            claim,
+        };
+    }
+    if u.bound < best.size {
+        return Bound {
+            size: u.bound,
+            claim,
+        };
+    }
+    best
+}
+
+/// The reservation that the claims on a predicate give, from the first on.
+pub fn reserve_by(
+    claims: &[i16; 4608],
+    predicate: usize,
+    count: usize,
+    arity: usize,
+    asked: usize,
+    sizes: &[u32; 8],
+) -> Reservation
+    requires { ⌜ (predicate < 32) × (count ≤ 16) × (arity ≤ 8) × (asked < 8) × (SafeClaims (now claims)) × (SafeSizes (now sizes)) ⌝ }
+    ensures { λ r. ⌜ ReservesBy (now (claims .entry)) predicate count arity asked (now (sizes .entry)) r ⌝ }
+{
+    let mut best = Bound { size: 0, claim: 0 };
+    let mut i: usize = 0;
+    while i < count {
+        let u = use_claim(claims, (predicate * 16 + i) * 9, arity, asked, sizes);
+        if u.impossible {
+            return Reservation::Impossible(byte(i + 1));
+        }
+        best = better(best, u, byte(i + 1));
+        i += 1;
+    }
+    if best.claim == 0 {
+        return Reservation::NoBound;
+    }
+    Reservation::Bounded(best)
+}

@@ -1,0 +1,116 @@
+-- A size field as a number, and the asked argument's field: what `read_size` and `read_asked` answer.
+use mathlib.Core.Path.{_≡_, refl, _∙_, ap}
+use mathlib.Core.Bool.{Bool, true, false, cond}
+use mathlib.Core.Option.{Option, some, none, Option·map, Option·getD, map-eq-some-iff}
+use Prim.Native.Nat.{ℕ, _+_, _≤_, _<_}
+use native.Mathlib.Omega.{arith}
+use lib.ListN.{length, getD, drop-of-length-le}
+use Rattle.integers.proofs.Truth.{by-truth, never-both}
+use Rattle.theory.specs.Text.{Bytes, bytes, same, natural}
+use Rattle.theory.specs.Faults.{isSome}
+use Rattle.theory.specs.Reserve.{sizeFrom}
+use Rattle.theory.proofs.Bytes.{same-refl, same-equal}
+use Rattle.theory.proofs.Spelling.{natural-within}
+use Rattle.text.specs.declared.Natural.{Natural}
+use Rattle.text.specs.declared.Natural.the-variants.{Whole, NoNatural}
+use Rattle.text.specs.Numbers.{naturalOf}
+use Rattle.text.proofs.Parts.{drop-more}
+use Rattle.tables.specs.QuerySizes.{entryOf}
+use Rattle.queries.specs.Queries.{sizeNumber}
+
+-- ---- what is read
+
+module _ (field : Bytes) where
+  pub size-unknown : length field ≡ 1 → getD field 0 0 ≡ 45 → 65536 ≡ sizeNumber (sizeFrom field)
+  unfolding sizeFrom bytes
+  size-unknown one is =
+      let dash : field ≡ bytes "-" = drop-more field 0 (omega arith) ∙ rw (is, drop-of-length-le field {i = 0 + 1} (omega arith)) in
+      rw (dash, same-refl (bytes "-"))
+
+  -- a field of another length, or of another byte
+  module _ (other : length field ≡ 1 → getD field 0 0 ≡ 45 → ⊥) (r : Natural) (read : naturalOf r ≡ natural 65535 field) where
+    no-dash : same field (bytes "-") ≡ false
+    unfolding bytes
+    no-dash =
+        by-truth (λ (b : Bool). b ≡ false) (same field (bytes "-"))
+        (λ e. absurd (other (ap length (same-equal field (bytes "-") e)) (ap (λ (s : Bytes). getD s 0 0) (same-equal field (bytes "-") e))))
+        (λ e. refl)
+
+    as-read : sizeFrom field ≡ Option·map some (naturalOf r)
+    unfolding sizeFrom
+    as-read = rw (no-dash, ← read)
+
+    pub size-known : (n : ℕ) → r ≡ Whole n → n ≡ sizeNumber (sizeFrom field)
+    size-known n e = rw (as-read, e)
+
+    pub size-malformed : r ≡ NoNatural → 65537 ≡ sizeNumber (sizeFrom field)
+    size-malformed e = rw (as-read, e)
+
+-- the limit and the answer, handed on as they are
+module _ (field : Bytes) (arity limit : ℕ) (is : limit ≡ arity) (r : Natural) (read : naturalOf r ≡ natural limit field) where
+  pub asked-known : (n m : ℕ) → r ≡ Whole n → m ≡ n → m ≡ Option·getD (natural arity field) 0
+  asked-known n m e k = rw (← is, ← read, e) k
+
+  pub asked-malformed : r ≡ NoNatural → 0 ≡ Option·getD (natural arity field) 0
+  asked-malformed e = rw (← is, ← read, e)
+
+-- ---- what the number tells
+
+-- a size that a field gives
+abbrev Small : Option (Option ℕ) → Type 0
+Small o = (s : ℕ) → o ≡ some (some s) → s ≤ 65535
+
+pub size-small : (field : Bytes) → Small (sizeFrom field)
+unfolding sizeFrom
+size-small field s =
+    by-truth (λ (b : Bool). cond b (some none) (Option·map some (natural 65535 field)) ≡ some (some s) → s ≤ 65535) (same field (bytes "-"))
+    (λ _ e. let never : _≡_ {A = ℕ} 0 1 = cc in absurd (omega arith))
+    (λ _ e. let found = map-eq-some-iff some (natural 65535 field) .0 e in let is : found .0 ≡ s = cc in omega (arith, natural-within 65535 field (found .0) (found .1)))
+
+-- a known size is one that a field gives
+pub known-small : (o : Option (Option ℕ)) (s : ℕ) → Small o → Option·getD o none ≡ some s → s < 65536
+known-small none s small e = let never : _≡_ {A = ℕ} 0 1 = cc in absurd (omega arith)
+known-small (some size) s small e = omega (arith, small s (ap some e))
+
+module _ (field : Bytes) where
+  pub number-malformed : sizeNumber (sizeFrom field) ≡ 65537 → isSome (sizeFrom field) ≡ false
+  unfolding isSome
+  number-malformed = by (sizeFrom field) (size-small field)
+    where
+      by : (o : Option (Option ℕ)) → Small o → sizeNumber o ≡ 65537 → isSome o ≡ false
+      by none small e = refl
+      by (some none) small e = absurd (omega arith)
+      by (some (some s)) small e = absurd (omega (arith, small s refl))
+
+  pub number-fine : (sizeNumber (sizeFrom field) ≡ 65537 → ⊥) → (isSome (sizeFrom field) ≡ true) × (sizeNumber (sizeFrom field) ≤ 65536)
+  unfolding isSome
+  number-fine = by (sizeFrom field) (size-small field)
+    where
+      by : (o : Option (Option ℕ)) → Small o → (sizeNumber o ≡ 65537 → ⊥) → (isSome o ≡ true) × (sizeNumber o ≤ 65536)
+      by none small e = absurd (e refl)
+      by (some none) small e = (refl, omega arith)
+      by (some (some s)) small e = (refl, omega (arith, small s refl))
+
+  -- ---- and of the size that the query then gives
+
+  pub number-entry : isSome (sizeFrom field) ≡ true → sizeNumber (sizeFrom field) ≡ entryOf (Option·getD (sizeFrom field) none)
+  unfolding isSome
+  number-entry = by (sizeFrom field)
+    where
+      by : (o : Option (Option ℕ)) → isSome o ≡ true → sizeNumber o ≡ entryOf (Option·getD o none)
+      by none e = never-both e refl
+      by (some size) e = refl
+
+  pub entry-unknown : entryOf (Option·getD (sizeFrom field) none) ≡ 65536 → isSome (Option·getD (sizeFrom field) none) ≡ false
+  unfolding isSome
+  entry-unknown = by (sizeFrom field) (size-small field)
+    where
+      by : (o : Option (Option ℕ)) → Small o → entryOf (Option·getD o none) ≡ 65536 → isSome (Option·getD o none) ≡ false
+      by none small e = refl
+      by (some none) small e = refl
+      by (some (some s)) small e = absurd (omega (arith, small s refl))
+
+pub entry-known : (size : Option ℕ) → (entryOf size ≡ 65536 → ⊥) → isSome size ≡ true
+unfolding isSome
+entry-known none other = absurd (other refl)
+entry-known (some s) other = refl

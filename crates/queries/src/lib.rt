@@ -1,0 +1,156 @@
+// The tests of a query, against the predicates that the tables hold.
+ghost use mathlib.Core.Path.{_≡_};
+ghost use mathlib.Core.Option.{Option·getD};
+ghost use Prim.Native.Nat.{_≤_};
+ghost use lib.ListN.{length};
+ghost use Rattle.theory.specs.Text.{natural};
+ghost use Rattle.theory.specs.Reserve.{sizeFrom};
+ghost use Rattle.text.specs.Scans.{partsFrom};
+ghost use Rattle.tables.specs.Tables.{SafeFacts};
+ghost use Rattle.tables.specs.QuerySizes.{SafeSizes};
+ghost use Rattle.queries.specs.Queries.{sizeNumber, SizesRead, Means, OpensQuery};
+use text::Natural;
+use text::Word;
+
+/// A query whose tests are done: the number of its fault, or 0; its predicate's place, how many arguments that has, and
+/// the asked argument's place, from 0.
+pub struct Asked {
+    pub fault: u8,
+    pub predicate: usize,
+    pub arity: usize,
+    pub asked: usize,
+}
+
+fn wide(x: u8) -> usize
+    ensures { λ r. ⌜ r ≡ x ⌝ }
+{
+    x as usize
+}
+
+fn limit_of(x: u8) -> u32
+    ensures { λ r. ⌜ r ≡ x ⌝ }
+{
+    x as u32
+}
+
+fn place_of(x: u32) -> usize
+    ensures { λ r. ⌜ r ≡ x ⌝ }
+{
+    x as usize
+}
+
+fn refused(fault: u8) -> Asked
+    ensures { λ r. ⌜ (r .fault ≡ fault) × (r .predicate ≡ 0) × (r .arity ≡ 0) × (r .asked ≡ 0) ⌝ }
+{
+    Asked {
+        fault,
+        predicate: 0,
+        arity: 0,
+        asked: 0,
+    }
+}
+
+/// A size field as a number: its size, 65536 where it is unknown, 65537 where it is malformed or out of range.
+fn read_size(field: &[u8]) -> u32
+    ensures { λ r. ⌜ r ≡ sizeNumber (sizeFrom (now (field .entry))) ⌝ }
+{
+    if field.len() == 1 {
+        if field[0] == b'-' {
+            return 65536;
+        }
+    }
+    let size = text::read_natural(field, 65535);
+    match size {
+        Natural::Whole(n) => n,
+        Natural::NoNatural => 65537,
+    }
+}
+
+/// Reads the size fields from a place on. Whether each is fine.
+fn read_sizes(query: &[u8], from: usize, sizes: &mut [u32; 8]) -> bool
+    requires { ⌜ (length (partsFrom 44 (now query) from) ≤ 8) × (length (now sizes) ≡ 8) × (SafeSizes (now sizes)) ⌝ }
+    ensures { λ r. ⌜ SizesRead (now (query .entry)) from r (now (sizes .exit)) ⌝ }
+{
+    let width = query.len();
+    let mut at = from;
+    let mut i: usize = 0;
+    while at <= width {
+        let stop = reader::field_end(query, at);
+        let size = read_size(&query[at..stop]);
+        if size == 65537 {
+            return false;
+        }
+        sizes[i] = size;
+        i += 1;
+        at = stop + 1;
+    }
+    true
+}
+
+/// The number of the asked argument, or 0 where the field is malformed or there is no such argument.
+fn read_asked(field: &[u8], arity: u8) -> usize
+    requires { ⌜ arity ≤ 8 ⌝ }
+    ensures { λ r. ⌜ r ≡ Option·getD (natural arity (now (field .entry))) 0 ⌝ }
+{
+    let asked = text::read_natural(field, limit_of(arity));
+    match asked {
+        Natural::Whole(n) => place_of(n),
+        Natural::NoNatural => 0,
+    }
+}
+
+/// The place of the predicate that a field names, or how many there are.
+fn named_by(field: &[u8], names: &[u64; 64], known: usize) -> usize
+    requires { ⌜ known ≤ 32 ⌝ }
+    ensures { λ r. ⌜ Means (now (field .entry)) (now (names .entry)) known r ⌝ }
+{
+    let word = text::read_word(field);
+    match word {
+        Word::Name(words) => text::place(names, known, words),
+        Word::Variable(_) => known,
+        Word::Neither => known,
+    }
+}
+
+/// The tests of a query, in number order. The sizes that it gives are left in `sizes`.
+pub fn open_query(
+    query: &[u8],
+    names: &[u64; 64],
+    facts: &[u8; 96],
+    known: usize,
+    sizes: &mut [u32; 8],
+) -> Asked
+    requires { ⌜ (known ≤ 32) × (SafeFacts (now facts)) × (length (now sizes) ≡ 8) × (SafeSizes (now sizes)) ⌝ }
+    ensures { λ r. ⌜ OpensQuery (now (query .entry)) (now (names .entry)) (now (facts .entry)) known r (now (sizes .exit)) ⌝ }
+{
+    if text::is_unfit(query) {
+        return refused(4);
+    }
+    let stop = reader::field_end(query, 0);
+    let place = named_by(&query[..stop], names, known);
+    if known <= place {
+        return refused(14);
+    }
+    let arity = facts[place];
+    if text::count(query, 44) != wide(arity) + 1 {
+        return refused(15);
+    }
+    let from = stop + 1;
+    let end = reader::field_end(query, from);
+    let asked = read_asked(&query[from..end], arity);
+    if asked == 0 {
+        return refused(16);
+    }
+    if !read_sizes(query, end + 1, sizes) {
+        return refused(17);
+    }
+    if sizes[asked - 1] != 65536 {
+        return refused(18);
+    }
+    Asked {
+        fault: 0,
+        predicate: place,
+        arity: wide(arity),
+        asked: asked - 1,
+    }
+}

@@ -1,0 +1,2 @@
+-- What a reader owns, for the walks.
+pub mod Holding

@@ -1,0 +1,4 @@
+-- Laws on the lines that are printed, and on where the pack ends.
+pub mod PrintedLines
+pub mod PackLines
+pub mod PackSearch

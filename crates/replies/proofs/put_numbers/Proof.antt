@@ -1,0 +1,65 @@
+-- `replies::put_numbers` meets its contract. Assumes nothing.
+use Prim.Native.Nat.{ℕ, _+_, _≤_}
+use native.Mathlib.Omega.{arith}
+use lib.ListN.{length}
+use borrow.Author.Needs.{needs}
+use Rattle.theory.specs.Text.{decimal}
+use Rattle.answers.specs.declared.Four.{Four}
+use Rattle.replies.proofs.PrintedLines.{numbers-short, numbers-put}
+use Rattle.replies.proofs.put_numbers.Statement.{statement}
+use Rattle.replies.proofs.put_numbers.Tie as tie
+
+-- how many digits the four numbers have together
+abbrev digits : Four → ℕ
+digits four = length (decimal (four .number)) + length (decimal (four .line)) + length (decimal (four .rule)) + length (decimal (four .claim))
+
+few : (c : tie.After-struct-known) → digits (c .before .before .before .args .four) ≤ 16
+few c = let four = c .before .before .before .args .four in numbers-short (four .number) (four .line) (four .rule) (four .claim) (omega arith) (omega arith) (omega arith) (omega arith)
+
+cast-put-field : tie.Need-cast-put-field
+cast-put-field c = search needs
+
+put-field-requires : tie.Need-put-field-requires
+put-field-requires c κs = omega (arith, few c)
+
+cast-put-field-2 : tie.Need-cast-put-field-2
+cast-put-field-2 c = search needs
+
+put-field-requires-2 : tie.Need-put-field-requires-2
+put-field-requires-2 c κs = omega (arith, few (c .before .before .before .before .before))
+
+cast-put-field-3 : tie.Need-cast-put-field-3
+cast-put-field-3 c = search needs
+
+put-field-requires-3 : tie.Need-put-field-requires-3
+put-field-requires-3 c κs = omega (arith, few (c .before .before .before .before .before .before .before .before .before .before))
+
+cast-put-field-4 : tie.Need-cast-put-field-4
+cast-put-field-4 c = search needs
+
+put-field-requires-4 : tie.Need-put-field-requires-4
+put-field-requires-4 c κs = omega (arith, few (c .before .before .before .before .before .before .before .before .before .before .before .before .before .before .before))
+
+same-length : tie.Need-same-length
+same-length c = search needs
+
+returns : tie.Need-returns
+returns c = (
+  numbers-put _ _ _ _ (c .before .before .before .before .before .before .before .before .before .before .before .before .before .before .before .before .before .put-field .ensures .1) (c .before .before .before .before .before .before .before .before .before .before .before .before .put-field2 .ensures .1) (c .before .before .before .before .before .before .before .put-field3 .ensures .1) (c .before .before .put-field4 .ensures .1),
+  omega (arith, few (c .before .before .before .before .before .before .before .before .before .before .before .before .before .before .before .before .before .before), c .before .before .before .before .before .before .before .before .before .before .before .before .before .before .before .before .before .put-field .ensures .0, c .before .before .before .before .before .before .before .before .before .before .before .before .put-field2 .ensures .0, c .before .before .before .before .before .before .before .put-field3 .ensures .0, c .before .before .put-field4 .ensures .0),
+)
+
+pub put-numbers-spec : {M : Type 1} → statement M
+put-numbers-spec =
+    tie.close
+    (tie.spec
+    cast-put-field
+    put-field-requires
+    cast-put-field-2
+    put-field-requires-2
+    cast-put-field-3
+    put-field-requires-3
+    cast-put-field-4
+    put-field-requires-4
+    same-length
+    returns)

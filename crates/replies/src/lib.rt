@@ -1,0 +1,55 @@
+// The parts of the program's reply: where the pack ends in the input, and the lines that are printed.
+ghost use mathlib.Core.List.{[], _∷_};
+ghost use Prim.Native.Nat.{_≤_};
+ghost use lib.ListN.{length};
+ghost use Rattle.theory.specs.Packs.{textOf};
+ghost use Rattle.theory.specs.Check.{numbers};
+ghost use Rattle.theory.specs.Reserve.{fields};
+ghost use Rattle.theory.specs.Program.{printedNumbers, printedFields};
+ghost use Rattle.pages.specs.Pages.{Puts};
+ghost use Rattle.replies.specs.Replies.{PackEnds};
+use answers::Four;
+use answers::Three;
+
+/// Writes check's numbers as a line of at most 24 bytes.
+pub fn put_numbers(page: &mut [u8], four: Four) -> usize
+    requires { ⌜ 24 ≤ length (now page) ⌝ }
+    ensures { λ r. ⌜ (Puts (textOf (printedNumbers (numbers (four .number) (four .line) (four .rule) (four .claim)) ∷ [])) (now (page .entry)) (now (page .exit)) r) × (r ≤ 24) ⌝ }
+{
+    let first = pages::put_field(page, 0, four.number as u64, 44);
+    let second = pages::put_field(page, first, four.line as u64, 44);
+    let third = pages::put_field(page, second, four.rule as u64, 44);
+    pages::put_field(page, third, four.claim as u64, 10)
+}
+
+/// Writes reserve's fields as a line of at most 27 bytes.
+pub fn put_fields(page: &mut [u8], three: Three) -> usize
+    requires { ⌜ 27 ≤ length (now page) ⌝ }
+    ensures { λ r. ⌜ (Puts (textOf (printedFields (fields (three .letter) (three .middle) (three .claim)) ∷ [])) (now (page .entry)) (now (page .exit)) r) × (r ≤ 27) ⌝ }
+{
+    page[0] = three.letter;
+    page[1] = 44;
+    let second = pages::put_field(page, 2, three.middle, 44);
+    pages::put_field(page, second, three.claim as u64, 10)
+}
+
+/// The place behind the first line that is exactly `E` and its byte 10, or the end.
+pub fn pack_end(input: &[u8]) -> usize
+    ensures { λ r. ⌜ PackEnds (now (input .entry)) r ⌝ }
+{
+    let len = input.len();
+    let mut at: usize = 0;
+    while at < len {
+        let end = text::find(input, 10, at);
+        if end == len {
+            return len;
+        }
+        if end - at == 1 {
+            if input[at] == b'E' {
+                return end + 1;
+            }
+        }
+        at = end + 1;
+    }
+    len
+}
