@@ -1,0 +1,27 @@
+-- `cerrundix::reserve` meets its contract. Assumes nothing.
+use mathlib.Core.Path.{_∙_, ap}
+use native.Mathlib.Omega.{arith}
+use borrow.Author.Needs.{needs}
+use Rattle.theory.specs.Reserve.{Fields}
+use Rattle.theory.specs.Program.{reserveWord}
+use Rattle.reservation.proofs.AnswerRange.{middle-small}
+use Rattle.cerrundix.proofs.reserve.Statement.{statement}
+use Rattle.cerrundix.proofs.reserve.Tie as tie
+
+reserve-requires : tie.Need-reserve-requires
+reserve-requires c κs = search needs
+
+fields-of-requires : tie.Need-fields-of-requires
+fields-of-requires c κs = search needs
+
+reserve-word-requires : tie.Need-reserve-word-requires
+reserve-word-requires c κs =
+    let answer = c .before .reserve in
+    omega (arith, ap (λ (x : Fields). x .middle) (c .fields-of .ensures), middle-small _ _ (answer .result) (answer .ensures))
+
+returns : tie.Need-returns
+returns c = c .reserve-word .ensures ∙ ap reserveWord (c .before .fields-of .ensures ∙ c .before .before .reserve .ensures)
+
+pub reserve-spec : {M : Type 1} → statement M
+reserve-spec =
+    tie.close (tie.spec reserve-requires fields-of-requires reserve-word-requires returns)

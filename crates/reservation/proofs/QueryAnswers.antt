@@ -1,0 +1,131 @@
+-- From the tests of a query and the claims' reservation, by the tables, to what reserve answers.
+use mathlib.Core.Path.{_≡_, refl, sym, _∙_, ap, subst}
+use mathlib.Core.List.{List}
+use Prim.Native.Nat.{ℕ, zero, suc, _+_, _≤_}
+use native.Mathlib.Omega.{arith}
+use lib.IntN.{ℤ}
+use lib.ListN.{length, getD, length-replicate, replicate}
+use borrow.Author.Tests.{ne-eqb}
+use Rattle.theory.specs.Text.{Bytes}
+use Rattle.theory.specs.Packs.{Pack, Key, claimsOn, keyOf}
+use Rattle.theory.specs.Written.{packOf}
+use Rattle.theory.specs.Check.{Numbers, verdictOf}
+use Rattle.theory.specs.Reserve.{queryKey, queryOf, queryFault, reservation, refusal, answerOf, reserveOf}
+use Rattle.theory.specs.Answers.{numbersOf, refusalNumbers}
+use Rattle.theory.specs.declared.QueryRefusal.{QueryRefusal}
+use Rattle.theory.specs.declared.QueryRefusal.the-variants.{AskedIsKnown}
+use Rattle.theory.specs.declared.Refusal.{Refusal}
+use Rattle.theory.specs.declared.Verdict.{Verdict}
+use Rattle.theory.specs.declared.Verdict.the-variants.{Refused}
+use Rattle.theory.specs.declared.Counts.{Counts}
+use Rattle.theory.specs.declared.Verdict.the-variants.{Accepted}
+use Rattle.theory.specs.declared.Reservation.{Reservation}
+use Rattle.theory.specs.declared.Reservation.the-variants.{PackRefused, QueryRefused}
+use Rattle.theory.proofs.RefusalNumbers.{refusal-number}
+use Rattle.tables.specs.Tables.{Tables, SafeFacts, SafeClaims, predicateAt, HoldsClaims}
+use Rattle.tables.specs.QuerySizes.{SafeSizes}
+use Rattle.queries.specs.declared.Asked.{Asked}
+use Rattle.queries.specs.Queries.{OfQuery, OpensQuery, Passed}
+use Rattle.bounds.specs.Bounds.{ClaimsStand, ReservesBy}
+use Rattle.packs.specs.declared.Loaded.{Loaded}
+use Rattle.packs.specs.Loading.{Loads}
+use Rattle.reservation.specs.Answering.{RefusesQuery, Answers, Ready, PackHeld, Responds}
+
+-- a table of sizes that are all unknown
+repeated-small : (n i : ℕ) → getD (replicate n 65536) i 0 ≤ 65536
+repeated-small zero i = omega arith
+repeated-small (suc n) zero = omega arith
+repeated-small (suc n) (suc i) = repeated-small n i
+
+pub unknown-sizes : (length {A = ℕ} (replicate 8 65536) ≡ 8) × SafeSizes (replicate 8 65536)
+unknown-sizes = (length-replicate {A = ℕ} 8 65536, record { small = repeated-small 8 })
+
+-- a fault of a query that is none of the lower ones
+pub asked-known : {fault : ℕ} → (fault ≡ 4 → ⊥) → (fault ≡ 14 → ⊥) → (fault ≡ 15 → ⊥) → (fault ≡ 16 → ⊥) → (fault ≡ 17 → ⊥) → RefusesQuery fault AskedIsKnown
+asked-known {fault = fault} a b c d e = record { numbered = by a b c d e }
+  where
+    by : {n : ℕ} → (n ≡ 4 → ⊥) → (n ≡ 14 → ⊥) → (n ≡ 15 → ⊥) → (n ≡ 16 → ⊥) → (n ≡ 17 → ⊥) → OfQuery n → 18 ≡ n
+    by a b c d e OfQuery.four = absurd (a refl)
+    by a b c d e OfQuery.fourteen = absurd (b refl)
+    by a b c d e OfQuery.fifteen = absurd (c refl)
+    by a b c d e OfQuery.sixteen = absurd (d refl)
+    by a b c d e OfQuery.seventeen = absurd (e refl)
+    by a b c d e OfQuery.eighteen = refl
+
+-- ---- a query answered from the tables
+
+module _ (query : Bytes) {names facts : List ℕ} {claims : List ℤ} {known : ℕ} {asked : Asked} {sizes : List ℕ} (opens : OpensQuery query names facts known asked sizes) where
+  -- a query with a fault
+  pub refused-query : (r : QueryRefusal) → (asked .fault ≡ 0 → ⊥) → RefusesQuery (asked .fault) r → Answers query names facts claims known (QueryRefused r)
+  unfolding answerOf refusal
+  refused-query r some refuses = record {
+    tells = λ p declares holds.
+        let fault : queryFault p query ≡ asked .fault = opens .tells p declares .refused some in
+        rw (fault, ne-eqb _ _ some, refuses .numbered (opens .fault some)) refl;
+  }
+
+  -- the claims on the query's predicate stand in the table
+  stands : (p : Pack) (key : Key) → keyOf (predicateAt (p .predicates) (asked .predicate)) ≡ key → HoldsClaims facts claims (p .predicates) (p .claims) → Passed p query asked sizes
+      → ClaimsStand claims (asked .predicate) (getD facts (64 + asked .predicate) 0) (asked .arity) (asked .asked) sizes (queryOf query) (claimsOn key (p .claims))
+  stands p key is holds passed = subst (λ (k : Key). ClaimsStand claims (asked .predicate) (getD facts (64 + asked .predicate) 0) (asked .arity) (asked .asked) sizes (queryOf query) (claimsOn k (p .claims))) is (record {
+    all = holds .count (asked .predicate) (passed .below);
+    at = λ j below. holds .at (asked .predicate) j (passed .below) below;
+    full = λ j below. holds .full (asked .predicate) j (passed .below) below ∙ sym (passed .arity);
+    known = passed .full;
+    asks = passed .asked;
+    stand = passed .stand;
+  })
+
+  -- a query without fault
+  pub answered-query : {count : ℕ} (r : Reservation) → asked .fault ≡ 0 → count ≡ getD facts (64 + asked .predicate) 0 → ReservesBy claims (asked .predicate) count (asked .arity) (asked .asked) sizes r → Answers query names facts claims known r
+  unfolding answerOf reservation
+  answered-query r fine is reserves = record {
+    tells = λ p declares holds.
+        let passed = opens .tells p declares .passed fine in
+        let key = queryKey (queryOf query) in
+        reserves .tells (queryOf query) (claimsOn key (p .claims)) (rw is (stands p key (passed .is) holds passed))
+        ∙ rw (passed .faultless) refl;
+  }
+
+-- ---- a pack that is loaded
+
+is-accepted : {verdict : Verdict} {counts : Counts} → verdict ≡ Accepted counts → numbersOf verdict .number ≡ 0
+is-accepted is = ap (λ (v : Verdict). numbersOf v .number) is
+
+pub ready-accepted : {verdict : Verdict} {counts : Counts} {facts : List ℕ} {claims : List ℤ} {known : ℕ} → Ready verdict facts claims known → verdict ≡ Accepted counts → (known ≤ 32) × (SafeFacts facts) × (SafeClaims claims)
+ready-accepted ready is = let accepted = is-accepted is in (ready .few accepted, ready .safeFacts accepted, ready .safeClaims accepted)
+
+module _ (query : Bytes) {verdict : Verdict} {names facts : List ℕ} {claims : List ℤ} {known : ℕ} where
+  pub refused-pack : (r : Refusal) → verdict ≡ Refused r → Responds verdict query names facts claims known (PackRefused r)
+  unfolding reserveOf refusal
+  refused-pack r is = record {
+    tells = λ text held.
+        let number : refusalNumbers r .number ≡ verdictOf text .returned .number = ap (λ (n : Numbers). n .number) (sym (ap numbersOf is) ∙ held .judged) in
+        rw (← number, ne-eqb (refusalNumbers r .number) 0 (λ zero. omega (arith, refusal-number r))) refl;
+  }
+
+  pub answered-pack : {counts : Counts} (r : Reservation) → verdict ≡ Accepted counts → Answers query names facts claims known r → Responds verdict query names facts claims known r
+  unfolding reserveOf
+  answered-pack r is answers = record {
+    tells = λ text held.
+        let accepted = is-accepted is in
+        let none : verdictOf text .returned .number ≡ 0 = sym (ap (λ (n : Numbers). n .number) (held .judged)) ∙ accepted in
+        rw none (answers .tells (packOf text) (held .declares accepted) (held .claimed accepted));
+  }
+
+-- what loading leaves
+module _ {text : Bytes} {l : Loaded} {t : Tables} (loads : Loads text l t) where
+  pub pack-ready : Ready (l .verdict) (t .facts) (t .claims) (l .state .predicates)
+  pack-ready = record {
+    few = λ accepted. loads .safe accepted .state .predicates;
+    safeFacts = λ accepted. loads .safe accepted .facts;
+    safeClaims = λ accepted. loads .safe accepted .claims;
+  }
+
+  pub pack-held : PackHeld text (l .verdict) (t .names) (t .facts) (t .claims) (l .state .predicates)
+  unfolding packOf
+  pack-held = record {
+    judged = loads .answer;
+    declares = λ accepted. loads .holds accepted .declares;
+    claimed = λ accepted. loads .holds accepted .claims;
+  }

@@ -1,0 +1,18 @@
+-- `reservation::reserve` meets its contract. Assumes nothing.
+use mathlib.Core.Path.{refl}
+use Rattle.reservation.proofs.QueryAnswers.{pack-ready, pack-held}
+use borrow.Author.Needs.{needs}
+use Rattle.reservation.proofs.reserve.Statement.{statement}
+use Rattle.reservation.proofs.reserve.Tie as tie
+
+load-requires : tie.Need-load-requires
+load-requires c κs = refl
+
+respond-requires : tie.Need-respond-requires
+respond-requires c κs = search (needs, pack-ready)
+
+returns : tie.Need-returns
+returns c = c .respond .ensures .tells _ (pack-held (c .before .before .before .before .before .load .ensures))
+
+pub reserve-spec : {M : Type 1} → statement M
+reserve-spec = tie.close (tie.spec load-requires respond-requires returns)

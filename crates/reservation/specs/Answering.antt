@@ -1,0 +1,40 @@
+-- A query answered from the tables that hold a pack.
+use mathlib.Core.Path.{_≡_}
+use mathlib.Core.List.{List}
+use Prim.Native.Nat.{ℕ, _≤_}
+use lib.IntN.{ℤ}
+use Rattle.theory.specs.Text.{Bytes}
+use Rattle.theory.specs.Packs.{Pack}
+use Rattle.theory.specs.Written.{packOf}
+use Rattle.theory.specs.Check.{verdictOf}
+use Rattle.theory.specs.Reserve.{answerOf, reserveOf}
+use Rattle.theory.specs.Answers.{queryNumber, numbersOf, fieldsOf}
+use Rattle.theory.specs.declared.QueryRefusal.{QueryRefusal}
+use Rattle.theory.specs.declared.Reservation.{Reservation}
+use Rattle.theory.specs.declared.Verdict.{Verdict}
+use Rattle.tables.specs.Tables.{SafeFacts, SafeClaims, Declares, HoldsClaims}
+use Rattle.queries.specs.Queries.{OfQuery}
+
+-- a refusal of a query by its number
+pub record RefusesQuery (fault : ℕ) (r : QueryRefusal) : Type 0 where
+  pub numbered : OfQuery fault → queryNumber r ≡ fault
+
+-- the answer of the definition, for the pack whose predicates and claims the tables hold
+pub record Answers (query : Bytes) (names facts : List ℕ) (claims : List ℤ) (known : ℕ) (r : Reservation) : Type 0 where
+  pub tells : (p : Pack) → Declares names facts known (p .predicates) → HoldsClaims facts claims (p .predicates) (p .claims) → fieldsOf r ≡ answerOf p query
+
+-- tables that are safe to read where the pack is accepted
+pub record Ready (verdict : Verdict) (facts : List ℕ) (claims : List ℤ) (known : ℕ) : Type 0 where
+  pub few : numbersOf verdict .number ≡ 0 → known ≤ 32
+  pub safeFacts : numbersOf verdict .number ≡ 0 → SafeFacts facts
+  pub safeClaims : numbersOf verdict .number ≡ 0 → SafeClaims claims
+
+-- a text with this verdict, whose predicates and claims the tables hold where it is accepted
+pub record PackHeld (text : Bytes) (verdict : Verdict) (names facts : List ℕ) (claims : List ℤ) (known : ℕ) : Type 0 where
+  pub judged : numbersOf verdict ≡ verdictOf text .returned
+  pub declares : numbersOf verdict .number ≡ 0 → Declares names facts known (packOf text .predicates)
+  pub claimed : numbersOf verdict .number ≡ 0 → HoldsClaims facts claims (packOf text .predicates) (packOf text .claims)
+
+-- what reserve returns, for the text that is loaded
+pub record Responds (verdict : Verdict) (query : Bytes) (names facts : List ℕ) (claims : List ℤ) (known : ℕ) (r : Reservation) : Type 0 where
+  pub tells : (text : Bytes) → PackHeld text verdict names facts claims known → fieldsOf r ≡ reserveOf text query

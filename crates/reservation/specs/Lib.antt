@@ -1,0 +1,2 @@
+-- What an answer from the tables says. No public promise cites it.
+pub mod Answering

@@ -1,0 +1,93 @@
+// Reserve: a query answered from the tables that a pack is loaded into.
+ghost use mathlib.Core.Path.{_≡_};
+ghost use Prim.Native.Nat.{_≤_};
+ghost use Rattle.theory.specs.Reserve.{reserveOf};
+ghost use Rattle.theory.specs.Answers.{fieldsOf};
+ghost use Rattle.tables.specs.Tables.{SafeFacts, SafeClaims};
+ghost use Rattle.reservation.specs.Answering.{RefusesQuery, Answers, Ready, Responds};
+use theory::QueryRefusal;
+use theory::Reservation;
+use theory::Verdict;
+
+fn wide(x: u8) -> usize
+    ensures { λ r. ⌜ r ≡ x ⌝ }
+{
+    x as usize
+}
+
+/// The refusal of a query by its fault's number.
+fn query_refusal(fault: u8) -> QueryRefusal
+    ensures { λ r. ⌜ RefusesQuery fault r ⌝ }
+{
+    match fault {
+        4 => QueryRefusal::UnfitQuery,
+        14 => QueryRefusal::QueryName,
+        15 => QueryRefusal::QueryFieldCount,
+        16 => QueryRefusal::AskedArgument,
+        17 => QueryRefusal::SizeField,
+        _ => QueryRefusal::AskedIsKnown,
+    }
+}
+
+/// Answers a query on an accepted pack that the tables hold.
+pub fn answer(
+    query: &[u8],
+    names: &[u64; 64],
+    facts: &[u8; 96],
+    claims: &[i16; 4608],
+    known: usize,
+) -> Reservation
+    requires { ⌜ (known ≤ 32) × (SafeFacts (now facts)) × (SafeClaims (now claims)) ⌝ }
+    ensures { λ r. ⌜ Answers (now (query .entry)) (now (names .entry)) (now (facts .entry)) (now (claims .entry)) known r ⌝ }
+{
+    let mut sizes = [65536u32; 8];
+    let q = queries::open_query(query, names, facts, known, &mut sizes);
+    if q.fault != 0 {
+        return Reservation::QueryRefused(query_refusal(q.fault));
+    }
+    let predicate = q.predicate;
+    let count = wide(facts[64 + predicate]);
+    bounds::reserve_by(claims, predicate, count, q.arity, q.asked, &sizes)
+}
+
+/// Answers a query by a pack that is loaded: the pack's refusal, or the query's, or what the claims give.
+pub fn respond(
+    verdict: Verdict,
+    query: &[u8],
+    names: &[u64; 64],
+    facts: &[u8; 96],
+    claims: &[i16; 4608],
+    known: usize,
+) -> Reservation
+    requires { ⌜ Ready verdict (now facts) (now claims) known ⌝ }
+    ensures { λ r. ⌜ Responds verdict (now (query .entry)) (now (names .entry)) (now (facts .entry)) (now (claims .entry)) known r ⌝ }
+{
+    match verdict {
+        Verdict::Accepted(_) => answer(query, names, facts, claims, known),
+        Verdict::Refused(refusal) => Reservation::PackRefused(refusal),
+    }
+}
+
+/// Reserves by a pack and a query: the pack's refusal, the query's, or what the claims give.
+pub fn reserve(text: &[u8], query: &[u8]) -> Reservation
+    ensures { λ r. ⌜ fieldsOf r ≡ reserveOf (now (text .entry)) (now (query .entry)) ⌝ }
+{
+    let mut names = [0u64; 64];
+    let mut facts = [0u8; 96];
+    let mut claims = [0i16; 4608];
+    let mut variables = [0u64; 64];
+    let mut numbers = [0i64; 1305];
+    let mut slots = [0u16; 256];
+    let l = packs::load(
+        text,
+        &mut names,
+        &mut facts,
+        &mut claims,
+        &mut variables,
+        &mut numbers,
+        &mut slots,
+    );
+    let verdict = l.verdict;
+    let state = l.state;
+    respond(verdict, query, &names, &facts, &claims, state.predicates)
+}

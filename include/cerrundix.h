@@ -1,0 +1,98 @@
+/* Cerrundix: checks the size claims of a rule pack, reserves by them, measures ground terms.
+ *
+ * Link with libcerrundix.a (`rt staticlib cerrundix` makes it). The library keeps no state, takes no memory from the heap
+ * and calls nothing but memset. Each call returns, whatever the bytes; no call reads or writes outside the buffers that it
+ * is lent. What each word means is proved against document 01 (docs/MAP.md).
+ *
+ * A buffer is a pointer and a length. A buffer of length 0 may be lent as NULL and 0. No buffer needs to end with a zero
+ * byte. The residual area must not overlap the text.
+ */
+#ifndef CERRUNDIX_H
+#define CERRUNDIX_H
+
+#include <stddef.h>
+#include <stdint.h>
+
+#ifdef __cplusplus
+extern "C" {
+#endif
+
+/* The numbers that the residual area holds for an unjustified claim: the constant, then 16 coefficients in the order in
+ * which the rule's variables first occur, zeros behind the last. */
+#define CERRUNDIX_AREA 17
+
+/* The longest texts that are accepted, in bytes: a pack with the byte 10 of its last line, a query or a term without. */
+#define CERRUNDIX_PACK_LIMIT 32768
+#define CERRUNDIX_LINE_LIMIT 1024
+
+/* Checks a pack. The area holds at least CERRUNDIX_AREA numbers; it changes only for refusal 13, and then only its first
+ * CERRUNDIX_AREA numbers. Take the word apart with cerrundix_number, _line, _rule, _claim:
+ *   number 0: accepted; line, rule and claim hold the counts of lines, rules and `M` lines (cerrundix_lines and so on)
+ *   number 1 to 13: refused, see cerrundix_reason; line is the line, from 1, or 0; for 13 rule and claim are those of the
+ *   claim that is not justified */
+uint64_t check(const uint8_t *text, size_t text_length, int64_t *area, size_t area_length);
+
+/* Reserves by a pack and a query, the query without its byte 10. Writes to no lent memory. Take the word apart with
+ * cerrundix_letter, _middle, _by:
+ *   'B': the asked size is at most middle, by claim `by`
+ *   'N': no claim gives a bound
+ *   'I': there is no such fact, by claim `by`
+ *   'R': refused; middle is the pack's number (2 to 13) or the query's (4, 14 to 18), see cerrundix_reason */
+uint64_t reserve(const uint8_t *text, size_t text_length, const uint8_t *query, size_t query_length);
+
+/* Measures a ground term. Writes to no lent memory. Take the word apart with cerrundix_refusal and _size: refusal 0 and the
+ * size, or 4, 11 or 19 and size 0. */
+uint64_t measure(const uint8_t *term, size_t term_length);
+
+/* The word of check: the numbers times 1, 2^8, 2^24, 2^32. */
+static inline unsigned cerrundix_number(uint64_t word) { return (unsigned)(word & 0xff); }
+static inline unsigned cerrundix_line(uint64_t word) { return (unsigned)(word >> 8 & 0xffff); }
+static inline unsigned cerrundix_rule(uint64_t word) { return (unsigned)(word >> 24 & 0xff); }
+static inline unsigned cerrundix_claim(uint64_t word) { return (unsigned)(word >> 32); }
+
+/* The same, where the pack is accepted. */
+static inline unsigned cerrundix_lines(uint64_t word) { return cerrundix_line(word); }
+static inline unsigned cerrundix_rules(uint64_t word) { return cerrundix_rule(word); }
+static inline unsigned cerrundix_multiplier_lines(uint64_t word) { return cerrundix_claim(word); }
+
+/* The word of reserve: the letter as its byte, the claim times 2^8, the middle field times 2^16. */
+static inline char cerrundix_letter(uint64_t word) { return (char)(word & 0xff); }
+static inline unsigned cerrundix_by(uint64_t word) { return (unsigned)(word >> 8 & 0xff); }
+static inline uint64_t cerrundix_middle(uint64_t word) { return word >> 16; }
+
+/* The word of measure: the refusal or 0, the size times 2^8. */
+static inline unsigned cerrundix_refusal(uint64_t word) { return (unsigned)(word & 0xff); }
+static inline uint64_t cerrundix_size(uint64_t word) { return word >> 8; }
+
+/* A refusal in words, with what to mend. */
+static inline const char *cerrundix_reason(unsigned number) {
+    switch (number) {
+    case 0: return "accepted";
+    case 1: return "the residual area is shorter than 17 numbers: lend a longer one";
+    case 2: return "the text is over 32,768 bytes: split the pack";
+    case 3: return "the text is empty or its last byte is not 10: end the last line";
+    case 4: return "over 1,024 bytes, or a byte outside 32 to 126: shorten it, look for tabs and letters that are not ASCII";
+    case 5: return "a line of this letter may not stand here: check the order, count the M lines";
+    case 6: return "the text ends without an E line: add it";
+    case 7: return "the second field is missing or no name: a small letter first, at most 16 characters";
+    case 8: return "P: declared already; others: not declared; H: a given predicate";
+    case 9: return "the wrong number of fields: compare with the predicate's arguments, for M with the subgoals' claims";
+    case 10: return "an arity, kind, claim number or multiplier is malformed or out of range";
+    case 11: return "a field is no term: each symbol needs its arity and that many terms, parted by single spaces";
+    case 12: return "the line passes a count limit";
+    case 13: return "a claim is not justified, the area holds the residual: other multipliers, or a weaker claim";
+    case 14: return "the query's name is missing, malformed or not declared";
+    case 15: return "the query has not two fields more than the predicate has arguments";
+    case 16: return "the asked argument is malformed, or the predicate has none of that number";
+    case 17: return "a size is malformed or over 65535";
+    case 18: return "the asked argument's own size is not -";
+    case 19: return "the term has a variable";
+    default: return "no refusal of this library";
+    }
+}
+
+#ifdef __cplusplus
+}
+#endif
+
+#endif
