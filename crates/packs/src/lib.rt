@@ -40,7 +40,7 @@ pub fn load_lines(
     let mut number: usize = 0;
     let mut at: usize = 0;
     'lines: while at < len {
-        let end = text::find(text, 10, at);
+        let end = text::find_far(text, 10, at);
         let line = &text[at..end];
         number += 1;
         let o = opening::open(line, state, names, facts);
@@ -59,7 +59,7 @@ pub fn load_lines(
         let mut from = o.from;
         let mut index: usize = 0;
         'fields: while from <= width {
-            let stop = text::find(line, 44, from);
+            let stop = text::find_near(line, 44, from);
             let f = fields::field(
                 letter,
                 index,

@@ -10,11 +10,9 @@
 //              from 81 on rows of 17 numbers: argument k of atom a has row a * 8 + k, the form of a term
 //   slots      for the kth claim on the last rule's subgoals: its place in `claims` at k, its subgoal at 128 + k
 
-/// The scalars that go with the tables.
+/// The scalars that go with the tables. The flags stand last: gaps behind them, between the numbers, make copies slow.
 pub struct State {
     pub predicates: usize,
-    /// Whether there is a claim.
-    pub claimed: bool,
     pub rules: usize,
     pub multiplier_lines: usize,
     /// Of the last rule: its head's predicate, subgoals, variables, claims on subgoals, and `M` lines so far.
@@ -23,6 +21,8 @@ pub struct State {
     pub variables: usize,
     pub slots: usize,
     pub multipliers: usize,
+    /// Whether there is a claim.
+    pub claimed: bool,
     pub ended: bool,
 }
 

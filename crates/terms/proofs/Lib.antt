@@ -4,6 +4,7 @@
 pub mod TokenKinds
 pub mod SymbolTokens
 pub mod TokenReading
+pub mod VariableWords
 pub mod FirstTerms
 pub mod Scan
 -- a term's size and variables as sums over its tokens

@@ -1,7 +1,5 @@
 -- The loop of `occurrences`: the variables of the tokens passed are counted.
 use mathlib.Core.Path.{_≡_, refl, sym, _∙_, ap}
-use mathlib.Core.Logic.{⊎-elim}
-use mathlib.Core.Bool.{true, false}
 use mathlib.Core.List.{List, [], _∷_, _++_, append-assoc, append-nil}
 use mathlib.Core.Option.{some}
 use Prim.Native.Nat.{ℕ, _+_, _≤_, _<_}
@@ -10,18 +8,18 @@ use lib.IntN.{ℤ, natAbs}
 use lib.ListN.{length}
 use denote.Enum.Declared.{tagOf}
 use types.Run.{OneOf}
-use Rattle.theory.specs.Text.{Bytes, isVariable}
+use Rattle.theory.specs.Text.{Bytes}
 use Rattle.theory.specs.Terms.{Term, readTerm, variables, occurrences}
 use Rattle.theory.specs.Residuals.{numbered}
 use Rattle.text.specs.Scans.{part, Finds, partsFrom}
-use Rattle.text.specs.Words.{wordsOf, WordRead, name, variable, neither}
+use Rattle.text.specs.Words.{VariableRead}
 use Rattle.text.specs.declared.Words.{Words}
 use Rattle.text.specs.declared.Word.{Word}
 use Rattle.text.specs.declared.Word.the-variants.{Variable}
 use Rattle.text.proofs.Word.{the-type}
 use Rattle.text.proofs.Cuts.{parts-all, parts-step, parts-done}
-use Rattle.text.proofs.WordLaws.{name-not-variable}
 use Rattle.terms.specs.Rows.{Holds, Cleared, SmallRow, RowFits, CountsOne, CountedFrom, Counted}
+use Rattle.terms.proofs.VariableWords.{variable-read, other-read}
 use Rattle.terms.proofs.TokenSums.{variableTokens, variable-first, other-first, token-sums}
 use Rattle.terms.proofs.RowStores.{countAt, Elsewhere, none-stored, stored-again}
 use Rattle.terms.proofs.OneOccurrence.{leaves}
@@ -42,19 +40,6 @@ pub record Reached (field : Bytes) (names₀ : List ℕ) (known : ℕ) (rows₀ 
   pub elsewhere : Elsewhere rows₀ base rows
   pub small : (i : ℕ) → i < 16 → natAbs (countAt rows base i) ≤ from
   pub counting : (seen : List Bytes) → Holds names₀ seen → length seen ≡ known → length rows₀ ≡ 1305 → (t : Term) → readTerm field ≡ some t → Passed field seen t base from many names rows
-
--- ---- the words of a token
-
-variable-read : {bs : Bytes} {word : Word} (words : Words) → WordRead bs word → word ≡ Variable words → (isVariable bs ≡ true) × (words ≡ wordsOf bs)
-variable-read words (name h) e = let z : _≡_ {A = ℕ} 0 1 = cc in absurd (omega arith)
-variable-read words (variable h) e = (h, cc)
-variable-read words (neither h k) e = let z : _≡_ {A = ℕ} 0 1 = cc in absurd (omega arith)
-
--- the tags of `Name` and `Neither`
-other-read : {bs : Bytes} {word : Word} → WordRead bs word → OneOf (0 ∷ 2 ∷ []) (tagOf the-type word) → isVariable bs ≡ false
-other-read {bs} (name h) other = name-not-variable bs h
-other-read (variable h) other = ⊎-elim (λ e. absurd (omega arith)) (λ e. absurd (omega arith)) other
-other-read (neither h k) other = k
 
 module _ (field : Bytes) (names₀ : List ℕ) (known : ℕ) (rows₀ : List ℤ) (base : ℕ) (fits : RowFits field known base) where
   -- ---- before the first token
@@ -87,7 +72,7 @@ module _ (field : Bytes) (names₀ : List ℕ) (known : ℕ) (rows₀ : List ℤ
     pub reached-small : SmallRow rows base
     reached-small = record { small = λ i h. omega (arith, reached .small i h, reached .past, fits .short) }
 
-    module _ (end : ℕ) (inside : from ≤ length field) (found : Finds field 32 from end) (word : Word) (read : WordRead (part field from end) word) where
+    module _ (end : ℕ) (inside : from ≤ length field) (found : Finds field 32 from end) (word : Word) (read : VariableRead (part field from end) word) where
       abbrev token : Bytes
       token = part field from end
 

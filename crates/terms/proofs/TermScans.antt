@@ -1,22 +1,30 @@
 -- The loops over the tokens of a field: from a place on, the tokens between spaces.
 use mathlib.Core.Path.{_≡_, sym, _∙_, ap}
 use mathlib.Core.Bool.{true, false}
-use mathlib.Core.List.{_∷_}
+use mathlib.Core.List.{[], _∷_}
 use Prim.Native.Nat.{ℕ, suc, _+_, _-_, _*_, _≤_, _<_}
 use native.Mathlib.Omega.{arith}
 use lib.Dec.{eqb}
 use lib.ListN.{length}
+use denote.Enum.Declared.{tagOf}
+use types.Run.{OneOf}
 use mir.Syntax.{w64}
 use mir.Val.{Fits}
 use Rattle.theory.specs.Text.{Bytes, partsAt}
 use Rattle.theory.specs.Faults.{isEmpty, isTerm}
 use Rattle.text.specs.Scans.{part, Finds, partsFrom}
+use Rattle.text.specs.Words.{VariableRead}
+use Rattle.text.specs.declared.Words.{Words}
+use Rattle.text.specs.declared.Word.{Word}
+use Rattle.text.specs.declared.Word.the-variants.{Variable as WordVariable}
+use Rattle.text.proofs.Word.{the-type}
 use Rattle.text.proofs.Cuts.{parts-all, parts-done, parts-step}
 use Rattle.terms.specs.declared.Token.{Token}
 use Rattle.terms.specs.declared.Token.the-variants.{Variable, Symbol, NoToken}
 use Rattle.terms.specs.Tokens.{TokenRead, ArityRead, ConstantRead, VariableFound}
-use Rattle.terms.proofs.TokenReading.{told-variable, told-symbol, told-none, told-other}
-use Rattle.terms.proofs.TokenKinds.{AllRead, first-read, rest-read, variable-token}
+use Rattle.terms.proofs.TokenReading.{told-variable, told-symbol, told-none}
+use Rattle.terms.proofs.VariableWords.{variable-read, other-read}
+use Rattle.terms.proofs.TokenKinds.{AllRead, first-read, rest-read}
 use Rattle.terms.proofs.Scan.{scan, scan-unwanted, scan-takes-variable, scan-takes-symbol, scan-no-token, scan-end, scan-is-term}
 use Rattle.terms.proofs.TokenSums.{constants, variableTokens, constants-step, variable-first, other-first, token-sums, all-tokens-read}
 use Rattle.terms.proofs.TokenBounds.{wanted-behind, constants-small}
@@ -121,19 +129,19 @@ pub seeking-none : (field : Bytes) → Seeking field 0
 seeking-none field = record { rest = ap variableTokens (parts-all 32 field); high = omega arith }
 
 module _ (field : Bytes) (from : ℕ) (c : Seeking field from) where
-  module _ (inside : from ≤ length field) (end : ℕ) (found : Finds field 32 from end) (token : Token) (read : TokenRead (part field from end) token) where
+  module _ (inside : from ≤ length field) (end : ℕ) (found : Finds field 32 from end) (word : Word) (read : VariableRead (part field from end) word) where
     -- with the next token in front
     seeking-at : variableTokens (part field from end ∷ partsFrom 32 field (end + 1)) ≡ variableTokens (partsAt 32 field)
     seeking-at = ap variableTokens (sym (parts-step 32 field from end inside found)) ∙ c .rest
 
-    pub seeking-found : token ≡ Variable → VariableFound field true
+    pub seeking-found : (words : Words) → word ≡ WordVariable words → VariableFound field true
     unfolding isEmpty
-    seeking-found e = record {
-      is = λ t h. rw (sym (token-sums field t h .names) ∙ sym seeking-at ∙ variable-first _ _ (variable-token (part field from end) .0 (told-variable read e)));
+    seeking-found words e = record {
+      is = λ t h. rw (sym (token-sums field t h .names) ∙ sym seeking-at ∙ variable-first _ _ (variable-read words read e .0));
     }
 
-    pub seeking-more : (token ≡ Variable → ⊥) → Seeking field (end + 1)
-    seeking-more other = record { rest = sym (other-first _ _ (told-other read other)) ∙ seeking-at; high = omega (arith, found .high) }
+    pub seeking-more : OneOf (0 ∷ 2 ∷ []) (tagOf the-type word) → Seeking field (end + 1)
+    seeking-more other = record { rest = sym (other-first _ _ (other-read read other)) ∙ seeking-at; high = omega (arith, found .high) }
 
   pub seeking-all : length field < from → VariableFound field false
   unfolding variableTokens isEmpty

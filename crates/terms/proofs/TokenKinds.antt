@@ -7,7 +7,7 @@ use Prim.Native.Nat.{ℕ, _≤_}
 use native.Mathlib.Omega.{arith}
 use Rattle.integers.proofs.Truth.{by-truth}
 use Rattle.theory.specs.Text.{Bytes, isVariable}
-use Rattle.theory.specs.Terms.{Token, variableNamed, symbolOf, noToken, tokenOf}
+use Rattle.theory.specs.Terms.{Token, variableNamed, symbolOf, tokenOf}
 use Rattle.theory.specs.Limits.{_∈_}
 use Rattle.theory.proofs.Tokens.{ReadAs, as-variable, as-symbol, as-none, token-of-variable, read-as}
 
@@ -26,9 +26,6 @@ other-token w other = by-truth (λ b. b ≡ false) (isVariable w) (λ h. absurd 
 
 pub symbol-token : (w f : Bytes) (k : ℕ) → tokenOf w ≡ symbolOf f k → isVariable w ≡ false
 symbol-token w f k e = other-token w (λ h. let z : _≡_ {A = ℕ} 0 1 = cc in omega arith)
-
-pub no-token : (w : Bytes) → tokenOf w ≡ noToken → isVariable w ≡ false
-no-token w e = other-token w (λ h. let z : _≡_ {A = ℕ} 0 1 = cc in omega arith)
 
 pub arity-of-token : (w f : Bytes) (k : ℕ) → tokenOf w ≡ symbolOf f k → k ≤ 9
 arity-of-token w f k e = one-digit (read-as w) e

@@ -18,7 +18,7 @@ use Rattle.terms.specs.declared.Token.{Token}
 use Rattle.terms.specs.declared.Token.the-variants.{Symbol, NoToken}
 use Rattle.terms.specs.declared.Token.the-variants.{Variable as VariableToken}
 use Rattle.terms.specs.Tokens.{TokenRead, variable, symbol, none, ArityRead}
-use Rattle.terms.proofs.TokenKinds.{variable-token, symbol-token, no-token}
+use Rattle.terms.proofs.TokenKinds.{variable-token}
 use Rattle.terms.proofs.SymbolTokens.{lastByte, lastButOne, frontOf, SymbolWritten, symbol-written, symbol-read, slash-no-variable, other-no-token}
 
 -- the test of a digit that holds
@@ -112,8 +112,3 @@ pub told-none : {w : Bytes} {token : Token} → TokenRead w token → token ≡ 
 told-none (variable h) e = let z : _≡_ {A = ℕ} 0 1 = cc in absurd (omega arith)
 told-none (symbol name k h few) e = let z : _≡_ {A = ℕ} 0 1 = cc in absurd (omega arith)
 told-none (none h) e = h
-
-pub told-other : {w : Bytes} {token : Token} → TokenRead w token → (token ≡ VariableToken → ⊥) → isVariable w ≡ false
-told-other (variable h) other = absurd (other refl)
-told-other (symbol name k h few) other = symbol-token _ name k h
-told-other (none h) other = no-token _ h

@@ -131,8 +131,8 @@ pub fn has_variable(field: &[u8]) -> bool
     let mut from: usize = 0;
     while from <= n {
         let end = text::find(field, 32, from);
-        let token = read_token(&field[from..end]);
-        if let Token::Variable = token {
+        let word = text::read_variable(&field[from..end]);
+        if let Word::Variable(_) = word {
             return true;
         }
         from = end + 1;
@@ -222,7 +222,7 @@ pub fn occurrences(
     let mut from: usize = 0;
     while from <= n {
         let end = text::find(field, 32, from);
-        let word = text::read_word(&field[from..end]);
+        let word = text::read_variable(&field[from..end]);
         if let Word::Variable(words) = word {
             many = count_variable(words, names, many, rows, base);
         }

@@ -1,12 +1,17 @@
--- The loop of `count`: one part more than separators.
-use mathlib.Core.Path.{_≡_, ap}
-use Prim.Native.Nat.{ℕ, suc, _+_, _≤_, _<_}
+-- The loops of `count`: one part more than separators.
+use mathlib.Core.Path.{_≡_, sym, ap}
+use mathlib.Core.Bool.{Bool, cond}
+use mathlib.Core.List.{[], _∷_, _++_}
+use Prim.Native.Nat.{ℕ, suc, _+_, _-_, _≤_, _<_}
 use native.Mathlib.Omega.{arith}
-use lib.ListN.{length, getD, drop, drop-of-length-le}
-use Rattle.integers.proofs.Truth.{equal-eqb, eqb-different}
+use lib.Dec.{eqb}
+use lib.ListN.{length, getD, drop, length-drop, drop-of-length-le}
+use lib.Seq.{length-take-le}
+use Rattle.integers.proofs.Truth.{by-truth, equal-eqb, eqb-different}
 use Rattle.theory.specs.Text.{Bytes, onFirst, partsAt}
 use Rattle.theory.proofs.Separators.{parts-cons}
-use Rattle.text.proofs.Parts.{drop-more}
+use Rattle.text.specs.Scans.{part, CountsParts}
+use Rattle.text.proofs.Parts.{drop-cut, drop-more}
 
 -- n separators stand before place i
 pub record Counted (separator : ℕ) (s : Bytes) (n i : ℕ) : Type 0 where
@@ -43,3 +48,26 @@ module _ (separator : ℕ) (s : Bytes) where
 
     pub counted-all : length s ≤ i → n + 1 ≡ length (partsAt separator s)
     counted-all h = omega (arith, at-end h)
+
+    pub counts-parts : length s ≤ i → CountsParts separator s n
+    counts-parts h = record { few = omega (arith, c .few, c .high); parts = counted-all h }
+
+  -- ---- a block more
+
+  parts-append : (xs ys : Bytes) → length (partsAt separator (xs ++ ys)) + 1 ≡ length (partsAt separator xs) + length (partsAt separator ys)
+  unfolding partsAt
+  parts-append [] ys = omega arith
+  parts-append (b ∷ xs) ys =
+      by-truth
+      (λ (same : Bool). length (cond same ([] ∷ partsAt separator (xs ++ ys)) (onFirst b (partsAt separator (xs ++ ys)))) + 1
+      ≡ length (cond same ([] ∷ partsAt separator xs) (onFirst b (partsAt separator xs))) + length (partsAt separator ys))
+      (eqb b separator)
+      (λ _. omega (arith, parts-append xs ys))
+      (λ _. omega (arith, parts-append xs ys, parts-first b xs, parts-first b (xs ++ ys)))
+
+  pub counted-block : (n i : ℕ) → Counted separator s n i → (e : ℕ) → i < e → e ≤ length s → (r m : ℕ) → CountsParts separator (part s i e) r → m ≡ r → Counted separator s (n + m) e
+  counted-block n i c e l high r m found same =
+      let cut = drop-cut s i e (omega arith) in
+      let joined = rw (sym cut) at (parts-append (part s i e) (drop e s)) in
+      let wide : length (part s i e) ≡ e - i = length-take-le (e - i) (drop i s) (simp length-drop (omega arith)) in
+      record { few = omega (arith, c .few, found .few, wide); high = high; parts = omega (arith, joined, c .parts, found .parts) }

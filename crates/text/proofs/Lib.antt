@@ -6,6 +6,8 @@ pub mod WordKinds
 pub mod Parts
 pub mod Classes
 -- What the functions' proofs cite.
+pub mod Blocks
+pub mod Marks
 pub mod Counts
 pub mod Fitness
 pub mod Packing

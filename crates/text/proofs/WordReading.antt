@@ -1,4 +1,4 @@
--- What `read_word` answers: a word is a first letter, bytes that may stand in a name, and no more than 16 of them.
+-- What `read_word` and `read_variable` answer: a word is a first letter, bytes that may stand in a name, and no more than 16 of them.
 use mathlib.Core.Path.{_≡_, refl, sym, _∙_, ap, ap₂, subst}
 use mathlib.Core.Bool.{Bool, true, false, _&&_, and-false}
 use mathlib.Core.List.{[], _∷_}
@@ -12,11 +12,13 @@ use Rattle.integers.proofs.Truth.{by-truth, and-both, and-not-left, and-not-rig
 use Rattle.theory.specs.Text.{Bytes, every, isLower, isUpper, isNameByte, isWord, isName, isVariable}
 use Rattle.text.specs.declared.Words.{Words}
 use Rattle.text.specs.declared.Packed.{Packed}
+use Rattle.text.specs.declared.Word.{Word}
 use Rattle.text.specs.declared.Word.the-variants.{Name, Variable, Neither}
 use Rattle.text.specs.Scans.{part}
-use Rattle.text.specs.Words.{number, wordsOf, PacksInto, WordRead, name, variable, neither}
+use Rattle.text.specs.Words.{number, wordsOf, PacksInto, WordRead, name, variable, neither, VariableRead, found, named, nothing}
 use Rattle.text.proofs.Parts.{empty-is, part-rest}
 use Rattle.text.proofs.Classes.{every-cut, lower-in-name, upper-in-name}
+use Rattle.text.proofs.WordLaws.{name-not-variable}
 
 -- a place past the end, cut back to the end
 cut-short : (n m : ℕ) (s : Bytes) → m ≡ min n (length s) → (take m s ≡ take n s) × (drop m s ≡ drop n s)
@@ -89,3 +91,16 @@ module _ (s : Bytes) (any : length s ≡ 0 → ⊥) where
 
   pub read-other : (lower upper : Bool) → lower ≡ isLower (getD s 0 0) → lower ≡ false → upper ≡ isUpper (getD s 0 0) → upper ≡ false → WordRead s Neither
   read-other lower upper e h f k = neither (name-is ∙ rw (sym e ∙ h)) (variable-is ∙ rw (sym f ∙ k))
+
+  -- ---- what is read where variables are looked for
+
+  pub other-first : (upper : Bool) → upper ≡ isUpper (getD s 0 0) → upper ≡ false → VariableRead s Neither
+  other-first upper e h = nothing (variable-is ∙ rw (sym e ∙ h))
+
+pub none-read : (s : Bytes) → length s ≡ 0 → VariableRead s Neither
+none-read s h = nothing (word-none isUpper s h)
+
+pub word-read : (s : Bytes) (r : Word) → WordRead s r → VariableRead s r
+word-read s r (name h) = named (name-not-variable s h) _
+word-read s r (variable h) = found h
+word-read s r (neither h k) = nothing k

@@ -29,6 +29,12 @@ pub data WordRead (bs : Bytes) : Word → Type 0 where
   variable : isVariable bs ≡ true → WordRead bs (Variable (wordsOf bs))
   neither : isName bs ≡ false → isVariable bs ≡ false → WordRead bs Neither
 
+-- what the reader found that looks for variables
+pub data VariableRead (bs : Bytes) : Word → Type 0 where
+  found : isVariable bs ≡ true → VariableRead bs (Variable (wordsOf bs))
+  named : isVariable bs ≡ false → (words : Words) → VariableRead bs (Name words)
+  nothing : isVariable bs ≡ false → VariableRead bs Neither
+
 -- a table of words, two numbers for each: the words at a place
 abbrev pub wordsAt : List ℕ → ℕ → Words
 wordsAt names i = record { first = getD names (2 * i) 0; second = getD names (2 * i + 1) 0 }

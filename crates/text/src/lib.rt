@@ -7,9 +7,11 @@ ghost use lib.ListN.{length};
 ghost use lib.IntN.{pos, negsuc};
 ghost use Rattle.theory.specs.Text.{partsAt, isLower, isUpper, isNameByte, natural, integer};
 ghost use Rattle.theory.specs.Faults.{isUnfit};
-ghost use Rattle.text.specs.Scans.{part, Finds};
-ghost use Rattle.text.specs.Words.{PacksInto, WordRead, PlaceOf};
+ghost use Rattle.text.specs.Scans.{Finds, CountsParts};
+ghost use Rattle.text.specs.Words.{PacksInto, WordRead, VariableRead, PlaceOf};
 ghost use Rattle.text.specs.Numbers.{naturalOf, integerOf};
+
+mod block;
 
 /// The first place at or behind `from` where `wanted` stands, or the length.
 pub fn find(bytes: &[u8], wanted: u8, from: usize) -> usize
@@ -17,6 +19,13 @@ pub fn find(bytes: &[u8], wanted: u8, from: usize) -> usize
     ensures { λ r. ⌜ Finds (now (bytes .entry)) wanted from r ⌝ }
 {
     let mut i = from;
+    while 8 <= bytes.len() - i {
+        let k = block::first_of_eight(bytes, wanted, i);
+        if k < 8 {
+            return i + k;
+        }
+        i += 8;
+    }
     while i < bytes.len() {
         if bytes[i] == wanted {
             return i;
@@ -26,6 +35,66 @@ pub fn find(bytes: &[u8], wanted: u8, from: usize) -> usize
     i
 }
 
+/// As `find`, for places that are far off.
+pub fn find_far(bytes: &[u8], wanted: u8, from: usize) -> usize
+    requires { ⌜ from ≤ length (now bytes) ⌝ }
+    ensures { λ r. ⌜ Finds (now (bytes .entry)) wanted from r ⌝ }
+{
+    let mut i = from;
+    while 16 <= bytes.len() - i {
+        let k = block::first_of_sixteen(bytes, wanted, i);
+        if k < 16 {
+            return i + k;
+        }
+        i += 16;
+    }
+    find(bytes, wanted, i)
+}
+
+/// As `find`, for places that are near more often than far off.
+pub fn find_near(bytes: &[u8], wanted: u8, from: usize) -> usize
+    requires { ⌜ from ≤ length (now bytes) ⌝ }
+    ensures { λ r. ⌜ Finds (now (bytes .entry)) wanted from r ⌝ }
+{
+    if bytes.len() - from < 8 {
+        return find(bytes, wanted, from);
+    }
+    let k = block::first_of_eight(bytes, wanted, from);
+    if k < 8 {
+        return from + k;
+    }
+    find_far(bytes, wanted, from + 8)
+}
+
+fn as_count(n: u8) -> usize
+    ensures { λ r. ⌜ r ≡ n ⌝ }
+{
+    n as usize
+}
+
+/// As `count`, for few bytes. The number is as wide as a byte, so that it takes one vector for sixteen bytes.
+fn count_few(bytes: &[u8], wanted: u8) -> u8
+    requires { ⌜ length (now bytes) ≤ 128 ⌝ }
+    ensures { λ r. ⌜ CountsParts wanted (now (bytes .entry)) r ⌝ }
+{
+    let mut n: u8 = 0;
+    let mut i: usize = 0;
+    while i < bytes.len() {
+        if bytes[i] == wanted {
+            n += 1;
+        }
+        i += 1;
+    }
+    n
+}
+
+fn block_end(from: usize, len: usize) -> usize
+    requires { ⌜ from < len ⌝ }
+    ensures { λ r. ⌜ (from < r) × (r ≤ len) × (r ≤ from + 128) ⌝ }
+{
+    if len - from < 128 { len } else { from + 128 }
+}
+
 /// How often `wanted` stands in `bytes`: one less than there are parts.
 pub fn count(bytes: &[u8], wanted: u8) -> usize
     ensures { λ r. ⌜ r + 1 ≡ length (partsAt wanted (now (bytes .entry))) ⌝ }
@@ -33,10 +102,9 @@ pub fn count(bytes: &[u8], wanted: u8) -> usize
     let mut n: usize = 0;
     let mut i: usize = 0;
     while i < bytes.len() {
-        if bytes[i] == wanted {
-            n += 1;
-        }
-        i += 1;
+        let end = block_end(i, bytes.len());
+        n += as_count(count_few(&bytes[i..end], wanted));
+        i = end;
     }
     n
 }
@@ -173,6 +241,19 @@ pub fn read_word(bytes: &[u8]) -> Word
         });
     }
     Word::Neither
+}
+
+/// As `read_word`, where only variables are looked for: no other first letter is read on.
+pub fn read_variable(bytes: &[u8]) -> Word
+    ensures { λ r. ⌜ VariableRead (now (bytes .entry)) r ⌝ }
+{
+    if bytes.len() == 0 {
+        return Word::Neither;
+    }
+    if !is_upper(bytes[0]) {
+        return Word::Neither;
+    }
+    read_word(bytes)
 }
 
 /// Where the words of a name stand among the first of a table, or how many those are.

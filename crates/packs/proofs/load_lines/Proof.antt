@@ -32,8 +32,8 @@ abbrev μ-lines : tie.MeasureT-lines
 lines-holds : tie.Need-lines-holds Inv-fields μ-fields Inv-lines μ-lines
 lines-holds c = (refl, search (needs, lines-begin))
 
-find-requires : tie.Need-find-requires Inv-fields μ-fields Inv-lines μ-lines
-find-requires c κs = search needs
+find-far-requires : tie.Need-find-far-requires Inv-fields μ-fields Inv-lines μ-lines
+find-far-requires c κs = search needs
 
 sub-line : tie.Need-sub-line Inv-fields μ-fields Inv-lines μ-lines
 sub-line c = search needs
@@ -62,8 +62,8 @@ fields-holds c =
           (λ other. ⊎-elim (λ way. absurd (other (way .0 .taken))) (λ way. way .1) came),
     )
 
-find-requires-2 : tie.Need-find-requires-2 Inv-fields μ-fields Inv-lines μ-lines
-find-requires-2 c κs = search needs
+find-near-requires : tie.Need-find-near-requires Inv-fields μ-fields Inv-lines μ-lines
+find-near-requires c κs = search needs
 
 sub-field : tie.Need-sub-field Inv-fields μ-fields Inv-lines μ-lines
 sub-field c = search needs
@@ -80,7 +80,7 @@ field-requires c κs =
     let opens = c .before .before .before .before .before .before .before .before .before .before .before .before .«open» .ensures in
     let fine = c .before .before .before .before .before .before .before .before .before .before .before .if1 .left in
     let fields = c .before .before .before .before .before .before .before .before .before .fields .inv .1 in
-    fields-ready (read .safe) opens fine fields (c .before .before .before .before .before .before .before .before .fields-test .taken) (c .before .before .before .before .before .before .before .find2 .ensures)
+    fields-ready (read .safe) opens fine fields (c .before .before .before .before .before .before .before .before .fields-test .taken) (c .before .before .before .before .before .before .before .find-near .ensures)
 
 add-index : tie.Need-add-index Inv-fields μ-fields Inv-lines μ-lines
 add-index c =
@@ -99,7 +99,7 @@ add-from c =
     let opens = c .before .before .before .before .before .before .before .before .before .before .before .before .before .before .«open» .ensures in
     let fine = c .before .before .before .before .before .before .before .before .before .before .before .before .before .if1 .left in
     let short = opens .short fine in
-    let high = c .before .before .before .before .before .before .before .before .before .find2 .ensures .high in
+    let high = c .before .before .before .before .before .before .before .before .before .find-near .ensures .high in
     record { fits = omega arith }
 
 fields-less : tie.Need-fields-less Inv-fields μ-fields Inv-lines μ-lines
@@ -111,7 +111,7 @@ fields-again c =
     let opens = c .before .before .before .before .before .before .before .before .before .before .before .before .before .before .«open» .ensures in
     let fine = c .before .before .before .before .before .before .before .before .before .before .before .before .before .if1 .left in
     let fields = c .before .before .before .before .before .before .before .before .before .before .before .fields .inv .1 in
-    (c .if3 .left, fields-more (read .safe) opens fine fields (c .before .before .before .before .before .before .before .before .before .before .fields-test .taken) (c .before .before .before .before .before .before .before .before .before .find2 .ensures) (c .before .field .ensures) (c .if3 .left))
+    (c .if3 .left, fields-more (read .safe) opens fine fields (c .before .before .before .before .before .before .before .before .before .before .fields-test .taken) (c .before .before .before .before .before .before .before .before .before .find-near .ensures) (c .before .field .ensures) (c .if3 .left))
 
 close-requires : tie.Need-close-requires Inv-fields μ-fields Inv-lines μ-lines
 close-requires c κs =
@@ -124,13 +124,13 @@ close-requires c κs =
 add-at : tie.Need-add-at Inv-fields μ-fields Inv-lines μ-lines
 add-at c =
     let addressable = c .before .before .before .before .before .before .before .before .before .before .before .before .before .before .before .before .before .before .before .before .before .before .good .0 .1 in
-    let high = c .before .before .before .before .before .before .before .before .before .before .before .before .before .before .before .before .before .before .find .ensures .high in
+    let high = c .before .before .before .before .before .before .before .before .before .before .before .before .before .before .before .before .before .before .find-far .ensures .high in
     record { fits = omega arith }
 
 lines-less : tie.Need-lines-less Inv-fields μ-fields Inv-lines μ-lines
 lines-less c =
     let inside = c .before .before .before .before .before .before .before .before .before .before .before .before .before .before .before .before .before .before .before .lines-test .taken in
-    let low = c .before .before .before .before .before .before .before .before .before .before .before .before .before .before .before .before .before .before .find .ensures .low in
+    let low = c .before .before .before .before .before .before .before .before .before .before .before .before .before .before .before .before .before .before .find-far .ensures .low in
     omega arith
 
 lines-again : tie.Need-lines-again Inv-fields μ-fields Inv-lines μ-lines
@@ -141,7 +141,7 @@ lines-again c =
     let fields = c .before .before .before .before .before .before .before .before .before .before .before .fields .inv .1 in
     let all = fields-all (read .safe) opens fine fields (c .before .before .before .before .before .before .before .before .before .before .fields-test .left) in
     let judged = judged-whole (read .safe) opens fine (line-closed (read .safe) opens fine fields all (c .before .before .close .ensures)) in
-    (c .before .if4 .left, lines-more read (c .before .before .before .before .before .before .before .before .before .before .before .before .before .before .before .before .before .before .before .lines-test .taken) (c .before .before .before .before .before .before .before .before .before .before .before .before .before .before .before .before .before .before .find .ensures) judged (c .before .if4 .left))
+    (c .before .if4 .left, lines-more read (c .before .before .before .before .before .before .before .before .before .before .before .before .before .before .before .before .before .before .before .lines-test .taken) (c .before .before .before .before .before .before .before .before .before .before .before .before .before .before .before .before .before .before .find-far .ensures) judged (c .before .if4 .left))
 
 returns : tie.Need-returns Inv-fields μ-fields Inv-lines μ-lines
 returns c = rw (c .before .lines .inv .0) (lines-end (c .before .lines .inv .1) (c .lines-test .left))
@@ -149,7 +149,7 @@ returns c = rw (c .before .lines .inv .0) (lines-end (c .before .lines .inv .1) 
 returns-2 : tie.Need-returns-2 Inv-fields μ-fields Inv-lines μ-lines
 returns-2 c =
     let read = c .before .before .before .before .before .before .before .lines .inv .1 in
-    lines-refused read (c .before .before .before .before .before .before .lines-test .taken) (c .before .before .before .before .before .find .ensures) (judged-opened (read .safe) (c .before .«open» .ensures) (c .if1 .taken)) (c .if1 .taken)
+    lines-refused read (c .before .before .before .before .before .before .lines-test .taken) (c .before .before .before .before .before .find-far .ensures) (judged-opened (read .safe) (c .before .«open» .ensures) (c .if1 .taken)) (c .if1 .taken)
 
 returns-3 : tie.Need-returns-3 Inv-fields μ-fields Inv-lines μ-lines
 returns-3 c =
@@ -157,8 +157,8 @@ returns-3 c =
     let opens = c .before .before .before .before .before .before .before .before .before .before .before .before .before .before .«open» .ensures in
     let fine = c .before .before .before .before .before .before .before .before .before .before .before .before .before .if1 .left in
     let fields = c .before .before .before .before .before .before .before .before .before .before .before .fields .inv .1 in
-    let judged = judged-field (read .safe) opens fine fields (c .before .before .before .before .before .before .before .before .before .before .fields-test .taken) (c .before .before .before .before .before .before .before .before .before .find2 .ensures) (c .before .field .ensures) (c .if3 .taken) in
-    lines-refused read (c .before .before .before .before .before .before .before .before .before .before .before .before .before .before .before .before .before .before .before .lines-test .taken) (c .before .before .before .before .before .before .before .before .before .before .before .before .before .before .before .before .before .before .find .ensures) judged (c .if3 .taken)
+    let judged = judged-field (read .safe) opens fine fields (c .before .before .before .before .before .before .before .before .before .before .fields-test .taken) (c .before .before .before .before .before .before .before .before .before .find-near .ensures) (c .before .field .ensures) (c .if3 .taken) in
+    lines-refused read (c .before .before .before .before .before .before .before .before .before .before .before .before .before .before .before .before .before .before .before .lines-test .taken) (c .before .before .before .before .before .before .before .before .before .before .before .before .before .before .before .before .before .before .find-far .ensures) judged (c .if3 .taken)
 
 returns-4 : tie.Need-returns-4 Inv-fields μ-fields Inv-lines μ-lines
 returns-4 c =
@@ -168,7 +168,7 @@ returns-4 c =
     let fields = c .before .before .before .before .before .before .before .before .before .before .fields .inv .1 in
     let all = fields-all (read .safe) opens fine fields (c .before .before .before .before .before .before .before .before .before .fields-test .left) in
     let judged = judged-whole (read .safe) opens fine (line-closed (read .safe) opens fine fields all (c .before .close .ensures)) in
-    lines-refused read (c .before .before .before .before .before .before .before .before .before .before .before .before .before .before .before .before .before .before .lines-test .taken) (c .before .before .before .before .before .before .before .before .before .before .before .before .before .before .before .before .before .find .ensures) judged (c .if4 .taken)
+    lines-refused read (c .before .before .before .before .before .before .before .before .before .before .before .before .before .before .before .before .before .before .lines-test .taken) (c .before .before .before .before .before .before .before .before .before .before .before .before .before .before .before .before .before .find-far .ensures) judged (c .if4 .taken)
 
 pub load-lines-spec : {M : Type 1} → statement M
 load-lines-spec =
@@ -179,14 +179,14 @@ load-lines-spec =
     Inv-lines
     μ-lines
     lines-holds
-    find-requires
+    find-far-requires
     sub-line
     part-line-start
     part-line-end
     add-number
     open-requires
     fields-holds
-    find-requires-2
+    find-near-requires
     sub-field
     part-field-start
     part-field-end

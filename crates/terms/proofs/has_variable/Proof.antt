@@ -1,11 +1,7 @@
 -- `terms::has_variable` meets its contract: no token before the place is a variable. Assumes nothing.
-use mathlib.Core.Path.{_≡_}
-use mathlib.Core.Logic.{⊎-elim}
 use Prim.Native.Nat.{_+_, _-_}
-use native.Mathlib.Omega.{arith}
 use lib.ListN.{length}
 use borrow.Author.Needs.{needs}
-use Rattle.terms.specs.declared.Token.the-variants.{Variable}
 use Rattle.terms.proofs.TermScans.{Seeking, seeking-none, seeking-found, seeking-more, seeking-all}
 use Rattle.terms.proofs.has_variable.Statement.{statement}
 use Rattle.terms.proofs.has_variable.Tie as tie
@@ -22,17 +18,17 @@ loop-holds c = search (needs, seeking-none)
 find-requires : tie.Need-find-requires Inv-loop μ-loop
 find-requires c κs = search needs
 
-sub-read-token : tie.Need-sub-read-token Inv-loop μ-loop
-sub-read-token c = search needs
+sub-read-variable : tie.Need-sub-read-variable Inv-loop μ-loop
+sub-read-variable c = search needs
 
-part-read-token-start : tie.Need-part-read-token-start Inv-loop μ-loop
-part-read-token-start c = search needs
+part-read-variable-start : tie.Need-part-read-variable-start Inv-loop μ-loop
+part-read-variable-start c = search needs
 
-part-read-token-end : tie.Need-part-read-token-end Inv-loop μ-loop
-part-read-token-end c = search needs
+part-read-variable-end : tie.Need-part-read-variable-end Inv-loop μ-loop
+part-read-variable-end c = search needs
 
-read-token-requires : tie.Need-read-token-requires Inv-loop μ-loop
-read-token-requires c κs = search needs
+read-variable-requires : tie.Need-read-variable-requires Inv-loop μ-loop
+read-variable-requires c κs = search needs
 
 enum-told : tie.Need-enum-told Inv-loop μ-loop
 enum-told c = search needs
@@ -47,9 +43,7 @@ loop-less : tie.Need-loop-less Inv-loop μ-loop
 loop-less c = search needs
 
 loop-again : tie.Need-loop-again Inv-loop μ-loop
-loop-again c =
-    let other : c .before .read-token .result ≡ Variable → ⊥ = λ e. ⊎-elim (λ tag. omega (arith, rw e at tag)) (λ tag. omega (arith, rw e at tag)) (c .match .keys2) in
-    search (needs, seeking-more)
+loop-again c = search (needs, seeking-more)
 
 returns-2 : tie.Need-returns-2 Inv-loop μ-loop
 returns-2 c = search (needs, seeking-all)
@@ -62,10 +56,10 @@ has-variable-spec =
     μ-loop
     loop-holds
     find-requires
-    sub-read-token
-    part-read-token-start
-    part-read-token-end
-    read-token-requires
+    sub-read-variable
+    part-read-variable-start
+    part-read-variable-end
+    read-variable-requires
     enum-told
     returns
     add-from

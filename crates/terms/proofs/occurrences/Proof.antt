@@ -22,17 +22,17 @@ loop-holds c = search (needs, reached-start)
 find-requires : tie.Need-find-requires Inv-loop μ-loop
 find-requires c κs = search needs
 
-sub-read-word : tie.Need-sub-read-word Inv-loop μ-loop
-sub-read-word c = search needs
+sub-read-variable : tie.Need-sub-read-variable Inv-loop μ-loop
+sub-read-variable c = search needs
 
-part-read-word-start : tie.Need-part-read-word-start Inv-loop μ-loop
-part-read-word-start c = search needs
+part-read-variable-start : tie.Need-part-read-variable-start Inv-loop μ-loop
+part-read-variable-start c = search needs
 
-part-read-word-end : tie.Need-part-read-word-end Inv-loop μ-loop
-part-read-word-end c = search needs
+part-read-variable-end : tie.Need-part-read-variable-end Inv-loop μ-loop
+part-read-variable-end c = search needs
 
-read-word-requires : tie.Need-read-word-requires Inv-loop μ-loop
-read-word-requires c κs = search needs
+read-variable-requires : tie.Need-read-variable-requires Inv-loop μ-loop
+read-variable-requires c κs = search needs
 
 enum-known-word : tie.Need-enum-known-word Inv-loop μ-loop
 enum-known-word c = search needs
@@ -61,10 +61,10 @@ occurrences-spec =
     clear-row-requires
     loop-holds
     find-requires
-    sub-read-word
-    part-read-word-start
-    part-read-word-end
-    read-word-requires
+    sub-read-variable
+    part-read-variable-start
+    part-read-variable-end
+    read-variable-requires
     enum-known-word
     count-variable-requires
     add-from

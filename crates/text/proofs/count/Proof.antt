@@ -1,9 +1,8 @@
 -- `text::count` meets its contract: what was found before the place, with the parts from it on, makes the parts. Assumes nothing.
-use mathlib.Core.Logic.{⊎-elim}
 use Prim.Native.Nat.{_-_}
 use lib.ListN.{length}
 use borrow.Author.Needs.{needs}
-use Rattle.text.proofs.Counts.{Counted, counted-none, counted-separator, counted-other, counted-all}
+use Rattle.text.proofs.Counts.{Counted, counted-none, counted-block, counted-all}
 use Rattle.text.proofs.count.Statement.{statement}
 use Rattle.text.proofs.count.Tie as tie
 
@@ -16,20 +15,32 @@ abbrev μ-loop : tie.MeasureT-loop
 loop-holds : tie.Need-loop-holds Inv-loop μ-loop
 loop-holds c = search (needs, counted-none)
 
-shared-slice-read-if1 : tie.Need-shared-slice-read-if1 Inv-loop μ-loop
-shared-slice-read-if1 c = search needs
+block-end-requires : tie.Need-block-end-requires Inv-loop μ-loop
+block-end-requires c κs = search needs
+
+sub-count-few : tie.Need-sub-count-few Inv-loop μ-loop
+sub-count-few c = search needs
+
+part-count-few-start : tie.Need-part-count-few-start Inv-loop μ-loop
+part-count-few-start c = search needs
+
+part-count-few-end : tie.Need-part-count-few-end Inv-loop μ-loop
+part-count-few-end c = search needs
+
+count-few-requires : tie.Need-count-few-requires Inv-loop μ-loop
+count-few-requires c κs = search needs
+
+as-count-requires : tie.Need-as-count-requires Inv-loop μ-loop
+as-count-requires c κs = search needs
 
 add-n : tie.Need-add-n Inv-loop μ-loop
 add-n c = search needs
-
-add-i : tie.Need-add-i Inv-loop μ-loop
-add-i c = search needs
 
 loop-less : tie.Need-loop-less Inv-loop μ-loop
 loop-less c = search needs
 
 loop-again : tie.Need-loop-again Inv-loop μ-loop
-loop-again c = ⊎-elim (λ w. search (needs, counted-separator)) (λ w. search (needs, counted-other)) (c .if1 .came)
+loop-again c = search (needs, counted-block)
 
 returns : tie.Need-returns Inv-loop μ-loop
 returns c = search (needs, counted-all)
@@ -41,9 +52,13 @@ count-spec =
     Inv-loop
     μ-loop
     loop-holds
-    shared-slice-read-if1
+    block-end-requires
+    sub-count-few
+    part-count-few-start
+    part-count-few-end
+    count-few-requires
+    as-count-requires
     add-n
-    add-i
     loop-less
     loop-again
     returns)
