@@ -1,0 +1,26 @@
+//! The project's static library as C sees it: three functions, each with an answer of one 64-bit word.
+
+#[link(name = "cerrundix", kind = "static")]
+extern "C" {
+    #[link_name = "check"]
+    fn library_check(text: *const u8, text_length: usize, area: *mut i64, area_length: usize) -> u64;
+    #[link_name = "reserve"]
+    fn library_reserve(text: *const u8, text_length: usize, query: *const u8, query_length: usize) -> u64;
+    #[link_name = "measure"]
+    fn library_measure(term: *const u8, term_length: usize) -> u64;
+}
+
+pub fn check(text: &[u8], area: &mut [i64]) -> u64 {
+    // Safe: each pointer comes with the length of the memory lent behind it, for the time of the call only.
+    unsafe { library_check(text.as_ptr(), text.len(), area.as_mut_ptr(), area.len()) }
+}
+
+pub fn reserve(text: &[u8], query: &[u8]) -> u64 {
+    // Safe: as above.
+    unsafe { library_reserve(text.as_ptr(), text.len(), query.as_ptr(), query.len()) }
+}
+
+pub fn measure(term: &[u8]) -> u64 {
+    // Safe: as above.
+    unsafe { library_measure(term.as_ptr(), term.len()) }
+}

@@ -1,0 +1,140 @@
+//! Packs at document 01's limits: one below, at and one above.
+
+use crate::damage::edited_fields;
+use crate::generate::text::{heads_of_size, text_of};
+use crate::generate::{term_of_length, Declared, Pack};
+use crate::random::Random;
+
+/// A pack of which one count stands one below, at or one above its limit. In some of them the line that comes to the
+/// limit has other faults too, which have lower numbers.
+pub fn pack_at_a_limit(random: &mut Random) -> Pack {
+    let step = random.below(3);
+    let (letter, mut lines) = match random.below(12) {
+        0 => ('P', at_predicates(31 + step)),
+        1 => ('C', at_claims(15 + step)),
+        2 => ('H', at_rules(63 + step)),
+        3 => ('B', at_subgoals(7 + step)),
+        4 => ('B', at_variables(random, 15 + step)),
+        5 => ('H', at_line_bytes(1_023 + step)),
+        6 => ('M', at_multiplier(["9998", "9999", "10000"][step])),
+        7 => ('C', at_claim_number(random.pick(&["9999", "-9999", "10000", "-10000", "-0"]))),
+        8 => ('H', at_name_bytes(random, 15 + step)),
+        9 => ('H', at_lines(63 + step)),
+        10 => ('M', at_residual(random)),
+        _ => ('H', at_text_bytes(32_767 + step)),
+    };
+    if random.chance(40) {
+        edit_last_of(random, &mut lines, letter);
+    }
+    let declared = ["k", "k1"].map(|name| Declared { name: name.to_string(), arity: 1, bounded: vec![1] }).into();
+    Pack { text: text_of(&lines), declared }
+}
+
+/// Changes one or two fields of the last line with this letter.
+fn edit_last_of(random: &mut Random, lines: &mut [String], letter: char) {
+    if let Some(line) = lines.iter_mut().rev().find(|line| line.starts_with(letter)) {
+        for _ in 0..1 + random.below(2) {
+            *line = String::from_utf8_lossy(&edited_fields(random, line.as_bytes())).into_owned();
+        }
+    }
+}
+
+fn lines_from(start: &[&str], repeated: impl Iterator<Item = String>, end: &[&str]) -> Vec<String> {
+    let own = |lines: &[&str]| lines.iter().map(|line| line.to_string()).collect::<Vec<String>>();
+    own(start).into_iter().chain(repeated).chain(own(end)).collect()
+}
+
+fn at_predicates(count: usize) -> Vec<String> {
+    lines_from(&[], (1..=count).map(|number| format!("P,k{number},1,G")), &["C,k1,7,-2", "E"])
+}
+
+fn at_claims(count: usize) -> Vec<String> {
+    let claims = (1..=count).map(|number| format!("C,k,{},-{number}", 70 - 3 * number));
+    lines_from(&["P,k,1,G", "P,k1,1,R", "C,k1,1,1"], claims, &["H,k1,a/0", "M", "E"])
+}
+
+fn at_rules(count: usize) -> Vec<String> {
+    lines_from(&["P,k,1,R"], (1..=count).map(|_| "H,k,X".to_string()), &["E"])
+}
+
+fn at_subgoals(count: usize) -> Vec<String> {
+    let subgoals = (1..=count).map(|number| format!("B,k1,V{number}"));
+    let multipliers = "M".to_string() + &",0".repeat(count);
+    lines_from(&["P,k,1,R", "P,k1,1,G", "C,k,0,1", "C,k1,0,1", "H,k,X"], subgoals, &[&multipliers, "E"])
+}
+
+/// About as many lines as a pack can have: 16 claims on each of 32 predicates, rules of 8 subgoals and 16 `M` lines.
+fn at_lines(rules: usize) -> Vec<String> {
+    let mut lines: Vec<String> = (1..=31).map(|number| format!("P,k{number},0,R")).collect();
+    lines.push("P,k,0,G".to_string());
+    lines.extend((0..16 * 31).map(|number| format!("C,k{},{number}", 1 + number % 31)));
+    for rule in 0..rules {
+        lines.push(format!("H,k{}", 1 + rule % 31));
+        lines.extend((0..8).map(|_| "B,k".to_string()));
+        lines.extend((0..16).map(|_| "M".to_string()));
+    }
+    lines.push("E".to_string());
+    lines
+}
+
+/// The variables stand in the head and in one subgoal, and may be repeated there.
+fn at_variables(random: &mut Random, count: usize) -> Vec<String> {
+    let in_head = random.below(10);
+    let names: Vec<String> = (0..count).map(|index| format!("V{index}")).collect();
+    let head = format!("H,k,f/{in_head} {}", names[..in_head].join(" ")).trim_end().to_string();
+    let mut rest = names[in_head..].to_vec();
+    if random.chance(50) {
+        rest.push(names[0].clone());
+    }
+    let first = format!("B,k1,f/9 {}", padded(&rest, 0, 9).join(" "));
+    let second = format!("B,k1,f/9 {}", padded(&rest, 9, 18).join(" "));
+    lines_from(&["P,k,1,R", "P,k1,1,G", "C,k,0,1", &head, &first, &second], [].into_iter(), &["M", "E"])
+}
+
+/// Sixteen variables, of which one has a coefficient of -1, 0 or 1 in the residual and the others 1.
+fn at_residual(random: &mut Random) -> Vec<String> {
+    let mut names: Vec<String> = (0..16).map(|index| format!("V{index}")).collect();
+    random.shuffle(&mut names);
+    let head = format!("H,k,f/8 {} g/9 {}", names[..7].join(" "), padded(&names, 7, 16).join(" "));
+    let chosen = if random.chance(50) { 15 } else { random.below(16) };
+    let subgoal = format!("B,k1,{}", names[chosen]);
+    let multiplier = format!("M,{}", random.below(3));
+    lines_from(&["P,k,1,R", "P,k1,1,G", "C,k,0,1", "C,k1,0,1", &head, &subgoal, &multiplier], [].into_iter(), &["E"])
+}
+
+/// The names from one place to another, with constants where there are no more.
+fn padded(names: &[String], from: usize, to: usize) -> Vec<String> {
+    (from..to).map(|index| names.get(index).cloned().unwrap_or("a/0".to_string())).collect()
+}
+
+fn at_line_bytes(bytes: usize) -> Vec<String> {
+    let head = format!("H,k,{}", term_of_length(bytes - 4));
+    lines_from(&["P,k,1,R", "C,k,0,1", &head], [].into_iter(), &["M", "E"])
+}
+
+fn at_multiplier(number: &str) -> Vec<String> {
+    let multiplier = format!("M,{number}");
+    lines_from(&["P,k,1,R", "P,k1,1,G", "C,k,9999,1", "C,k1,1,-1", "H,k,X", "B,k1,X"], [multiplier].into_iter(), &["E"])
+}
+
+fn at_claim_number(number: &str) -> Vec<String> {
+    let claim = format!("C,k,{number},-1");
+    lines_from(&["P,k,1,G", "P,k1,1,R", "C,k1,1,1"], [claim].into_iter(), &["H,k1,X", "B,k,X", "M,0", "E"])
+}
+
+/// A name of so many bytes as predicate, as symbol or as variable.
+fn at_name_bytes(random: &mut Random, bytes: usize) -> Vec<String> {
+    let (name, variable) = ("k".repeat(bytes), "K".repeat(bytes));
+    let start = ["P,k,1,R", "P,k1,1,R"];
+    match random.below(3) {
+        0 => lines_from(&start, [format!("P,{name},1,R"), format!("H,{name},X")].into_iter(), &["E"]),
+        1 => lines_from(&start, [format!("H,k,{name}/1 X")].into_iter(), &["E"]),
+        _ => lines_from(&start, [format!("H,k,{variable}")].into_iter(), &["E"]),
+    }
+}
+
+fn at_text_bytes(bytes: usize) -> Vec<String> {
+    let start = ["P,k,1,R", "P,k1,1,G", "C,k1,7,-2"];
+    let taken: usize = start.iter().chain(&["E"]).map(|line| line.len() + 1).sum();
+    lines_from(&start, heads_of_size("k", bytes - taken).into_iter(), &["E"])
+}

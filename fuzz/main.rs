@@ -1,0 +1,256 @@
+//! The fuzz test: asks the project's static library and the plain implementation of document 01 the same questions
+//! about packs made at random, and fails if two answers differ or if some kind of answer never occurred.
+
+mod damage;
+mod generate;
+mod library;
+mod limits;
+mod plain;
+mod question;
+mod random;
+
+use generate::{Model, Pack, Plan};
+use question::{Answer, Call, Question};
+use random::Random;
+use std::collections::BTreeMap;
+use std::process::exit;
+use std::sync::atomic::{AtomicU64, Ordering};
+use std::time::Instant;
+
+const DEFAULT_PACKS: u64 = 200_000;
+const DEFAULT_SEED: u64 = 20_260_101;
+const SHOWN_DIFFERENCES: u64 = 5;
+
+/// The pack in work, so that a panic can name it.
+static CURRENT_PACK: AtomicU64 = AtomicU64::new(0);
+
+/// What has been counted in a run.
+#[derive(Default)]
+struct Tally {
+    /// How often each kind of answer occurred, under names as `check 13` or `reserve B`.
+    answers: BTreeMap<String, u64>,
+    bytes: u64,
+    differences: u64,
+}
+
+fn main() {
+    let arguments: Vec<String> = std::env::args().skip(1).collect();
+    let packs = number_argument(&arguments, 0, DEFAULT_PACKS);
+    let seed = number_argument(&arguments, 1, DEFAULT_SEED);
+    let first = number_argument(&arguments, 2, 0);
+    println!("fuzz: {packs} packs from seed {seed}, the first is number {first}");
+    name_the_pack_in_panics();
+    let start = Instant::now();
+    let mut tally = Tally::default();
+    for number in first..first + packs {
+        CURRENT_PACK.store(number, Ordering::Relaxed);
+        ask_about_pack(&mut Random::for_pack(seed, number), number, &mut tally);
+    }
+    let missing = report(&tally, start);
+    if tally.differences > 0 || missing {
+        println!("FAILED: {packs} packs, {} differences", tally.differences);
+        exit(1);
+    }
+    println!("ok: {packs} packs, 0 differences");
+}
+
+fn number_argument(arguments: &[String], place: usize, otherwise: u64) -> u64 {
+    match arguments.get(place).map(|argument| argument.parse()) {
+        None => otherwise,
+        Some(Ok(number)) => number,
+        Some(Err(_)) => {
+            println!("usage: fuzz [packs [seed [number of the first pack]]]");
+            exit(2)
+        }
+    }
+}
+
+/// The plain implementation panics when a form leaves the signed 64-bit range.
+fn name_the_pack_in_panics() {
+    let usual = std::panic::take_hook();
+    std::panic::set_hook(Box::new(move |information| {
+        println!("FAILED: a panic at pack number {}", CURRENT_PACK.load(Ordering::Relaxed));
+        usual(information);
+    }));
+}
+
+// ---------------------------------------------------------------------------------------------------------------
+// Making the questions.
+
+/// A pack: half of them as they were made, the others with changes to fields, lines or bytes.
+fn make_pack(random: &mut Random) -> Pack {
+    let mut pack = match random.below(1_000) {
+        0..=79 => limits::pack_at_a_limit(random),
+        80..=83 => made_pack(random, Plan::large),
+        84 => made_pack(random, Plan::heavy),
+        85 => full_pack(random),
+        _ => made_pack(random, Plan::small),
+    };
+    pack.text = match random.below(100) {
+        0..=49 => pack.text,
+        50..=84 => damage::edited_lines(random, &pack.text),
+        _ => damage::damaged_bytes(random, &pack.text),
+    };
+    pack
+}
+
+fn made_pack(random: &mut Random, plan: fn(&mut Random) -> Plan) -> Pack {
+    let plan = plan(random);
+    let justified = random.chance(85);
+    Model::make(random, &plan, justified).pack()
+}
+
+/// A large pack with its text at the limit, one byte less or one more.
+fn full_pack(random: &mut Random) -> Pack {
+    let plan = Plan::full(8 + random.below(10));
+    let mut model = Model::make(random, &plan, true);
+    let pack = model.pack();
+    let bytes = 32_767 + random.below(3);
+    match model.text_of_size(bytes) {
+        Some(text) => Pack { text, ..pack },
+        None => pack,
+    }
+}
+
+fn make_area(random: &mut Random) -> Vec<i64> {
+    let length = match random.below(100) {
+        0 => 0,
+        1..=2 => 16,
+        3..=50 => 17,
+        51..=75 => 18,
+        _ => 19,
+    };
+    (0..length).map(|_| random.next() as i64).collect()
+}
+
+fn make_query(random: &mut Random, pack: &Pack) -> Vec<u8> {
+    let query = generate::query(random, &pack.declared);
+    match random.below(100) {
+        0..=69 => query,
+        70..=89 => damage::edited_fields(random, &query),
+        90..=97 => damage::damaged_bytes(random, &query),
+        _ => [query, vec![b'1'; 1_000 + random.below(40)]].concat(),
+    }
+}
+
+fn make_term(random: &mut Random) -> Vec<u8> {
+    let term = generate::measured_term(random);
+    if random.chance(70) {
+        term
+    } else {
+        damage::damaged_bytes(random, &term)
+    }
+}
+
+// ---------------------------------------------------------------------------------------------------------------
+// Asking.
+
+fn ask_about_pack(random: &mut Random, number: u64, tally: &mut Tally) {
+    let pack = make_pack(random);
+    tally.bytes += pack.text.len() as u64;
+    let guard = random.pick(b"09aAM,/ -\n\x00\xFF");
+    let (area, query) = (make_area(random), Vec::new());
+    let check = Question { call: Call::Check, text: pack.text.clone(), area, query, guard };
+    let answer = compare(&check, number, tally);
+    tally.count(format!("check {}", answer.word & 255));
+
+    let accepted = answer.word & 255 == 0;
+    for _ in 0..if accepted { 4 } else { 1 } {
+        let query = make_query(random, &pack);
+        let reserve = Question { call: Call::Reserve, area: Vec::new(), query, ..check.clone() };
+        let answer = compare(&reserve, number, tally);
+        tally.count(name_of_reservation(answer.word, accepted));
+    }
+    for _ in 0..2 {
+        let text = make_term(random);
+        let measure = Question { call: Call::Measure, text, area: Vec::new(), query: Vec::new(), guard };
+        let answer = compare(&measure, number, tally);
+        tally.count(format!("measure {}", answer.word & 255));
+    }
+}
+
+/// A refusal of an accepted pack's query is named by its number.
+fn name_of_reservation(word: u64, accepted: bool) -> String {
+    match (word & 255) as u8 {
+        b'R' if accepted => format!("reserve R {}", word >> 16),
+        b'R' => "reserve R (pack)".to_string(),
+        letter => format!("reserve {}", letter as char),
+    }
+}
+
+/// Asks both and returns the library's answer; a difference is counted, and shown if it is among the first.
+fn compare(question: &Question, number: u64, tally: &mut Tally) -> Answer {
+    let answer = question.ask_library();
+    if answer != question.ask_plain() {
+        tally.differences += 1;
+        if tally.differences <= SHOWN_DIFFERENCES {
+            show_difference(&question.reduced(), number);
+        }
+    }
+    answer
+}
+
+// ---------------------------------------------------------------------------------------------------------------
+// Reporting.
+
+impl Tally {
+    fn count(&mut self, name: String) {
+        *self.answers.entry(name).or_default() += 1;
+    }
+}
+
+fn show_difference(question: &Question, number: u64) {
+    println!("DIFFERENCE in {:?} at pack number {number} (reduced):", question.call);
+    println!("  text  {}", hexadecimal(&question.text));
+    if question.call == Call::Reserve {
+        println!("  query {}", hexadecimal(&question.query));
+    }
+    show_answer("library", question.call, &question.ask_library());
+    show_answer("plain", question.call, &question.ask_plain());
+}
+
+fn show_answer(side: &str, call: Call, answer: &Answer) {
+    let word = answer.word;
+    match call {
+        Call::Check => println!(
+            "  {side}: {},{},{},{}, area {:?}",
+            word & 0xFF,
+            word >> 8 & 0xFFFF,
+            word >> 24 & 0xFF,
+            word >> 32,
+            answer.area
+        ),
+        Call::Reserve => println!("  {side}: {},{},{}", (word as u8) as char, word >> 16, word >> 8 & 0xFF),
+        Call::Measure => println!("  {side}: refusal {}, size {}", word & 0xFF, word >> 8),
+    }
+    if !answer.rest_is_unchanged {
+        println!("  {side}: wrote to memory that it may not change");
+    }
+}
+
+fn hexadecimal(bytes: &[u8]) -> String {
+    bytes.iter().map(|byte| format!("{byte:02x}")).collect()
+}
+
+/// All answers that a run must have met.
+fn needed_answers() -> Vec<String> {
+    let check = (0..=13).map(|number| format!("check {number}"));
+    let letters = ["B", "N", "I"].iter().map(|letter| format!("reserve {letter}"));
+    let refusals = [4, 14, 15, 16, 17, 18].iter().map(|number| format!("reserve R {number}"));
+    let measure = [0, 4, 11, 19].iter().map(|number| format!("measure {number}"));
+    check.chain(letters).chain(refusals).chain(measure).collect()
+}
+
+/// Prints how often each answer occurred; true if one that must occur did not.
+fn report(tally: &Tally, start: Instant) -> bool {
+    let mut names: Vec<&String> = tally.answers.keys().collect();
+    names.sort_by_key(|name| (name.split(' ').next(), name.len(), name.to_string()));
+    let counts: Vec<String> = names.iter().map(|name| format!("{name}: {}", tally.answers[*name])).collect();
+    println!("{}", counts.join(", "));
+    println!("{} bytes of packs, {:.1} seconds", tally.bytes, start.elapsed().as_secs_f64());
+    let missing: Vec<String> = needed_answers().into_iter().filter(|name| !tally.answers.contains_key(name)).collect();
+    for name in &missing {
+        println!("FAILED: never met: {name}");
+    }
+    !missing.is_empty()
+}

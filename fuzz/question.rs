@@ -1,0 +1,131 @@
+//! One question to a call, asked of the library and of the plain implementation.
+
+use crate::{library, plain};
+
+#[derive(Clone, Copy, PartialEq, Debug)]
+pub enum Call {
+    Check,
+    Reserve,
+    Measure,
+}
+
+#[derive(Clone)]
+pub struct Question {
+    pub call: Call,
+    /// The pack, or the term for `measure`.
+    pub text: Vec<u8>,
+    /// The area at entry, for `check`.
+    pub area: Vec<i64>,
+    /// For `reserve`.
+    pub query: Vec<u8>,
+    /// The byte that stands before and behind the lent texts, many times: the answer must not depend on it.
+    pub guard: u8,
+}
+
+#[derive(Clone, PartialEq)]
+pub struct Answer {
+    pub word: u64,
+    /// The area at exit.
+    pub area: Vec<i64>,
+    /// Whether all memory but the area has stayed as it was.
+    pub rest_is_unchanged: bool,
+}
+
+const GUARDS: usize = 16;
+const GUARD_NUMBER: i64 = 0x5AFE_5AFE_5AFE_5AFE;
+
+/// What is lent, with guards on both sides.
+struct Lent<T> {
+    memory: Vec<T>,
+    at_entry: Vec<T>,
+}
+
+impl<T: Copy + PartialEq> Lent<T> {
+    fn new(things: &[T], guard: T) -> Lent<T> {
+        let guards = [guard; GUARDS];
+        let memory = [&guards, things, &guards].concat();
+        Lent { at_entry: memory.clone(), memory }
+    }
+
+    fn inner(&self) -> &[T] {
+        &self.memory[GUARDS..self.memory.len() - GUARDS]
+    }
+
+    fn inner_mut(&mut self) -> &mut [T] {
+        let end = self.memory.len() - GUARDS;
+        &mut self.memory[GUARDS..end]
+    }
+
+    fn is_unchanged(&self) -> bool {
+        self.memory == self.at_entry
+    }
+
+    fn guards_are_unchanged(&self) -> bool {
+        let end = self.memory.len() - GUARDS;
+        self.memory[..GUARDS] == self.at_entry[..GUARDS] && self.memory[end..] == self.at_entry[end..]
+    }
+}
+
+impl Question {
+    pub fn ask_library(&self) -> Answer {
+        let text = Lent::new(&self.text, self.guard);
+        let query = Lent::new(&self.query, self.guard);
+        let mut area = Lent::new(&self.area, GUARD_NUMBER);
+        let word = match self.call {
+            Call::Check => library::check(text.inner(), area.inner_mut()),
+            Call::Reserve => library::reserve(text.inner(), query.inner()),
+            Call::Measure => library::measure(text.inner()),
+        };
+        let rest_is_unchanged = text.is_unchanged() && query.is_unchanged() && area.guards_are_unchanged();
+        Answer { word, area: area.inner().to_vec(), rest_is_unchanged }
+    }
+
+    pub fn ask_plain(&self) -> Answer {
+        let mut area = self.area.clone();
+        let word = match self.call {
+            Call::Check => plain::word_of_check(plain::check(&self.text, &mut area)),
+            Call::Reserve => plain::word_of_reserve(plain::reserve(&self.text, &self.query)),
+            Call::Measure => plain::word_of_measure(plain::measure(&self.text)),
+        };
+        Answer { word, area, rest_is_unchanged: true }
+    }
+
+    fn has_two_answers(&self) -> bool {
+        self.ask_library() != self.ask_plain()
+    }
+
+    /// The question with lines left out that the difference does not need: runs of many lines first, since the lines of
+    /// a rule belong together, at last single ones.
+    pub fn reduced(&self) -> Question {
+        let mut smallest = self.clone();
+        for run in [512, 128, 32].into_iter().chain((1..=24).rev()) {
+            smallest = smallest.without_runs(run);
+        }
+        smallest
+    }
+
+    /// Leaves out every run of so many lines that can be missed.
+    fn without_runs(self, run: usize) -> Question {
+        let mut smallest = self;
+        let mut line = 0;
+        while let Some(text) = without_lines(&smallest.text, line, run) {
+            let shorter = Question { text, ..smallest.clone() };
+            if shorter.has_two_answers() {
+                smallest = shorter;
+            } else {
+                line += 1;
+            }
+        }
+        smallest
+    }
+}
+
+/// The text without so many lines from this one on, counted from 0; nothing if there are not as many.
+fn without_lines(text: &[u8], first: usize, count: usize) -> Option<Vec<u8>> {
+    let mut lines: Vec<&[u8]> = text.split_inclusive(|byte| *byte == 10).collect();
+    if first + count > lines.len() {
+        return None;
+    }
+    lines.drain(first..first + count);
+    Some(lines.concat())
+}
