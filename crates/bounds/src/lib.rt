@@ -10,12 +10,6 @@ ghost use Rattle.bounds.specs.Bounds.{share, blocked, Weighs, Uses, bett
 use theory::Bound;
 use theory::Reservation;
 
-fn long(x: i16) -> i64
-    ensures { λ r. ⌜ r ≡ x ⌝ }
-{
-    x as i64
-}
-
 fn is_negative(z: i64) -> bool
     ensures { λ r. ⌜ r ≡ ltZ z (pos 0) ⌝ }
 {
@@ -28,25 +22,12 @@ fn is_positive(z: i64) -> bool
     0 < z
 }
 
-fn signed(n: u32) -> i64
-    ensures { λ r. ⌜ r ≡ pos n ⌝ }
-{
-    n as i64
-}
-
 /// A number that is not below 0.
 fn natural(z: i64) -> u64
     requires { ⌜ ltZ z (pos 0) ≡ false ⌝ }
     ensures { λ r. ⌜ r ≡ natAbs z ⌝ }
 {
     z as u64
-}
-
-fn byte(n: usize) -> u8
-    requires { ⌜ n < 256 ⌝ }
-    ensures { λ r. ⌜ r ≡ n ⌝ }
-{
-    n as u8
 }
 
 /// Whether a claim's number for an argument rules the claim out: the size is unknown and the number above 0.
@@ -68,7 +49,7 @@ fn share_of(number: i64, size: u32) -> i64
     if size == 65536 {
         return 0;
     }
-    number * signed(size)
+    number * widths::signed(size)
 }
 
 /// A claim's numerator, and whether an unknown argument rules the claim out.
@@ -81,10 +62,10 @@ fn weigh(claims: &[i16; 4608], place: usize, arity: usize, sizes: &[u32; 8]) -> 
     requires { ⌜ (place + 9 ≤ 4608) × (arity ≤ 8) × (SafeClaims (now claims)) × (SafeSizes (now sizes)) ⌝ }
     ensures { λ r. ⌜ Weighs (now (claims .entry)) place arity (now (sizes .entry)) r ⌝ }
 {
-    let mut numerator = long(claims[place]);
+    let mut numerator = widths::long(claims[place]);
     let mut k: usize = 0;
     while k < arity {
-        let number = long(claims[place + 1 + k]);
+        let number = widths::long(claims[place + 1 + k]);
         let size = sizes[k];
         if is_blocked(number, size) {
             return Weighed {
@@ -128,7 +109,7 @@ fn use_claim(
     requires { ⌜ (place + 9 ≤ 4608) × (arity ≤ 8) × (asked < 8) × (SafeClaims (now claims)) × (SafeSizes (now sizes)) ⌝ }
     ensures { λ r. ⌜ Uses (now (claims .entry)) place arity asked (now (sizes .entry)) r ⌝ }
 {
-    let number = long(claims[place + 1 + asked]);
+    let number = widths::long(claims[place + 1 + asked]);
     if !is_negative(number) {
         return unusable();
     }
@@ -189,9 +170,9 @@ pub fn reserve_by(
     while i < count {
         let u = use_claim(claims, (predicate * 16 + i) * 9, arity, asked, sizes);
         if u.impossible {
-            return Reservation::Impossible(byte(i + 1));
+            return Reservation::Impossible(widths::byte(i + 1));
         }
-        best = better(best, u, byte(i + 1));
+        best = better(best, u, widths::byte(i + 1));
         i += 1;
     }
     if best.claim == 0 {

@@ -9,12 +9,6 @@ use tables::Closed;
 use tables::Opened;
 use tables::State;
 
-fn wide(x: u8) -> usize
-    ensures { λ r. ⌜ r ≡ x ⌝ }
-{
-    x as usize
-}
-
 fn close_p(
     o: Opened,
     state: State,
@@ -72,8 +66,8 @@ fn close_c(
     if 16 <= count {
         return Closed { fault: 12, state };
     }
-    let at = (p * 16 + wide(count)) * 9;
-    let arity = wide(facts[p]);
+    let at = (p * 16 + widths::wide(count)) * 9;
+    let arity = widths::wide(facts[p]);
     lay(claims, at, row, arity);
     facts[64 + p] = count + 1;
     let mut next = state;
@@ -107,13 +101,6 @@ fn close_h(o: Opened, state: State, many: usize) -> Closed
     }
 }
 
-fn slot(n: usize) -> u16
-    requires { ⌜ n < 65536 ⌝ }
-    ensures { λ r. ⌜ r ≡ n ⌝ }
-{
-    n as u16
-}
-
 /// Adds a slot for each claim on a subgoal's predicate.
 fn add_slots(slots: &mut [u16; 256], from: usize, predicate: usize, count: usize, subgoal: usize)
     requires { ⌜ (from + count ≤ 128) × (predicate < 32) × (count ≤ 16) × (subgoal < 8) × (length (now slots) ≡ 256) ⌝ }
@@ -121,8 +108,8 @@ fn add_slots(slots: &mut [u16; 256], from: usize, predicate: usize, count: usize
 {
     let mut j: usize = 0;
     while j < count {
-        slots[from + j] = slot((predicate * 16 + j) * 9);
-        slots[128 + from + j] = slot(subgoal);
+        slots[from + j] = widths::short((predicate * 16 + j) * 9);
+        slots[128 + from + j] = widths::short(subgoal);
         j += 1;
     }
 }
@@ -140,7 +127,7 @@ fn close_b(o: Opened, state: State, many: usize, facts: &[u8; 96], slots: &mut [
     }
     let p = o.predicate;
     let from = state.slots;
-    let count = wide(facts[64 + p]);
+    let count = widths::wide(facts[64 + p]);
     add_slots(slots, from, p, count, subgoal);
     let mut next = state;
     next.subgoals = subgoal + 1;

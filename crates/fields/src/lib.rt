@@ -121,13 +121,6 @@ fn place_at(x: u16) -> usize
     x as usize
 }
 
-fn multiplier(m: u32) -> i64
-    requires { ⌜ m ≤ 9999 ⌝ }
-    ensures { λ r. ⌜ r ≡ pos m ⌝ }
-{
-    m as i64
-}
-
 fn field_m(
     index: usize,
     field: &[u8],
@@ -147,7 +140,7 @@ fn field_m(
             }
             let place = place_at(slots[index]);
             let subgoal = place_at(slots[128 + index]);
-            residuals::weigh(multiplier(m), place, subgoal + 1, claims, numbers);
+            residuals::weigh(widths::signed(m), place, subgoal + 1, claims, numbers);
             fault_of(0, variables)
         }
         Natural::NoNatural => fault_of(10, variables),

@@ -8,12 +8,6 @@ use tables::Opened;
 use tables::State;
 use text::Word;
 
-fn wide(x: u8) -> usize
-    ensures { λ r. ⌜ r ≡ x ⌝ }
-{
-    x as usize
-}
-
 fn refused(fault: u8) -> Opened
     ensures { λ r. ⌜ (r .fault ≡ fault) × (r .predicate ≡ 0) × (r .letter ≡ 0) ⌝ }
 {
@@ -36,7 +30,7 @@ fn is_complete(state: State, facts: &[u8; 96]) -> bool
     if state.rules == 0 {
         return true;
     }
-    wide(facts[64 + head]) <= state.multipliers
+    widths::wide(facts[64 + head]) <= state.multipliers
 }
 
 /// Whether a line of this letter may stand at this point.
@@ -154,7 +148,7 @@ fn open_c(letter: u8, line: &[u8], state: State, names: &[u64; 64], facts: &[u8;
     if known <= p {
         return refused(8);
     }
-    if text::count(line, 44) != wide(facts[p]) + 2 {
+    if text::count(line, 44) != widths::wide(facts[p]) + 2 {
         return refused(9);
     }
     Opened {
@@ -183,7 +177,7 @@ fn open_h(letter: u8, line: &[u8], state: State, names: &[u64; 64], facts: &[u8;
     if facts[32 + p] != 0 {
         return refused(8);
     }
-    if text::count(line, 44) != wide(facts[p]) + 1 {
+    if text::count(line, 44) != widths::wide(facts[p]) + 1 {
         return refused(9);
     }
     Opened {
@@ -209,7 +203,7 @@ fn open_b(letter: u8, line: &[u8], state: State, names: &[u64; 64], facts: &[u8;
     if known <= p {
         return refused(8);
     }
-    if text::count(line, 44) != wide(facts[p]) + 1 {
+    if text::count(line, 44) != widths::wide(facts[p]) + 1 {
         return refused(9);
     }
     Opened {

@@ -124,20 +124,6 @@ fn start() -> State
     }
 }
 
-fn short(n: usize) -> u16
-    requires { ⌜ n < 65536 ⌝ }
-    ensures { λ r. ⌜ r ≡ n ⌝ }
-{
-    n as u16
-}
-
-fn byte(n: usize) -> u8
-    requires { ⌜ n < 256 ⌝ }
-    ensures { λ r. ⌜ r ≡ n ⌝ }
-{
-    n as u8
-}
-
 /// The refusal of a line by its fault's number.
 fn refusal(fault: u8, line: u16, rule: u8, claim: u8) -> Refusal
     ensures { λ r. ⌜ Refuses fault line rule claim r ⌝ }
@@ -221,14 +207,14 @@ pub fn load(
     );
     let fault = l.fault;
     let state = l.state;
-    let line = short(l.line);
+    let line = widths::short(l.line);
     if fault == 13 {
         return Loaded {
             verdict: Verdict::Refused(refusal(
                 fault,
                 line,
-                byte(state.rules),
-                byte(state.multipliers + 1),
+                widths::byte(state.rules),
+                widths::byte(state.multipliers + 1),
             )),
             unjustified: true,
             state,
@@ -243,8 +229,8 @@ pub fn load(
     Loaded {
         verdict: Verdict::Accepted(Counts {
             lines: line,
-            rules: byte(state.rules),
-            multiplier_lines: short(state.multiplier_lines),
+            rules: widths::byte(state.rules),
+            multiplier_lines: widths::short(state.multiplier_lines),
         }),
         unjustified: false,
         state,

@@ -21,22 +21,10 @@ pub struct Asked {
     pub asked: usize,
 }
 
-fn wide(x: u8) -> usize
-    ensures { λ r. ⌜ r ≡ x ⌝ }
-{
-    x as usize
-}
-
 fn limit_of(x: u8) -> u32
     ensures { λ r. ⌜ r ≡ x ⌝ }
 {
     x as u32
-}
-
-fn place_of(x: u32) -> usize
-    ensures { λ r. ⌜ r ≡ x ⌝ }
-{
-    x as usize
 }
 
 fn refused(fault: u8) -> Asked
@@ -94,7 +82,7 @@ fn read_asked(field: &[u8], arity: u8) -> usize
 {
     let asked = text::read_natural(field, limit_of(arity));
     match asked {
-        Natural::Whole(n) => place_of(n),
+        Natural::Whole(n) => widths::place_of(n),
         Natural::NoNatural => 0,
     }
 }
@@ -132,7 +120,7 @@ pub fn open_query(
         return refused(14);
     }
     let arity = facts[place];
-    if text::count(query, 44) != wide(arity) + 1 {
+    if text::count(query, 44) != widths::wide(arity) + 1 {
         return refused(15);
     }
     let from = stop + 1;
@@ -150,7 +138,7 @@ pub fn open_query(
     Asked {
         fault: 0,
         predicate: place,
-        arity: wide(arity),
+        arity: widths::wide(arity),
         asked: asked - 1,
     }
 }

@@ -9,12 +9,6 @@ use theory::QueryRefusal;
 use theory::Reservation;
 use theory::Verdict;
 
-fn wide(x: u8) -> usize
-    ensures { λ r. ⌜ r ≡ x ⌝ }
-{
-    x as usize
-}
-
 /// The refusal of a query by its fault's number.
 fn query_refusal(fault: u8) -> QueryRefusal
     ensures { λ r. ⌜ RefusesQuery fault r ⌝ }
@@ -46,7 +40,7 @@ pub fn answer(
         return Reservation::QueryRefused(query_refusal(q.fault));
     }
     let predicate = q.predicate;
-    let count = wide(facts[64 + predicate]);
+    let count = widths::wide(facts[64 + predicate]);
     bounds::reserve_by(claims, predicate, count, q.arity, q.asked, &sizes)
 }
 

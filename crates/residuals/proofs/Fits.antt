@@ -1,12 +1,10 @@
 -- Numbers that the code keeps as 64 bits and reads as they were.
-use mathlib.Core.Path.{_≡_, _∙_}
+use mathlib.Core.Path.{_≡_}
 use mathlib.Core.List.{[]}
 use Prim.Native.Nat.{_^_, _<_}
 use native.Mathlib.Omega.{arith}
 use lib.IntN.{ℤ, natAbs, _+ℤ_}
-use mir.Facts.{toZ-ofZ, sfits-widen}
-use mir.Syntax.{w16}
-use mir.Val.{SFits, toZ, ofZ}
+use mir.Facts.{toZ-ofZ}
 use Rattle.integers.proofs.Magnitude.{mag-le-natAbs}
 use Rattle.forms.specs.Sums.{Within}
 use Rattle.forms.specs.declared.Form.{Form}
@@ -14,10 +12,6 @@ use Rattle.forms.proofs.Results.{kept, Exact, constants-add}
 
 pub small-kept : (z : ℤ) → natAbs z < 2 ^ 63 → kept z ≡ z
 small-kept z small = toZ-ofZ (record { sfits = omega (arith, mag-le-natAbs z) })
-
--- a number of 16 bits that was read and made 64 bits wide
-pub widened : (x r : ℤ) → SFits w16 x → r ≡ toZ w16 (ofZ w16 x) → kept r ≡ x
-widened x r fits e = let same : r ≡ x = e ∙ toZ-ofZ fits in rw same (toZ-ofZ (sfits-widen tt fits))
 
 -- ---- sums
 

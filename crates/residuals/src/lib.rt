@@ -9,12 +9,6 @@ ghost use Rattle.tables.specs.Tables.{SafeClaims};
 ghost use Rattle.residuals.specs.Weights.{Summable, Weighs, HeadWeighed, FormAt, WithConstant, Partial, SumsTo, Judged, Left, WeightsCleared};
 use forms::Form;
 
-fn long(x: i16) -> i64
-    ensures { λ r. ⌜ r ≡ x ⌝ }
-{
-    x as i64
-}
-
 /// Takes a claim's numbers, times a multiplier, away from the weights of an atom.
 pub fn weigh(m: i64, place: usize, atom: usize, claims: &[i16; 4608], numbers: &mut [i64; 1305])
     requires { ⌜ (natAbs m ≤ 9999) × (place + 9 ≤ 4608) × (atom ≤ 8) × (SafeClaims (now claims)) × (Summable (now numbers)) ⌝ }
@@ -23,7 +17,7 @@ pub fn weigh(m: i64, place: usize, atom: usize, claims: &[i16; 4608], numbers: &
     let mut i: usize = 0;
     while i < 9 {
         let weight = numbers[atom * 9 + i];
-        numbers[atom * 9 + i] = weight - m * long(claims[place + i]);
+        numbers[atom * 9 + i] = weight - m * widths::long(claims[place + i]);
         i += 1;
     }
 }
@@ -35,7 +29,7 @@ pub fn weigh_head(claims: &[i16; 4608], at: usize, numbers: &mut [i64; 1305])
 {
     let mut i: usize = 0;
     while i < 9 {
-        numbers[i] = long(claims[at + i]);
+        numbers[i] = widths::long(claims[at + i]);
         i += 1;
     }
 }

@@ -1,7 +1,7 @@
 // The term readers, and measure.
 ghost use mathlib.Core.Path.{_≡_};
 ghost use mathlib.Core.Bool.{true};
-ghost use Prim.Native.Nat.{ℕ, _+_, _-_, _*_, _≤_, _<_, _^_};
+ghost use Prim.Native.Nat.{_+_, _-_, _*_, _≤_, _<_, _^_};
 ghost use lib.ListN.{length};
 ghost use Rattle.theory.specs.Text.{isDigit};
 ghost use Rattle.theory.specs.Faults.{isTerm};
@@ -54,12 +54,6 @@ pub fn read_token(bytes: &[u8]) -> Token
     }
 }
 
-fn wide(k: u8) -> usize
-    ensures { λ r. ⌜ r ≡ k ⌝ }
-{
-    k as usize
-}
-
 /// Whether a field is a term: each token in turn fills one place and opens as many as its arity, and none is left at the end.
 pub fn is_term(field: &[u8]) -> bool
     requires { ⌜ length (now field) ≤ 1024 ⌝ }
@@ -78,7 +72,7 @@ pub fn is_term(field: &[u8]) -> bool
                 wanted -= 1;
             }
             Token::Symbol(k) => {
-                wanted = wanted - 1 + wide(k);
+                wanted = wanted - 1 + widths::wide(k);
             }
             Token::NoToken => return false,
         }
@@ -103,7 +97,7 @@ fn arity(token: &[u8]) -> usize
         return 0;
     }
     let edges = last - 48;
-    wide(edges)
+    widths::wide(edges)
 }
 
 /// Of a term: the sum of the arities of its symbols.

@@ -71,12 +71,6 @@ fn sixteen_marks(bytes: &[u8], wanted: u8, at: usize) -> u32
     eight_marks(bytes, wanted, at) + 256 * eight_marks(bytes, wanted, at + 8)
 }
 
-fn place_of(bit: u32) -> usize
-    ensures { λ r. ⌜ r ≡ bit ⌝ }
-{
-    bit as usize
-}
-
 /// The first place where `wanted` stands among sixteen bytes, or 16.
 pub fn first_of_sixteen(bytes: &[u8], wanted: u8, at: usize) -> usize
     requires { ⌜ at + 16 ≤ length (now bytes) ⌝ }
@@ -86,5 +80,5 @@ pub fn first_of_sixteen(bytes: &[u8], wanted: u8, at: usize) -> usize
     if found == 0 {
         return 16;
     }
-    place_of(u32::trailing_zeros(found))
+    widths::place_of(u32::trailing_zeros(found))
 }

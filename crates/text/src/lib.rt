@@ -2,9 +2,9 @@
 // line; nothing is copied.
 ghost use mathlib.Core.Path.{_≡_};
 ghost use mathlib.Core.Bool.{true};
-ghost use Prim.Native.Nat.{ℕ, _+_, _-_, _≤_, _<_, min};
+ghost use Prim.Native.Nat.{_+_, _-_, _≤_, _<_, min};
 ghost use lib.ListN.{length};
-ghost use lib.IntN.{pos, negsuc};
+ghost use lib.IntN.{negsuc};
 ghost use Rattle.theory.specs.Text.{partsAt, isLower, isUpper, isNameByte, natural, integer};
 ghost use Rattle.theory.specs.Faults.{isUnfit};
 ghost use Rattle.text.specs.Scans.{Finds, CountsParts};
@@ -66,12 +66,6 @@ pub fn find_near(bytes: &[u8], wanted: u8, from: usize) -> usize
     find_far(bytes, wanted, from + 8)
 }
 
-fn as_count(n: u8) -> usize
-    ensures { λ r. ⌜ r ≡ n ⌝ }
-{
-    n as usize
-}
-
 /// As `count`, for few bytes. The number is as wide as a byte, so that it takes one vector for sixteen bytes.
 fn count_few(bytes: &[u8], wanted: u8) -> u8
     requires { ⌜ length (now bytes) ≤ 128 ⌝ }
@@ -103,7 +97,7 @@ pub fn count(bytes: &[u8], wanted: u8) -> usize
     let mut i: usize = 0;
     while i < bytes.len() {
         let end = block_end(i, bytes.len());
-        n += as_count(count_few(&bytes[i..end], wanted));
+        n += widths::wide(count_few(&bytes[i..end], wanted));
         i = end;
     }
     n
@@ -326,12 +320,6 @@ pub fn read_natural(field: &[u8], limit: u32) -> Natural
     Natural::Whole(value)
 }
 
-fn positive(n: u32) -> i64
-    ensures { λ r. ⌜ r ≡ pos n ⌝ }
-{
-    n as i64
-}
-
 fn negative(n: u32) -> i64
     requires { ⌜ 0 < n ⌝ }
     ensures { λ r. ⌜ r ≡ negsuc (n - 1) ⌝ }
@@ -361,7 +349,7 @@ pub fn read_integer(field: &[u8], limit: u32) -> Integer
     } else {
         let value = read_natural(field, limit);
         match value {
-            Natural::Whole(n) => Integer::Signed(positive(n)),
+            Natural::Whole(n) => Integer::Signed(widths::signed(n)),
             Natural::NoNatural => Integer::NoInteger,
         }
     }

@@ -1,7 +1,7 @@
 -- `bounds::use_claim` meets its contract. Assumes nothing.
 use mathlib.Core.Path.{sym, _∙_}
 use borrow.Author.Needs.{needs}
-use Rattle.residuals.proofs.Fits.{widened}
+use Rattle.widths.proofs.Widening.{widened}
 use Rattle.bounds.proofs.Using.{Asked, use-unasked, use-blocked, opposite-fits, opposite-natural, opposite-positive, use-impossible, use-bound}
 use Rattle.bounds.proofs.use_claim.Statement.{statement}
 use Rattle.bounds.proofs.use_claim.Tie as tie

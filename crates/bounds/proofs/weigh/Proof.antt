@@ -8,7 +8,7 @@ use lib.ListN.{getD}
 use mir.Syntax.{w64}
 use mir.Val.{toZ}
 use Rattle.forms.proofs.Results.{kept}
-use Rattle.residuals.proofs.Fits.{widened}
+use Rattle.widths.proofs.Widening.{widened}
 use Rattle.bounds.proofs.Weighing.{Weighing, weighing-none, weighing-blocked, share-requires, sum-fits, weighing-more, weighing-done}
 use Rattle.bounds.proofs.weigh.Statement.{statement}
 use Rattle.bounds.proofs.weigh.Tie as tie

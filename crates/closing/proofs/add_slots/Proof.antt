@@ -15,17 +15,17 @@ abbrev μ-loop : tie.MeasureT-loop
 loop-holds : tie.Need-loop-holds Inv-loop μ-loop
 loop-holds c = search (needs, slots-none)
 
-mul-slot : tie.Need-mul-slot Inv-loop μ-loop
-mul-slot c = search needs
+mul-short : tie.Need-mul-short Inv-loop μ-loop
+mul-short c = search needs
 
-add-slot : tie.Need-add-slot Inv-loop μ-loop
-add-slot c = search needs
+add-short : tie.Need-add-short Inv-loop μ-loop
+add-short c = search needs
 
-mul-slot-2 : tie.Need-mul-slot-2 Inv-loop μ-loop
-mul-slot-2 c = search needs
+mul-short-2 : tie.Need-mul-short-2 Inv-loop μ-loop
+mul-short-2 c = search needs
 
-slot-requires : tie.Need-slot-requires Inv-loop μ-loop
-slot-requires c κs = search needs
+short-requires : tie.Need-short-requires Inv-loop μ-loop
+short-requires c κs = search needs
 
 add-slots : tie.Need-add-slots Inv-loop μ-loop
 add-slots c = search needs
@@ -36,8 +36,8 @@ mul-slots c = search needs
 element-write-slots : tie.Need-element-write-slots Inv-loop μ-loop
 element-write-slots c = search needs
 
-slot-requires-2 : tie.Need-slot-requires-2 Inv-loop μ-loop
-slot-requires-2 c κs = search needs
+short-requires-2 : tie.Need-short-requires-2 Inv-loop μ-loop
+short-requires-2 c κs = search needs
 
 add-slots-2 : tie.Need-add-slots-2 Inv-loop μ-loop
 add-slots-2 c = search needs
@@ -70,14 +70,14 @@ add-slots-spec =
     Inv-loop
     μ-loop
     loop-holds
-    mul-slot
-    add-slot
-    mul-slot-2
-    slot-requires
+    mul-short
+    add-short
+    mul-short-2
+    short-requires
     add-slots
     mul-slots
     element-write-slots
-    slot-requires-2
+    short-requires-2
     add-slots-2
     add-slots-3
     mul-slots-2

@@ -37,8 +37,8 @@ element-copy-out-place-at-2 c = search needs
 place-at-requires-2 : tie.Need-place-at-requires-2
 place-at-requires-2 c κs = search needs
 
-multiplier-requires : tie.Need-multiplier-requires
-multiplier-requires c κs = search (needs, multiplier-small)
+signed-requires : tie.Need-signed-requires
+signed-requires c κs = search (needs, multiplier-small)
 
 add-weigh : tie.Need-add-weigh
 add-weigh c = search needs
@@ -76,7 +76,7 @@ field-m-spec =
     mul-place-at-2
     element-copy-out-place-at-2
     place-at-requires-2
-    multiplier-requires
+    signed-requires
     add-weigh
     weigh-requires
     fault-of-requires-2

@@ -5,7 +5,7 @@ use borrow.Author.Needs.{needs}
 use lib.IntN.{pos}
 use mir.Syntax.{w64}
 use mir.Val.{toZ}
-use Rattle.residuals.proofs.Fits.{widened}
+use Rattle.widths.proofs.Widening.{widened}
 use Rattle.residuals.proofs.Stretches.{Stored, stored-none, stored-more}
 use Rattle.residuals.proofs.Weighing.{Taken, weighed, taken, weighs-all}
 use Rattle.residuals.proofs.weigh.Statement.{statement}

@@ -3,7 +3,7 @@ use Prim.Native.Nat.{_-_, _≤_}
 use native.Mathlib.Omega.{arith}
 use borrow.Author.Needs.{needs}
 use lib.IntN.{pos}
-use Rattle.residuals.proofs.Fits.{widened}
+use Rattle.widths.proofs.Widening.{widened}
 use Rattle.residuals.proofs.Stretches.{Stored, from, stored-none, stored-front, stored-more}
 use Rattle.residuals.proofs.weigh_head.Statement.{statement}
 use Rattle.residuals.proofs.weigh_head.Tie as tie

@@ -30,8 +30,8 @@ part-count-few-end c = search needs
 count-few-requires : tie.Need-count-few-requires Inv-loop μ-loop
 count-few-requires c κs = search needs
 
-as-count-requires : tie.Need-as-count-requires Inv-loop μ-loop
-as-count-requires c κs = search needs
+wide-requires : tie.Need-wide-requires Inv-loop μ-loop
+wide-requires c κs = search needs
 
 add-n : tie.Need-add-n Inv-loop μ-loop
 add-n c = search needs
@@ -57,7 +57,7 @@ count-spec =
     part-count-few-start
     part-count-few-end
     count-few-requires
-    as-count-requires
+    wide-requires
     add-n
     loop-less
     loop-again

@@ -40,8 +40,8 @@ read-natural-requires-2 c κs = search needs
 enum-known-value : tie.Need-enum-known-value
 enum-known-value c = search needs
 
-positive-requires : tie.Need-positive-requires
-positive-requires c κs = search needs
+signed-requires : tie.Need-signed-requires
+signed-requires c κs = search needs
 
 enum-told-2 : tie.Need-enum-told-2
 enum-told-2 c = search needs
@@ -74,7 +74,7 @@ read-integer-spec =
     enum-told
     read-natural-requires-2
     enum-known-value
-    positive-requires
+    signed-requires
     enum-told-2
     returns-3
     returns-4

@@ -1,10 +1,10 @@
--- `bounds::signed` meets its contract. Assumes nothing.
+-- `widths::signed` meets its contract. Assumes nothing.
 use native.Mathlib.Omega.{arith}
 use borrow.Author.Needs.{needs}
 use mir.Facts.{toZ-pos}
 use mir.Syntax.{w64}
-use Rattle.bounds.proofs.signed.Statement.{statement}
-use Rattle.bounds.proofs.signed.Tie as tie
+use Rattle.widths.proofs.signed.Statement.{statement}
+use Rattle.widths.proofs.signed.Tie as tie
 
 cast-result : tie.Need-cast-result
 cast-result c = search needs

@@ -1,12 +1,12 @@
--- `bounds::long` meets its contract. Assumes nothing.
+-- `widths::long` meets its contract. Assumes nothing.
 use mathlib.Core.Path.{refl}
 use borrow.Author.Needs.{needs}
 use mir.Facts.{sfits-widen}
 use mir.Syntax.{w64}
 use mir.Val.{SFits}
-use Rattle.residuals.proofs.Fits.{widened}
-use Rattle.bounds.proofs.long.Statement.{statement}
-use Rattle.bounds.proofs.long.Tie as tie
+use Rattle.widths.proofs.Widening.{widened}
+use Rattle.widths.proofs.long.Statement.{statement}
+use Rattle.widths.proofs.long.Tie as tie
 
 cast-result : tie.Need-cast-result
 cast-result c = let wide : SFits w64 (c .args .x) = sfits-widen tt (c .fits .x) in search needs
