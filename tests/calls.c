@@ -298,6 +298,25 @@ static void try_file(const char *name)
         fail("not one case of it passed");
 }
 
+// Buffers of length 0 lent as NULL, as cerrundix.h allows: check refuses for the area and then for the text, reserve for
+// the pack, measure for the term.
+static void try_null(void)
+{
+    int64_t area[CERRUNDIX_AREA] = {0};
+    file_name = "tests/calls.c";
+    line_number = __LINE__;
+    call_name = "NULL";
+    line_failed = false;
+    if (check(NULL, 0, NULL, 0) != 1 || check(NULL, 0, area, CERRUNDIX_AREA) != 3)
+        fail("check of an empty text gives another word than 1 without an area and 3 with one");
+    else if (reserve(NULL, 0, NULL, 0) != ('R' | 3 << 16))
+        fail("reserve of an empty pack gives another word than that of R,3,0");
+    else if (measure(NULL, 0) != 11)
+        fail("measure of an empty term gives another word than 11");
+    else
+        printf("ok: 4 calls on empty buffers lent as NULL\n");
+}
+
 int main(int count, char **words)
 {
     if (count < 3) {
@@ -308,6 +327,7 @@ int main(int count, char **words)
     setvbuf(stdout, NULL, _IOLBF, BUFSIZ);
     watch_for_signals();
     program = words[1];
+    try_null();
     for (int i = 2; i < count; i++)
         try_file(words[i]);
     return any_failed ? 1 : 0;
