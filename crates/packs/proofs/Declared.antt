@@ -1,9 +1,9 @@
 -- The declared predicates, with one more.
-use mathlib.Core.Path.{_≡_, refl, sym, _∙_, ap, ap₂}
+use mathlib.Core.Path.{_≡_, refl, sym, _∙_, ap}
 use mathlib.Core.Bool.{true, false, cond}
 use mathlib.Core.List.{List, [], _∷_, _++_}
 use mathlib.Core.Option.{some, none, Option·none-ne-some}
-use Prim.Native.Nat.{ℕ, zero, suc, _+_, _*_, _≤_, _<_}
+use Prim.Native.Nat.{ℕ, zero, suc, _+_, _≤_, _<_}
 use native.Mathlib.Omega.{arith}
 use lib.Dec.{ltb}
 use lib.IntN.{ℤ}
@@ -14,10 +14,10 @@ use Rattle.integers.proofs.Lists.{length-end}
 use Rattle.theory.specs.Text.{isName}
 use Rattle.theory.specs.Packs.{Predicate, Key, sameKey, keyOf, declaredAs, claimsOn}
 use Rattle.theory.proofs.Keys.{sameKey-refl}
-use Rattle.text.specs.declared.Words.{Words}
 use Rattle.text.specs.Words.{wordsOf, wordsAt}
 use Rattle.tables.specs.Tables.{Declares, HoldsClaims, noPredicate, predicateAt, flag}
 use Rattle.packs.proofs.Places.{each-and-last}
+use Rattle.terms.proofs.VariableTable.{withWords, with-other, with-here}
 
 -- where no predicate is declared under a key, none has it
 undeclared : (k : Key) (ps : List Predicate) → declaredAs k ps ≡ none → (i : ℕ) → i < length ps → keyOf (predicateAt ps i) ≡ k → ⊥
@@ -35,24 +35,8 @@ undeclared k (p ∷ ps) e i h is =
 
 -- ---- one predicate more
 
-abbrev pub withName : List ℕ → ℕ → Words → List ℕ
-withName names n words = set (set names (2 * n) (words .first)) (2 * n + 1) (words .second)
-
 abbrev pub withFacts : List ℕ → ℕ → ℕ → ℕ → List ℕ
 withFacts facts n arity kind = set (set facts n arity) (32 + n) kind
-
-module _ (names : List ℕ) (n : ℕ) (words : Words) where
-  name-stays : (i : ℕ) → i < n → wordsAt (withName names n words) i ≡ wordsAt names i
-  name-stays i h = ap₂ (λ f s. record { first = f; second = s }) (stays (2 * i) (omega arith)) (stays (2 * i + 1) (omega arith))
-    where
-      stays : (j : ℕ) → j < 2 * n → getD (withName names n words) j 0 ≡ getD names j 0
-      stays j k = getD-set-other (set names (2 * n) (words .first)) (2 * n + 1) j (words .second) 0 (λ e. omega arith) ∙ getD-set-other names (2 * n) j (words .first) 0 (λ e. omega arith)
-
-  name-stands : 2 * n + 1 < length names → wordsAt (withName names n words) n ≡ words
-  name-stands h =
-      ap₂ (λ f s. record { first = f; second = s })
-      (getD-set-other (set names (2 * n) (words .first)) (2 * n + 1) (2 * n) (words .second) 0 (λ e. omega arith) ∙ getD-set-same names (2 * n) (words .first) 0 (omega arith))
-      (getD-set-same (set names (2 * n) (words .first)) (2 * n + 1) (words .second) 0 (simp length-set h))
 
 module _ (facts : List ℕ) (n arity kind : ℕ) where
   pub fact-stays : (i : ℕ) → (i ≡ n → ⊥) → (i ≡ 32 + n → ⊥) → getD (withFacts facts n arity kind) i 0 ≡ getD facts i 0
@@ -87,14 +71,14 @@ module _ (names facts : List ℕ) (known : ℕ) (ps : List Predicate) (x : Predi
         h
 
     pub declares-more : known < 32 → length names ≡ 64 → length facts ≡ 96 → isName (x .name) ≡ true
-        → Declares (withName names known (wordsOf (x .name))) (withFacts facts known (x .arguments) (flag (x .kind))) (known + 1) (ps ++ (x ∷ []))
+        → Declares (withWords names known (wordsOf (x .name))) (withFacts facts known (x .arguments) (flag (x .kind))) (known + 1) (ps ++ (x ∷ []))
     declares-more room nameSize factSize proper =
         let words = wordsOf (x .name) in
         let kind = flag (x .kind) in
         let facts₁ = withFacts facts known (x .arguments) kind in
         record {
           count = omega (arith, length-end ps x, declares .count);
-          words = each-known (λ p i. wordsAt (withName names known words) i ≡ wordsOf (p .name)) (λ i h. name-stays names known words i h ∙ declares .words i h) (name-stands names known words (omega arith));
+          words = each-known (λ p i. wordsAt (withWords names known words) i ≡ wordsOf (p .name)) (λ i h. with-other names known words i h ∙ declares .words i h) (with-here names known words (omega arith));
           named = each-known (λ p i. isName (p .name) ≡ true) (declares .named) proper;
           arity = each-known (λ p i. getD facts₁ i 0 ≡ p .arguments)
               (λ i h. fact-stays facts known (x .arguments) kind i (λ e. omega arith) (λ e. omega arith) ∙ declares .arity i h)

@@ -26,7 +26,7 @@ use Rattle.opening.specs.Opening.{OldPredicate}
 use Rattle.fields.specs.Fields.{RowOf, FieldTerm}
 use Rattle.closing.specs.Closing.{withHead, ClosesH}
 use Rattle.packs.specs.Progress.{at, ProgressTerms, PassedAs}
-use Rattle.packs.proofs.LetterLines.{writes-letter}
+use Rattle.packs.proofs.Passing.{writes-letter}
 use Rattle.packs.proofs.RuleCounts.{multiplierLines-end}
 use Rattle.packs.proofs.TermRows.{terms-begin, term-field}
 use Rattle.packs.proofs.AtomLines.{atom-limit, atom-fault, within-limits, count-terms, few-terms, Finished, finished}
@@ -107,7 +107,7 @@ h-close line t s w o many variables numbers r holds safe passed done closes =
       answer = passed .left ∙ atom-limit _ _ (fieldsOf line) (w .pack) (terms .good) ∙ rw (← holds .rules, ← terms .past) (sym (closes .answer));
       holds = λ fine.
           let within = within-limits (leb 64 (s .rules)) (ltb 16 many) (r .fault) (closes .answer) fine in
-          rw (closes .state fine, writes-letter H line w (passed .first) (λ e. let z : _≡_ {A = ℕ} 0 1 = cc in omega arith))
+          rw (closes .state fine, writes-letter H w line (passed .first) refl)
           (head-holds line t s w o many variables numbers named (ltb-ge 16 many (within .1)) terms holds);
     }
 

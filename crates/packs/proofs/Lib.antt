@@ -7,7 +7,6 @@ pub mod FaultTests
 pub mod PredicateLines
 pub mod ClaimLines
 pub mod EndLines
-pub mod LetterLines
 pub mod RuleCounts
 pub mod Slots
 pub mod TermRows

@@ -178,7 +178,7 @@ m-close line t s w o numbers₁ numbers r holds safe passed progress size closes
       left = residual-left finished;
       holds = λ fine.
           let kept = rows-after (drop 1 (fieldsOf line)) _ s (t .claims) (t .slots) (t .numbers) numbers₁ numbers r progress closes fine in
-          rw (closes .state fine, m-written w line (passed .first) (passed .unended)) (m-holds t s w (multipliersFrom (fieldsOf line)) numbers holds (has-rule finished) kept);
+          rw (closes .state fine, m-written w line (passed .first)) (m-holds t s w (multipliersFrom (fieldsOf line)) numbers holds (has-rule finished) kept);
     }
   where
     finished : Finished line t s w o numbers₁ numbers r

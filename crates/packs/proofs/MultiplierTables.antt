@@ -1,27 +1,24 @@
 -- The tables behind an `M` line stand for what it writes: rows stay, the last rule has one list of multipliers more.
-use mathlib.Core.Path.{_≡_, refl, sym, _∙_, ap}
-use mathlib.Core.Bool.{Bool, false, _||_}
+use mathlib.Core.Path.{_≡_, refl, sym, _∙_}
 use mathlib.Core.List.{List, [], _∷_, nil≢cons}
 use Prim.Native.Nat.{ℕ, suc, _+_, _*_, _≤_}
 use native.Mathlib.Omega.{arith}
 use lib.IntN.{ℤ, pos}
 use lib.ListN.{length, getD}
-use Rattle.integers.proofs.Truth.{by-truth}
 use Rattle.integers.proofs.Lists.{length-end}
-use Rattle.theory.specs.Text.{Bytes, bytes, same, fieldsOf}
+use Rattle.theory.specs.Text.{Bytes, bytes, fieldsOf}
 use Rattle.theory.specs.Terms.{Term, Terms}
 use Rattle.theory.specs.Packs.{Rule}
-use Rattle.theory.specs.Written.{Letter, M, E, letterOf, lineLetter, field, Written, withMultipliers, onLast, add, write, multipliersFrom}
+use Rattle.theory.specs.Written.{M, lineLetter, Written, withMultipliers, onLast, add, write, multipliersFrom}
 use Rattle.theory.specs.Faults.{noRule, lastRule}
 use Rattle.theory.specs.Check.{multiplierLines}
-use Rattle.theory.proofs.Bytes.{same-equal}
-use Rattle.theory.proofs.Letters.{letterField, letter-of-field}
 use Rattle.theory.proofs.LastRule.{last-changed}
 use Rattle.theory.proofs.Steps.{withLast}
 use Rattle.tables.specs.declared.State.{State}
 use Rattle.tables.specs.Tables.{Tables, tables, RowStands, AtomStands, RuleStands, Holds}
 use Rattle.closing.specs.Closing.{withMultipliers as countMultipliers}
 use Rattle.packs.proofs.RuleCounts.{length-onLast}
+use Rattle.packs.proofs.Passing.{writes-letter}
 
 -- ---- rows that stay
 
@@ -40,23 +37,9 @@ module _ (numbers₀ numbers : List ℤ) (kept : (i : ℕ) → 81 ≤ i → getD
 
 -- ---- what the line writes
 
--- a line that begins with another letter does not end the pack
-not-end : (f : Bytes) (letter : Letter) → letterOf f ≡ letter → (letter ≡ E → ⊥) → same f (bytes "E") ≡ false
-unfolding letterField
-not-end f letter is other =
-    by-truth (λ (b : Bool). b ≡ false) (same f (bytes "E"))
-    (λ e. absurd (other (sym is ∙ (ap letterOf (same-equal f (bytes "E") e) ∙ letter-of-field E)))) (λ e. refl)
-
-M-apart : M ≡ E → ⊥
-M-apart e = let never : _≡_ {A = ℕ} 0 1 = cc in omega arith
-
-pub m-written : (w : Written) (line : Bytes) → lineLetter line ≡ M → w .ended ≡ false
-    → write w line ≡ record { pack = withLast (withMultipliers (multipliersFrom (fieldsOf line))) (w .pack); ended = w .ended }
-unfolding write add
-m-written w line is unended = λ i. record { pack = add (is i) (fieldsOf line) (w .pack); ended = same-end i }
-  where
-    same-end : (w .ended || same (field 0 (fieldsOf line)) (bytes "E")) ≡ w .ended
-    same-end = rw (unended, not-end (field 0 (fieldsOf line)) M is M-apart)
+pub m-written : (w : Written) (line : Bytes) → lineLetter line ≡ M → write w line ≡ record { pack = withLast (withMultipliers (multipliersFrom (fieldsOf line))) (w .pack); ended = w .ended }
+unfolding add
+m-written w line is = writes-letter M w line is refl
 
 -- ---- the last rule
 

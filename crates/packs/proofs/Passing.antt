@@ -1,6 +1,6 @@
 -- A line that has passed its opening, with its letter; what the opening goes by, of what the tables hold; and what a line writes, by its letter.
 use mathlib.Core.Path.{_≡_, refl, sym, _∙_, ap}
-use mathlib.Core.Bool.{Bool, true, false, _||_}
+use mathlib.Core.Bool.{Bool, true, false, _||_, or-false}
 use Rattle.theory.specs.Text.{Bytes, bytes, same, fieldsOf}
 use Rattle.theory.specs.Written.{Letter, P, C, H, B, M, E, noLetter, letterOf, lineLetter, field, Written, add, write}
 use Rattle.theory.proofs.Bytes.{same-equal, same-unequal}
@@ -62,3 +62,7 @@ unfolding write
 write-as letter w line e =
     let ends = is-end (field 0 (fieldsOf line)) ∙ ap isEnd e in
     λ i. record { pack = add (e i) (fieldsOf line) (w .pack); ended = w .ended || ends i }
+
+-- a line of another letter than `E` does not end the pack
+pub writes-letter : (letter : Letter) (w : Written) (line : Bytes) → lineLetter line ≡ letter → isEnd letter ≡ false → write w line ≡ record { pack = add letter (fieldsOf line) (w .pack); ended = w .ended }
+writes-letter letter w line e other = write-as letter w line e ∙ ap (λ (b : Bool). record { pack = add letter (fieldsOf line) (w .pack); ended = b }) (ap (λ (b : Bool). w .ended || b) other ∙ or-false (w .ended))

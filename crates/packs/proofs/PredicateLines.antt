@@ -21,11 +21,12 @@ use Rattle.tables.specs.declared.Opened.{Opened}
 use Rattle.tables.specs.declared.Fielded.{Fielded}
 use Rattle.tables.specs.declared.Closed.{Closed}
 use Rattle.tables.specs.Tables.{Tables, tables, Holds, Safe, flag}
+use Rattle.terms.proofs.VariableTable.{withWords}
 use Rattle.fields.specs.Fields.{FieldP}
 use Rattle.closing.specs.Closing.{withPredicates, ClosesP}
 use Rattle.packs.specs.Progress.{at, ProgressP, PassedAs}
 use Rattle.packs.proofs.FaultTests.{passes, fails, within}
-use Rattle.packs.proofs.Declared.{withName, withFacts, fact-stays, declares-more, claimless}
+use Rattle.packs.proofs.Declared.{withFacts, fact-stays, declares-more, claimless}
 use Rattle.packs.proofs.Passing.{write-as}
 use Rattle.packs.proofs.Places.{replaced}
 
@@ -79,7 +80,7 @@ p-facts line known small facts done =
 -- the tables with the predicate that a line writes, and a pack with it
 p-holds : (line : Bytes) (t : Tables) (s : State) (w : Written) (o : Opened) → Holds t s w → Safe t s → PassedAs P line s w o → s .predicates < 32
     → let x = predicateFrom (fieldsOf line) in
-    Holds (tables (withName (t .names) (s .predicates) (wordsOf (field 1 (fieldsOf line)))) (withFacts (t .facts) (s .predicates) (x .arguments) (flag (x .kind))) (t .claims) (t .variables) (t .numbers) (t .slots))
+    Holds (tables (withWords (t .names) (s .predicates) (wordsOf (field 1 (fieldsOf line)))) (withFacts (t .facts) (s .predicates) (x .arguments) (flag (x .kind))) (t .claims) (t .variables) (t .numbers) (t .slots))
     (withPredicates (s .predicates + 1) s) (record { pack = add P (fieldsOf line) (w .pack); ended = w .ended || false })
 unfolding add predicateFrom mayStand
 p-holds line t s w o holds safe passed room =

@@ -1,5 +1,5 @@
 -- `B` lines: their terms, and the subgoal that they add.
-use mathlib.Core.Path.{_≡_, sym, _∙_, ap}
+use mathlib.Core.Path.{_≡_, refl, sym, _∙_, ap}
 use mathlib.Core.Bool.{true, not, _||_, cond}
 use mathlib.Core.List.{List, [], _∷_, _++_, append-nil}
 use Prim.Native.Nat.{ℕ, suc, _+_, _≤_, _<_}
@@ -32,7 +32,7 @@ use Rattle.opening.specs.Opening.{OldPredicate}
 use Rattle.fields.specs.Fields.{RowOf, FieldTerm}
 use Rattle.closing.specs.Closing.{withSubgoal as stateWithSubgoal, ClosesB, SlotsAdded}
 use Rattle.packs.specs.Progress.{at, Progress, PassedAs}
-use Rattle.packs.proofs.LetterLines.{writes-letter}
+use Rattle.packs.proofs.Passing.{writes-letter}
 use Rattle.packs.proofs.RuleCounts.{length-onLast, multiplierLines-subgoal}
 use Rattle.packs.proofs.Slots.{below-sum, claims-more, slot-before, slot-behind, slots-safe}
 use Rattle.packs.proofs.TermRows.{atom-over-more, terms-begin, term-found, term-field}
@@ -186,7 +186,7 @@ b-close line t s w o many small row variables numbers slots r holds safe passed 
           ∙ subgoal-answer line w (s .subgoals) many (r .fault) (stands .subgoals) (λ room. terms room .past) (closes .answer);
       holds = λ fine.
           let within = within-limits (leb 8 (s .subgoals)) (ltb 16 many) (r .fault) (closes .answer) fine in
-          rw (closes .state fine, writes-letter B line w (passed .first) (λ e. let z : _≡_ {A = ℕ} 0 1 = cc in omega arith))
+          rw (closes .state fine, writes-letter B w line (passed .first) refl)
           (subgoal-holds line w t s o many variables numbers slots holds (passed .named) stands (ltb-ge 16 many (within .1)) (terms (leb-gt 8 (s .subgoals) (within .0))) (closes .slotsAre fine) unempty);
     }
   where

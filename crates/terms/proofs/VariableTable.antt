@@ -26,13 +26,13 @@ module _ (names : List ℕ) (n : ℕ) (words : Words) where
   with-length : length (withWords names n words) ≡ length names
   with-length = simp length-set
 
-  with-other : (i : ℕ) → i < n → wordsAt (withWords names n words) i ≡ wordsAt names i
+  pub with-other : (i : ℕ) → i < n → wordsAt (withWords names n words) i ≡ wordsAt names i
   with-other i h = ap₂ (λ f s. record { first = f; second = s }) (stays (2 * i) (omega arith)) (stays (2 * i + 1) (omega arith))
     where
       stays : (j : ℕ) → j < 2 * n → getD (withWords names n words) j 0 ≡ getD names j 0
       stays j k = getD-set-other (set names (2 * n) (words .first)) (2 * n + 1) j (words .second) 0 (λ e. omega arith) ∙ getD-set-other names (2 * n) j (words .first) 0 (λ e. omega arith)
 
-  with-here : 2 * n + 1 < length names → wordsAt (withWords names n words) n ≡ words
+  pub with-here : 2 * n + 1 < length names → wordsAt (withWords names n words) n ≡ words
   with-here h =
       ap₂ (λ f s. record { first = f; second = s })
       (getD-set-other (set names (2 * n) (words .first)) (2 * n + 1) (2 * n) (words .second) 0 (λ e. omega arith) ∙ getD-set-same names (2 * n) (words .first) 0 (omega arith))

@@ -1,51 +1,30 @@
 -- Cutting a byte string into parts and into lines, one found place at a time.
 use mathlib.Core.Path.{_≡_, refl, sym, _∙_, ap}
-use mathlib.Core.Bool.{true, cond}
+use mathlib.Core.Bool.{true}
 use mathlib.Core.List.{List, [], _∷_, _++_}
 use Prim.Native.Nat.{ℕ, _+_, _≤_, _<_}
 use native.Mathlib.Decide.{decLt}
 use native.Mathlib.Omega.{arith}
-use lib.Dec.{eqb}
 use lib.ListN.{length, drop, length-take, length-drop, drop-of-length-le}
-use Rattle.integers.proofs.Truth.{not-true, eqb-same, le-leb, gt-leb}
+use Rattle.integers.proofs.Truth.{le-leb, gt-leb}
 use Rattle.theory.specs.Text.{Bytes, onFirst, partsAt, linesOf}
-use Rattle.theory.proofs.Every.{every-first, every-rest}
-use Rattle.theory.proofs.Separators.{isFree}
+use Rattle.theory.proofs.Every.{every-rest}
+use Rattle.theory.proofs.Separators.{isFree, free-first, Cuts, parts-cut, lines-cut, cut-other, cut-off}
 use Rattle.text.specs.Scans.{part, Finds, partsFrom}
 use Rattle.text.proofs.Parts.{part-rest, drop-cut, drop-more}
 
--- Parts and lines alike: a separator ends a part, any other byte goes in front of the first part behind it, and a last byte is a part.
-record Cuts (separator : ℕ) (cut : Bytes → List Bytes) : Type 0 where
-  step : (b : ℕ) (bs : Bytes) → cut (b ∷ bs) ≡ cond (eqb b separator) ([] ∷ cut bs) (onFirst b (cut bs))
-  last : (b : ℕ) → onFirst b (cut []) ≡ (b ∷ []) ∷ []
-
-parts-cut : (separator : ℕ) → Cuts separator (partsAt separator)
-unfolding partsAt
-parts-cut separator = record { step = λ b bs. refl; last = λ b. refl }
-
-lines-cut : Cuts 10 linesOf
-unfolding linesOf
-lines-cut = record { step = λ b bs. refl; last = λ b. refl }
+-- a part with no separator behind it, where a last byte is a part
+module _ (separator : ℕ) (cut : Bytes → List Bytes) (cuts : Cuts separator cut) (last : (b : ℕ) → onFirst b (cut []) ≡ (b ∷ []) ∷ []) where
+  cut-last : (b : ℕ) (bs : Bytes) → isFree separator (b ∷ bs) ≡ true → cut (b ∷ bs) ≡ (b ∷ bs) ∷ []
+  cut-last b [] free = cut-other separator cut cuts b [] (free-first separator b [] free) ∙ last b
+  cut-last b (d ∷ bs) free = cut-other separator cut cuts b (d ∷ bs) (free-first separator b (d ∷ bs) free) ∙ ap (onFirst b) (cut-last d bs (every-rest _ b (d ∷ bs) free))
 
 module _ (separator : ℕ) (cut : Bytes → List Bytes) (cuts : Cuts separator cut) where
-  cut-first : (b : ℕ) (bs : Bytes) → isFree separator (b ∷ bs) ≡ true → (rest : Bytes) → cut (b ∷ rest) ≡ onFirst b (cut rest)
-  cut-first b bs free rest = cuts .step b rest ∙ rw (not-true (eqb b separator) (every-first _ b bs free))
-
-  -- a part with its separator, in front of the rest
-  cut-off : (first rest : Bytes) → isFree separator first ≡ true → cut (first ++ separator ∷ rest) ≡ first ∷ cut rest
-  cut-off [] rest free = cuts .step separator rest ∙ rw (eqb-same separator)
-  cut-off (b ∷ bs) rest free = cut-first b bs free (bs ++ separator ∷ rest) ∙ ap (onFirst b) (cut-off bs rest (every-rest _ b bs free))
-
-  -- a part with no separator behind it
-  cut-last : (b : ℕ) (bs : Bytes) → isFree separator (b ∷ bs) ≡ true → cut (b ∷ bs) ≡ (b ∷ bs) ∷ []
-  cut-last b [] free = cut-first b [] free [] ∙ cuts .last b
-  cut-last b (d ∷ bs) free = cut-first b (d ∷ bs) free (d ∷ bs) ∙ ap (onFirst b) (cut-last d bs (every-rest _ b (d ∷ bs) free))
-
   module _ (s : Bytes) (from r : ℕ) (found : Finds s separator from r) where
     cut-found : r < length s → cut (drop from s) ≡ part s from r ∷ cut (drop (r + 1) s)
     cut-found h =
         ap cut (drop-cut s from r (found .low) ∙ ap (λ (rest : Bytes). part s from r ++ rest) (drop-more s r h ∙ ap (λ (b : ℕ). b ∷ drop (r + 1) s) (found .found h)))
-        ∙ cut-off (part s from r) (drop (r + 1) s) (found .free)
+        ∙ cut-off separator cut cuts (part s from r) (drop (r + 1) s) (found .free)
 
     -- the place found is the end
     cut-rest : length s ≤ r → part s from r ≡ drop from s
@@ -60,7 +39,7 @@ module _ (separator : ℕ) (cut : Bytes → List Bytes) (cuts : Cuts separator c
 parts-one : (separator : ℕ) (bs : Bytes) → isFree separator bs ≡ true → partsAt separator bs ≡ bs ∷ []
 unfolding partsAt
 parts-one separator [] free = refl
-parts-one separator (b ∷ bs) free = cut-last separator (partsAt separator) (parts-cut separator) b bs free
+parts-one separator (b ∷ bs) free = cut-last separator (partsAt separator) (parts-cut separator) (λ c. refl) b bs free
 
 module _ (separator : ℕ) (s : Bytes) where
   parts-more : (from : ℕ) → from ≤ length s → partsFrom separator s from ≡ partsAt separator (drop from s)
@@ -87,8 +66,9 @@ module _ (separator : ℕ) (s : Bytes) where
 -- ---- lines
 
 lines-one : (bs : Bytes) → 0 < length bs → isFree 10 bs ≡ true → linesOf bs ≡ bs ∷ []
+unfolding linesOf
 lines-one [] any free = absurd (omega arith)
-lines-one (b ∷ bs) any free = cut-last 10 linesOf lines-cut b bs free
+lines-one (b ∷ bs) any free = cut-last 10 linesOf lines-cut (λ c. refl) b bs free
 
 pub lines-done : (s : Bytes) (from : ℕ) → length s ≤ from → linesOf (drop from s) ≡ []
 unfolding linesOf

@@ -26,7 +26,7 @@ free-from test separator h bs k = every-within test (λ (b : ℕ). not (eqb b se
     other : (b : ℕ) → test b ≡ true → not (eqb b separator) ≡ true
     other b t = by-truth (λ (c : Bool). not c ≡ true) (eqb b separator) (λ e. never-both t (ap test (eqb-equal b separator e) ∙ h)) (λ e. refl)
 
-free-first : (separator b : ℕ) (bs : Bytes) → isFree separator (b ∷ bs) ≡ true → eqb b separator ≡ false
+pub free-first : (separator b : ℕ) (bs : Bytes) → isFree separator (b ∷ bs) ≡ true → eqb b separator ≡ false
 free-first separator b bs h = not-true (eqb b separator) (every-first _ b bs h)
 
 -- ---- cutting
@@ -40,14 +40,14 @@ onFirst-cons b [] = (b ∷ [], [], refl)
 onFirst-cons b (part ∷ parts) = (b ∷ part, parts, refl)
 
 -- Parts and lines alike: a separator ends a part, and any other byte goes in front of the first part behind it.
-abbrev Cuts : ℕ → (Bytes → List Bytes) → Type 0
+abbrev pub Cuts : ℕ → (Bytes → List Bytes) → Type 0
 Cuts separator cut = (b : ℕ) (bs : Bytes) → cut (b ∷ bs) ≡ cond (eqb b separator) ([] ∷ cut bs) (onFirst b (cut bs))
 
-parts-cut : (separator : ℕ) → Cuts separator (partsAt separator)
+pub parts-cut : (separator : ℕ) → Cuts separator (partsAt separator)
 unfolding partsAt
 parts-cut separator b bs = refl
 
-lines-cut : Cuts 10 linesOf
+pub lines-cut : Cuts 10 linesOf
 unfolding linesOf
 lines-cut b bs = refl
 
@@ -58,11 +58,11 @@ module _ (separator : ℕ) (cut : Bytes → List Bytes) (cuts : Cuts separator c
   cut-at : (b : ℕ) (bs : Bytes) → eqb b separator ≡ true → cut (b ∷ bs) ≡ [] ∷ cut bs
   cut-at b bs e = cut-cases (λ parts. parts ≡ [] ∷ cut bs) b bs (λ _. refl) (λ f. never-both e f)
 
-  cut-other : (b : ℕ) (bs : Bytes) → eqb b separator ≡ false → cut (b ∷ bs) ≡ onFirst b (cut bs)
+  pub cut-other : (b : ℕ) (bs : Bytes) → eqb b separator ≡ false → cut (b ∷ bs) ≡ onFirst b (cut bs)
   cut-other b bs e = cut-cases (λ parts. parts ≡ onFirst b (cut bs)) b bs (λ t. never-both t e) (λ _. refl)
 
   -- a part with its separator in front of something
-  cut-off : (part bs : Bytes) → isFree separator part ≡ true → cut (part ++ separator ∷ bs) ≡ part ∷ cut bs
+  pub cut-off : (part bs : Bytes) → isFree separator part ≡ true → cut (part ++ separator ∷ bs) ≡ part ∷ cut bs
   cut-off [] bs h = cut-at separator bs (eqb-same separator)
   cut-off (b ∷ part) bs h =
       cut-other b (part ++ separator ∷ bs) (free-first separator b part h) ∙ ap (onFirst b) (cut-off part bs (every-rest _ b part h))
