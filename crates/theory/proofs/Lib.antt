@@ -58,3 +58,4 @@ pub mod ReserveSound
 -- demand 3, and document 01's starred examples
 pub mod DemandThree
 pub mod Examples
+pub mod Derived
