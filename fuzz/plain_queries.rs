@@ -56,7 +56,7 @@ impl Query<'_> {
         claim[self.asked] < 0 && others_fit
     }
 
-    /// c0 plus the known sizes times their numbers.
+    /// What the claim gives at the known sizes alone.
     pub(super) fn numerator(&self, claim: &[i64]) -> i64 {
         let known = self.sizes.iter().zip(&claim[1..]).map(|(size, number)| size.unwrap_or(0) * number);
         claim[0] + known.sum::<i64>()

@@ -5,7 +5,7 @@ use super::{LINE_BYTES, NAME_BYTES, VARIABLES};
 // ---------------------------------------------------------------------------------------------------------------
 // Forms.
 
-/// A constant and one whole number for each variable of a rule.
+/// A form over a rule's variables.
 #[derive(Clone, Copy)]
 pub(super) struct Form {
     pub(super) constant: i64,
@@ -42,7 +42,7 @@ impl Form {
     }
 }
 
-/// Document 01 says that no form leaves the signed 64-bit range; this stops the test if one does.
+/// By document 01 64 bits are always enough; this stops the test where they are not.
 pub(super) fn in_range(number: Option<i64>) -> i64 {
     number.expect("a form left the signed 64-bit range")
 }

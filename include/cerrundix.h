@@ -75,7 +75,7 @@ static inline const char *cerrundix_reason(unsigned number) {
     case 5: return "a line of this letter may not stand here: check the order, count the M lines";
     case 6: return "the text ends without an E line: add it";
     case 7: return "the second field is missing or no name: a small letter first, at most 16 characters";
-    case 8: return "P: declared already; others: not declared; H: a given predicate";
+    case 8: return "on a P line the name is taken; on other lines it is not declared, or on H it is of a given predicate";
     case 9: return "the wrong number of fields: compare with the predicate's arguments, for M with the subgoals' claims";
     case 10: return "an arity, kind, claim number or multiplier is malformed or out of range";
     case 11: return "a field is no term: each symbol needs its arity and that many terms, parted by single spaces";

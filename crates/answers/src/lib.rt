@@ -3,7 +3,7 @@ ghost use mathlib.Core.Path.{_≡_};
 ghost use Rattle.theory.specs.Check.{numbers};
 ghost use Rattle.theory.specs.Reserve.{fields};
 ghost use Rattle.theory.specs.Measure.{measured};
-ghost use Rattle.theory.specs.Answers.{refusalNumbers, numbersOf, queryNumber, fieldsOf, measuredOf};
+ghost use Rattle.theory.specs.Answers.{refusalNumbers, numbersOf, queryNumber, reservedFields, measuredOf};
 use theory::Measurement;
 use theory::QueryRefusal;
 use theory::Refusal;
@@ -121,7 +121,7 @@ fn refused(number: u8) -> Three
 
 /// The fields of a reservation.
 pub fn fields_of(reservation: Reservation) -> Three
-    ensures { λ r. ⌜ fields (r .letter) (r .middle) (r .claim) ≡ fieldsOf reservation ⌝ }
+    ensures { λ r. ⌜ fields (r .letter) (r .middle) (r .claim) ≡ reservedFields reservation ⌝ }
 {
     match reservation {
         Reservation::Bounded(bound) => Three {

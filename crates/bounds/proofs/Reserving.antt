@@ -10,12 +10,11 @@ use lib.IntN.{ℤ}
 use lib.ListN.{length, getD, drop, drop-of-length-le}
 use lib.Seq.{drop-cons}
 use Rattle.integers.proofs.Truth.{by-truth, never-both, equal-eqb, eqb-different}
-use Rattle.theory.specs.Packs.{Claim}
-use Rattle.theory.specs.Faults.{noClaim}
+use Rattle.theory.specs.Packs.{Claim, noClaim}
 use Rattle.theory.specs.Reserve.{Query, boundBy, fields}
 use Rattle.theory.specs.declared.Bound.{Bound}
 use Rattle.theory.specs.declared.Reservation.the-variants.{Bounded, NoBound, Impossible}
-use Rattle.theory.proofs.UsableClaims.{isImpossible}
+use Rattle.theory.proofs.Reserving.UsableClaims.{isImpossible}
 use Rattle.bounds.specs.Bounds.{UsedFor, Uses, boundOf, smallerOf, betterOf, reservationFrom, ClaimsStand, ReservesBy}
 use Rattle.bounds.specs.declared.Use.{Use}
 use Rattle.bounds.proofs.Resuming.{settled, resumed, from-first}
@@ -61,7 +60,7 @@ module _ {claims : List ℤ} {predicate count arity asked : ℕ} {sizes : List �
       pub reserving-impossible : u .impossible ≡ true → ReservesBy claims predicate count arity asked sizes (Impossible k)
       reserving-impossible impossible =
           let usable : u .usable ≡ true = by-truth (λ b. u .usable ≡ true) (u .usable) (λ e. e) (λ e. never-both impossible (uses .idle e)) in
-          record { tells = λ q cs stands. sym (remaining stands ∙ resumed-impossible q _ u (used stands) best k _ usable impossible) }
+          record { tells = λ q cs stands. sym (remaining stands ∙ resumed-impossible q _ u (used stands) best k _ usable impossible); passesNone = refl }
 
       pub reserving-more : u .impossible ≡ false → (r : Bound) → r ≡ betterOf best u k → Reserving claims predicate count arity asked sizes (i + 1) r
       reserving-more possible r better = record {
@@ -75,7 +74,7 @@ module _ {claims : List ℤ} {predicate count arity asked : ℕ} {sizes : List �
       over {q} {cs} stands = reserving .tells q cs stands ∙ ap (resumed q best (i + 1)) (drop-of-length-le cs {i = i} (omega (arith, stands .all)))
 
       pub reserving-bounded : (best .claim ≡ 0 → ⊥) → ReservesBy claims predicate count arity asked sizes (Bounded best)
-      reserving-bounded some = record { tells = λ q cs stands. sym (over stands ∙ rw (eqb-different (best .claim) 0 some)) }
+      reserving-bounded some = record { tells = λ q cs stands. sym (over stands ∙ rw (eqb-different (best .claim) 0 some)); passesNone = refl }
 
       pub reserving-unbounded : best .claim ≡ 0 → ReservesBy claims predicate count arity asked sizes NoBound
-      reserving-unbounded none = record { tells = λ q cs stands. sym (over stands ∙ rw (equal-eqb (best .claim) 0 none)) }
+      reserving-unbounded none = record { tells = λ q cs stands. sym (over stands ∙ rw (equal-eqb (best .claim) 0 none)); passesNone = refl }

@@ -10,7 +10,7 @@ use Rattle.integers.proofs.Truth.{eqb-different}
 use Rattle.theory.specs.Packs.{Claim}
 use Rattle.theory.specs.Reserve.{Query, isUsable, boundBy, Fields, fields, Usable, usableFrom, impossibles, smallest, bounded, impossibleOr}
 use Rattle.theory.specs.declared.Bound.{Bound}
-use Rattle.theory.proofs.UsableClaims.{entry, isImpossible}
+use Rattle.theory.proofs.Reserving.UsableClaims.{entry, isImpossible}
 use Rattle.bounds.specs.Bounds.{boundOf, smallerOf, reservationFrom}
 
 -- what the best bound of all claims says; claim 0 stands for none

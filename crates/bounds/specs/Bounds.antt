@@ -2,15 +2,15 @@
 use mathlib.Core.Path.{_≡_}
 use mathlib.Core.Bool.{Bool, true, false, cond, not, _&&_}
 use mathlib.Core.List.{List}
+use mathlib.Core.Option.{none}
 use Prim.Native.Nat.{ℕ, _+_, _*_, _<_, _^_}
 use lib.Dec.{eqb, ltb}
 use lib.IntN.{ℤ, pos, natAbs, _*ℤ_}
 use lib.ListN.{length, getD}
 use lib.Signed.{ltZ}
-use Rattle.theory.specs.Packs.{Claim}
-use Rattle.theory.specs.Faults.{noClaim}
+use Rattle.theory.specs.Packs.{Claim, noClaim}
 use Rattle.theory.specs.Reserve.{Query, unknownsAtMostZero, isUsable, numerator, boundBy, Fields, usableFrom, impossibles, bounded, impossibleOr}
-use Rattle.theory.specs.Answers.{fieldsOf}
+use Rattle.theory.specs.Answers.{reservedFields, passedOn}
 use Rattle.theory.specs.declared.Bound.{Bound}
 use Rattle.theory.specs.declared.Reservation.{Reservation}
 use Rattle.tables.specs.Tables.{ClaimAt}
@@ -73,5 +73,7 @@ pub record ClaimsStand (claims : List ℤ) (predicate count arity asked : ℕ) (
   pub asks : asked ≡ q .asked
   pub stand : SizesStand sizes (q .sizes)
 
+-- what they say of the query; and it is never a pack's refusal
 pub record ReservesBy (claims : List ℤ) (predicate count arity asked : ℕ) (sizes : List ℕ) (r : Reservation) : Type 0 where
-  pub tells : (q : Query) (cs : List Claim) → ClaimsStand claims predicate count arity asked sizes q cs → fieldsOf r ≡ reservationFrom 1 q cs
+  pub tells : (q : Query) (cs : List Claim) → ClaimsStand claims predicate count arity asked sizes q cs → reservedFields r ≡ reservationFrom 1 q cs
+  pub passesNone : passedOn r ≡ none

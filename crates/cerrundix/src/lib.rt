@@ -1,10 +1,10 @@
 // The calls as the terminal's firmware makes them, in C: each answer is one 64-bit word.
 ghost use mathlib.Core.Path.{_≡_};
 ghost use Prim.Native.Nat.{_^_, _<_};
+ghost use Rattle.theory.specs.Words.{checkWord, reserveWord, measureWord};
 ghost use Rattle.theory.specs.Check.{numbers, checkOf};
 ghost use Rattle.theory.specs.Measure.{measured, measureOf};
 ghost use Rattle.theory.specs.Reserve.{fields, reserveOf};
-ghost use Rattle.theory.specs.Program.{checkWord, reserveWord, measureWord};
 use answers::Four;
 use answers::Three;
 use answers::Two;

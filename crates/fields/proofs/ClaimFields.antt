@@ -10,9 +10,9 @@ use lib.Seq.{getD-set-same, getD-set-other}
 use mir.Facts.{toZ-ofZ, sfits-widen}
 use mir.Syntax.{w16}
 use mir.Val.{toZ, ofZ}
+use Rattle.theory.specs.Lists.{isSome}
 use Rattle.theory.specs.Text.{Bytes, integer}
-use Rattle.theory.specs.Faults.{isSome}
-use Rattle.theory.proofs.Spelling.{integer-within}
+use Rattle.theory.proofs.Reading.Spelling.{integer-within}
 use Rattle.text.specs.declared.Integer.{Integer}
 use Rattle.text.specs.declared.Integer.the-variants.{Signed, NoInteger}
 use Rattle.text.specs.Numbers.{integerOf}

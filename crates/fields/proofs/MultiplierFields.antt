@@ -7,9 +7,9 @@ use native.Mathlib.Omega.{arith}
 use lib.IntN.{ℤ, pos, natAbs, _-ℤ_, _*ℤ_}
 use lib.ListN.{getD}
 use Rattle.integers.proofs.Difference.{diff-eq, to-diff, by-diff₂}
+use Rattle.theory.specs.Lists.{isSome}
 use Rattle.theory.specs.Text.{Bytes, natural}
-use Rattle.theory.specs.Faults.{isSome}
-use Rattle.theory.proofs.Spelling.{natural-within}
+use Rattle.theory.proofs.Reading.Spelling.{natural-within}
 use Rattle.text.specs.declared.Natural.{Natural}
 use Rattle.text.specs.declared.Natural.the-variants.{Whole, NoNatural}
 use Rattle.text.specs.Numbers.{naturalOf}

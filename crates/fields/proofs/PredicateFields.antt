@@ -9,11 +9,12 @@ use lib.Dec.{eqb}
 use lib.ListN.{length, getD, set, length-set}
 use lib.Seq.{getD-set-same, getD-set-other}
 use Rattle.integers.proofs.Truth.{equal-eqb, eqb-different, and-not-right, or-left, or-right, or-neither}
+use Rattle.theory.specs.Lists.{isSome}
 use Rattle.theory.specs.Text.{Bytes, bytes, same, natural}
 use Rattle.theory.specs.Packs.{Kind, given, ruled}
 use Rattle.theory.specs.Written.{kindFrom}
-use Rattle.theory.specs.Faults.{isSome, isKind}
-use Rattle.theory.proofs.Spelling.{natural-within}
+use Rattle.theory.specs.Faults.{isKind}
+use Rattle.theory.proofs.Reading.Spelling.{natural-within}
 use Rattle.text.specs.declared.Natural.{Natural}
 use Rattle.text.specs.declared.Natural.the-variants.{Whole, NoNatural}
 use Rattle.text.specs.Numbers.{naturalOf}

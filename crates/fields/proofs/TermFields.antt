@@ -11,7 +11,7 @@ use lib.Seq.{getD-set-other}
 use Rattle.theory.specs.Text.{Bytes}
 use Rattle.theory.specs.Faults.{isTerm}
 use Rattle.theory.specs.Terms.{readTerm}
-use Rattle.theory.proofs.Presence.{is-some}
+use Rattle.theory.proofs.Reading.Presence.{is-some}
 use Rattle.terms.specs.Tokens.{ConstantRead}
 use Rattle.terms.specs.Rows.{RowFits, Counted}
 use Rattle.terms.proofs.RowStores.{small-stored}

@@ -7,9 +7,10 @@ use Prim.Native.Nat.{ℕ, suc, _+_, _*_, _≤_, _<_}
 use mathlib.Core.Logic.{_⊎_}
 use lib.IntN.{ℤ, pos, natAbs}
 use lib.ListN.{length, getD, set}
+use Rattle.theory.specs.Lists.{isSome}
 use Rattle.theory.specs.Text.{Bytes, natural, integer}
 use Rattle.theory.specs.Written.{kindFrom}
-use Rattle.theory.specs.Faults.{isSome, isKind, isClaimNumber, isTerm, isMultiplier}
+use Rattle.theory.specs.Faults.{isKind, isClaimNumber, isTerm, isMultiplier}
 use Rattle.terms.specs.Tokens.{ConstantRead}
 use Rattle.terms.specs.Rows.{Counted}
 use Rattle.tables.specs.declared.Fielded.{Fielded}

@@ -9,7 +9,7 @@ use lib.Dec.{ltb}
 use Rattle.integers.proofs.Truth.{by-truth, ltb-lt, ltb-ge}
 use Rattle.theory.specs.Text.{Bytes}
 use Rattle.theory.specs.Forms.{Form as NamedForm, zeroForm, plus as plusNamed, times as timesNamed}
-use Rattle.theory.proofs.FormBounds.{Within as WithinNamed}
+use Rattle.theory.proofs.Soundness.FormBounds.{Within as WithinNamed}
 use Rattle.forms.specs.declared.Form.{Form}
 use Rattle.forms.specs.Sums.{at, Within, Zero, Sum, Multiple, StandsFor}
 

@@ -3,7 +3,7 @@ ghost use Prim.Native.Nat.{_≤_, _^_};
 ghost use lib.IntN.{natAbs};
 ghost use Rattle.forms.specs.Sums.{Within, Zero, Sum, Multiple};
 
-/// A constant and a whole number for each variable of a rule.
+/// A form over the variables of one rule: its constant, then a coefficient for each of them.
 pub struct Form {
     pub constant: i64,
     pub coefficients: [i64; 16],

@@ -6,10 +6,11 @@ use native.Mathlib.Decide.{ℕ-discrete}
 use native.Mathlib.Omega.{arith}
 use lib.ListN.{length, getD, drop}
 use Rattle.integers.proofs.Truth.{equal-eqb, eqb-different}
-use Rattle.theory.specs.Text.{Bytes, bytes, same, every, partsAt, fieldsOf}
+use Rattle.theory.specs.Lists.{every}
+use Rattle.theory.specs.Text.{Bytes, bytes, same, partsAt, fieldsOf}
 use Rattle.theory.specs.Written.{Letter, P, C, H, B, M, E, noLetter, letterOf, lineLetter, field}
-use Rattle.theory.proofs.Letters.{letterField, by-letter}
-use Rattle.theory.proofs.Separators.{isFree, parts-cons}
+use Rattle.theory.proofs.Reading.Letters.{letterField, by-letter}
+use Rattle.theory.proofs.Reading.Separators.{isFree, parts-cons}
 use Rattle.text.specs.Scans.{part, partsFrom}
 use Rattle.text.proofs.Cuts.{parts-all, parts-step}
 use Rattle.text.proofs.Parts.{part-more}

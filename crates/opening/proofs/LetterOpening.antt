@@ -10,8 +10,8 @@ use Rattle.integers.proofs.Truth.{not-true}
 use Rattle.theory.specs.Text.{Bytes, partsAt, fieldsOf}
 use Rattle.theory.specs.Written.{Letter, P, H, M, E, Written}
 use Rattle.theory.specs.Faults.{isComplete, mayStand}
-use Rattle.theory.proofs.Completeness.{rule-from-incomplete}
-use Rattle.theory.proofs.Presence.{some-is, none-is}
+use Rattle.theory.proofs.Judging.Completeness.{rule-from-incomplete}
+use Rattle.theory.proofs.Reading.Presence.{some-is, none-is}
 use Rattle.tables.specs.declared.State.{State}
 use Rattle.tables.specs.declared.Opened.{Opened}
 use Rattle.tables.specs.Tables.{SafeState, SafeFacts, predicateAt, Outline}

@@ -7,10 +7,11 @@ use Prim.Native.Nat.{ℕ, _+_}
 use lib.Dec.{eqb}
 use lib.ListN.{length, drop}
 use Rattle.integers.proofs.Truth.{equal-eqb, eqb-different}
+use Rattle.theory.specs.Lists.{isSome}
 use Rattle.theory.specs.Text.{Bytes, isName}
 use Rattle.theory.specs.Packs.{Predicate, Key, Pack, key, keyOf, claimKey, atomKey, declaredAs, claimsOnAll}
 use Rattle.theory.specs.Written.{Letter, P, C, H, B, M, E, noLetter, field, predicateFrom, claimFrom, atomFrom}
-use Rattle.theory.specs.Faults.{Test, test, firstOf, isSome, arityIn, givenIn, lastRule, predicateTests, claimTests, atomTests, headTests, subgoalTests, multiplierTests, tests}
+use Rattle.theory.specs.Faults.{Test, test, firstOf, arityIn, givenIn, lastRule, predicateTests, claimTests, atomTests, headTests, subgoalTests, multiplierTests, tests}
 
 -- ---- one test
 

@@ -9,8 +9,8 @@ use lib.ListN.{length}
 use Rattle.integers.proofs.Truth.{by-truth}
 use Rattle.theory.specs.Text.{Bytes, isName}
 use Rattle.theory.specs.Packs.{Predicate, Key, key, sameKey, keyOf, declaredAs}
-use Rattle.theory.proofs.Keys.{sameKey-refl, sameKey-equal}
-use Rattle.theory.proofs.Spelling.{name-bytes}
+use Rattle.theory.proofs.Judging.Keys.{sameKey-refl, sameKey-equal}
+use Rattle.theory.proofs.Reading.Spelling.{name-bytes}
 use Rattle.text.specs.Words.{wordsOf, PlaceOf}
 use Rattle.text.proofs.WordLaws.{words-equal}
 use Rattle.tables.specs.Tables.{predicateAt, Declares}

@@ -7,10 +7,12 @@ use native.Mathlib.Omega.{arith}
 use lib.Dec.{eqb, leb}
 use lib.ListN.{length, getD}
 use Rattle.integers.proofs.Truth.{never-both, and-not-right, or-left, not-true, not-false, leb-gt, equal-eqb, eqb-different}
+use Rattle.theory.specs.Lists.{isEmpty}
 use Rattle.theory.specs.Packs.{claimsOn}
 use Rattle.theory.specs.Written.{Letter, P, C, H, B, M, E, Written}
-use Rattle.theory.specs.Faults.{isEmpty, lastRule, headClaims, isComplete, mayStand}
-use Rattle.theory.proofs.Presence.{is-filled}
+use Rattle.theory.specs.Faults.{lastRule, headClaims, isComplete, mayStand}
+use Rattle.theory.proofs.Reading.Presence.{is-filled}
+use Rattle.theory.proofs.Judging.Sections.{predicates-stand, claims-stand}
 use Rattle.tables.specs.declared.State.{State}
 use Rattle.tables.specs.Tables.{SafeFacts, Outline}
 use Rattle.opening.specs.Opening.{byteOf, KnownLetter, Completes, Stands}
@@ -85,22 +87,19 @@ module _ (facts : List ℕ) (s : State) where
   module _ (letter : ℕ) (ended : s .ended ≡ false) where
     module _ (is : letter ≡ 80) where
       pub stands-predicate : s .claimed ≡ false → Stands letter facts s (eqb (s .rules) 0)
-      unfolding mayStand
       stands-predicate h =
           stands-as letter P is KnownLetter.p ended (eqb (s .rules) 0) (λ e f. omega arith) λ names w o.
-          rw (not-false (isEmpty (w .pack .claims)) (sym (o .claimed) ∙ h)) (sym (empty-as (w .pack .rules) (s .rules) (o .rules)))
+          rw (predicates-stand (w .pack), not-false (isEmpty (w .pack .claims)) (sym (o .claimed) ∙ h)) (sym (empty-as (w .pack .rules) (s .rules) (o .rules)))
 
       pub stands-late-predicate : s .claimed ≡ true → Stands letter facts s false
-      unfolding mayStand
       stands-late-predicate h =
           stands-as letter P is KnownLetter.p ended false (λ e f. omega arith) λ names w o.
-          rw (not-true (isEmpty (w .pack .claims)) (sym (o .claimed) ∙ h))
+          rw (predicates-stand (w .pack), not-true (isEmpty (w .pack .claims)) (sym (o .claimed) ∙ h))
 
     pub stands-claim : letter ≡ 67 → Stands letter facts s (eqb (s .rules) 0)
-    unfolding mayStand
     stands-claim is =
         stands-as letter C is KnownLetter.c ended (eqb (s .rules) 0) (λ e f. omega arith) λ names w o.
-        sym (empty-as (w .pack .rules) (s .rules) (o .rules))
+        rw (claims-stand (w .pack)) (sym (empty-as (w .pack .rules) (s .rules) (o .rules)))
 
     module _ (is : letter ≡ 66) where
       pub stands-early-subgoal : s .rules ≡ 0 → Stands letter facts s false

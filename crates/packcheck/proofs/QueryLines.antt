@@ -11,7 +11,7 @@ use Rattle.theory.specs.Text.{Bytes, linesOf}
 use Rattle.theory.specs.Packs.{textOf}
 use Rattle.theory.specs.Reserve.{Fields, fields, reserveOf}
 use Rattle.theory.specs.Program.{printedFields}
-use Rattle.theory.specs.Answers.{fieldsOf}
+use Rattle.theory.specs.Answers.{reservedFields}
 use Rattle.theory.specs.declared.Verdict.{Verdict}
 use Rattle.theory.specs.declared.Reservation.{Reservation}
 use Rattle.answers.specs.declared.Three.{Three}
@@ -40,7 +40,7 @@ module _ {input : Bytes} {from : ℕ} {verdict : Verdict} {names facts : List �
 
   pub queries-more : {page behind : List ℕ} {at r end q : ℕ} (answer : Reservation) (three : Three) → QueriesPut input from verdict names facts claims known page₀ written page at r
       → at < length input → length input ≤ 65536 → 589888 ≤ length page₀ → Finds input 10 at end → ((text : Bytes) × PackHeld text verdict names facts claims known)
-      → Responds verdict (part input at end) names facts claims known answer → fields (three .letter) (three .middle) (three .claim) ≡ fieldsOf answer
+      → Responds verdict (part input at end) names facts claims known answer → fields (three .letter) (three .middle) (three .claim) ≡ reservedFields answer
       → Puts (textOf (printedFields (fields (three .letter) (three .middle) (three .claim)) ∷ [])) (midOf r (length page - r) page) behind q → q ≤ 27
       → QueriesPut input from verdict names facts claims known page₀ written (putMid r (length page - r) page behind) (end + 1) (r + q)
   queries-more {page} {behind} {at} {r} {end} {q} answer three put inside short room found some responds is puts few =

@@ -1,56 +1,41 @@
 -- The page is large enough: each query prints at most nine bytes for each byte of its line, byte 10 included.
 use mathlib.Core.Path.{_≡_, refl, sym, _∙_}
-use mathlib.Core.Bool.{Bool, cond}
-use mathlib.Core.List.{List, [], _∷_}
+use mathlib.Core.List.{[], _∷_}
 use Prim.Native.Nat.{ℕ, _+_, _-_, _*_, _≤_}
 use native.Mathlib.Omega.{arith}
-use lib.Dec.{eqb}
 use lib.ListN.{length, drop, length-map, length-drop}
-use Rattle.integers.proofs.Truth.{by-truth}
-use Rattle.theory.specs.Text.{Bytes, onFirst, partsAt, fieldsOf as fieldsIn}
+use Rattle.theory.specs.Text.{Bytes, fieldsOf}
 use Rattle.theory.specs.Packs.{textOf}
 use Rattle.theory.specs.Written.{packOf}
 use Rattle.theory.specs.Reserve.{Fields, fields, queryFrom, queryOf, reserveOf}
 use Rattle.theory.specs.Program.{printedFields}
-use Rattle.theory.specs.Answers.{refusalNumbers, queryNumber, fieldsOf}
+use Rattle.theory.specs.Answers.{refusalNumbers, queryNumber, reservedFields}
 use Rattle.theory.specs.declared.Reservation.{Reservation}
 use Rattle.theory.specs.declared.Reservation.the-variants.{Bounded, NoBound, Impossible, PackRefused, QueryRefused}
-use Rattle.theory.proofs.DemandThree.{sound-from-verdict}
-use Rattle.theory.proofs.RefusalNumbers.{refusal-number, query-number}
-use Rattle.theory.proofs.ReserveAnswers.{Answered, answered, asks}
+use Rattle.theory.proofs.Judging.Acceptance.{accepted-pack}
+use Rattle.theory.proofs.Reserving.RefusalNumbers.{refusal-number, query-number}
+use Rattle.theory.proofs.Reserving.ReserveAnswers.{Answered, answered, asks}
+use Rattle.theory.proofs.Reading.TermLengths.{parts-count}
 use Rattle.pages.proofs.Decimals.{digits-one, digits-few}
 use Rattle.replies.proofs.PrintedLines.{fields-length}
 
--- a byte string has at most one part more than bytes
-on-first-few : (b : ℕ) (parts : List Bytes) → length (onFirst b parts) ≤ length parts + 1
-on-first-few b [] = omega arith
-on-first-few b (part ∷ parts) = omega arith
-
-parts-few : (separator : ℕ) (bs : Bytes) → length (partsAt separator bs) ≤ length bs + 1
-unfolding partsAt
-parts-few separator [] = omega arith
-parts-few separator (b ∷ bs) =
-    by-truth (λ (t : Bool). length (cond t ([] ∷ partsAt separator bs) (onFirst b (partsAt separator bs))) ≤ length (b ∷ bs) + 1) (eqb b separator)
-    (λ _. omega (arith, parts-few separator bs))
-    (λ _. omega (arith, parts-few separator bs, on-first-few b (partsAt separator bs)))
-
-sizes-count : (query : Bytes) → length (queryOf query .sizes) ≡ length (fieldsIn query) - 2
+sizes-count : (query : Bytes) → length (queryOf query .sizes) ≡ length (fieldsOf query) - 2
 unfolding queryOf queryFrom
-sizes-count query = length-map (drop 2 (fieldsIn query)) _ ∙ length-drop 2 (fieldsIn query)
+sizes-count query = length-map (drop 2 (fieldsOf query)) _ ∙ length-drop 2 (fieldsOf query)
 
 -- a query that is answered has two commas at least
 answered-long : (text query : Bytes) (x : Fields) → Answered text query x → 2 ≤ length query
 answered-long text query x a =
     let p = packOf text in
-    let k = asks p (sound-from-verdict text (a .accepted) .fits .predicates) query (a .faultless) in
-    omega (arith, k .full, k .within, sizes-count query, parts-few 44 query)
+    let k = asks p (accepted-pack text (a .accepted) .fits .formed .predicates) query (a .faultless) in
+    omega (arith, k .full, k .within, sizes-count query, parts-count 44 query)
 
 refused-short : (n : ℕ) → n ≤ 18 → length (textOf (printedFields (fields 82 n 0) ∷ [])) ≤ 7
 refused-short n h = omega (arith, fields-length 82 n 0, digits-few 1 n (omega arith), digits-one 0 (omega arith))
 
-pub line-fits : (text query : Bytes) (answer : Reservation) (q : ℕ) → fieldsOf answer ≡ reserveOf text query → q ≡ length (textOf (printedFields (fieldsOf answer) ∷ [])) → q ≤ 27 → q ≤ 9 * (length query + 1)
-line-fits text query (Bounded b) q is many few = omega (arith, answered-long text query _ (answered text query (fieldsOf (Bounded b)) refl (sym is)))
+pub line-fits : (text query : Bytes) (answer : Reservation) (q : ℕ) → reservedFields answer ≡ reserveOf text query → q ≡ length (textOf (printedFields (reservedFields answer) ∷ [])) → q ≤ 27 → q ≤ 9 * (length query + 1)
+line-fits text query (Bounded b) q is many few = omega (arith, answered-long text query _ (answered text query (reservedFields (Bounded b)) refl (sym is)))
 line-fits text query NoBound q is many few = omega (arith, fields-length 78 0 0, digits-one 0 (omega arith))
-line-fits text query (Impossible c) q is many few = omega (arith, answered-long text query _ (answered text query (fieldsOf (Impossible c)) refl (sym is)))
+line-fits text query (Impossible c) q is many few = omega (arith, answered-long text query _ (answered text query (reservedFields (Impossible c)) refl (sym is)))
 line-fits text query (PackRefused r) q is many few = omega (arith, refused-short (refusalNumbers r .number) (omega (arith, refusal-number r)))
 line-fits text query (QueryRefused r) q is many few = omega (arith, refused-short (queryNumber r) (query-number r))

@@ -10,14 +10,15 @@ use lib.ListN.{length, getD, drop, length-drop}
 use lib.Seq.{take-length}
 use Rattle.integers.proofs.Lists.{getD-member, member-getD}
 use Rattle.integers.proofs.Truth.{by-truth, never-both, ltb-lt, ltb-ge, lt-ltb, ge-ltb}
-use Rattle.theory.specs.Text.{Bytes, every, fieldsOf}
+use Rattle.theory.specs.Lists.{every}
+use Rattle.theory.specs.Text.{Bytes, fieldsOf}
 use Rattle.theory.specs.Terms.{allVariables}
 use Rattle.theory.specs.Packs.{Pack, Key}
 use Rattle.theory.specs.Written.{Written, termsFrom}
 use Rattle.theory.specs.Residuals.{numbered}
 use Rattle.theory.specs.Faults.{isTerm, firstOf, atomTests}
-use Rattle.theory.proofs.Every.{every-member, members-every}
-use Rattle.theory.proofs.TermFields.{terms-arity}
+use Rattle.theory.proofs.Reading.Every.{every-member, members-every}
+use Rattle.theory.proofs.Reading.TermFields.{terms-arity}
 use Rattle.terms.specs.Rows.{Holds as HoldsVariables}
 use Rattle.tables.specs.declared.State.{State}
 use Rattle.tables.specs.declared.Opened.{Opened}

@@ -12,11 +12,13 @@ use lib.ListN.{length, getD, set, drop, length-set, length-map, length-drop}
 use lib.Seq.{getD-set-other}
 use Rattle.integers.proofs.Truth.{leb-gt}
 use Rattle.integers.proofs.Lists.{length-end}
-use Rattle.theory.specs.Text.{Bytes, every, integer, fieldsOf}
+use Rattle.theory.specs.Lists.{every}
+use Rattle.theory.specs.Text.{Bytes, integer, fieldsOf}
 use Rattle.theory.specs.Packs.{claimKey, claimsOn, claimLimit, numberLimit}
 use Rattle.theory.specs.Written.{C, Written, write, claimFrom, integerFrom, add}
-use Rattle.theory.specs.Faults.{isClaimNumber, firstOf, mayStand, claimTests, tests, fault}
-use Rattle.theory.proofs.Presence.{some-is, is-empty, filled-is}
+use Rattle.theory.specs.Faults.{isClaimNumber, firstOf, claimTests, tests, fault}
+use Rattle.theory.proofs.Reading.Presence.{some-is, is-empty, filled-is}
+use Rattle.theory.proofs.Judging.Sections.{claims-stand}
 use Rattle.tables.specs.declared.State.{State}
 use Rattle.tables.specs.declared.Opened.{Opened}
 use Rattle.tables.specs.declared.Fielded.{Fielded}
@@ -71,7 +73,7 @@ c-holds : (line : Bytes) (t : Tables) (s : State) (w : Written) (o : Opened) (ro
     count < 16
     → Laid (t .claims) ((o .predicate * 16 + count) * 9) row (getD (t .facts) (o .predicate) 0) claims
     → Holds (tables (t .names) (set (t .facts) (64 + o .predicate) (count + 1)) claims (t .variables) (t .numbers) (t .slots)) (withClaim s) (record { pack = add C (fieldsOf line) (w .pack); ended = w .ended || false })
-unfolding add mayStand claimFrom
+unfolding add claimFrom
 c-holds line t s w o row claims holds safe passed done room laid =
     let fields = fieldsOf line in
     let ps = w .pack .predicates in
@@ -94,7 +96,7 @@ c-holds line t s w o row claims holds safe passed done room laid =
       claimed = rw (filled-is (cs ++ (c ∷ [])) (λ e. omega (arith, length-end cs c, ap length e)));
       rules = holds .rules;
       lines = holds .lines;
-      last = λ some. absurd (some (is-empty (w .pack .rules) (passed .stands)));
+      last = λ some. absurd (some (is-empty (w .pack .rules) (sym (claims-stand (w .pack)) ∙ passed .stands)));
       ended = rw (holds .ended, passed .unended);
     }
 

@@ -13,11 +13,10 @@ use lib.Seq.{getD-set-same, getD-set-other, getD-drop}
 use Rattle.integers.proofs.Truth.{by-truth, eqb-equal, eqb-unequal, leb-le, leb-gt, ltb-lt, ltb-ge}
 use Rattle.integers.proofs.Lists.{length-end}
 use Rattle.theory.specs.Text.{Bytes, integer}
-use Rattle.theory.specs.Packs.{Predicate, Claim, sameKey, keyOf, claimKey, claimsOn}
+use Rattle.theory.specs.Packs.{Predicate, Claim, sameKey, keyOf, claimKey, claimsOn, noClaim}
 use Rattle.theory.specs.Written.{field, integerFrom, claimFrom}
-use Rattle.theory.specs.Faults.{noClaim}
-use Rattle.theory.proofs.ClaimsOn.{claimsOn-append, claimsOn-kept, claimsOn-left-out}
-use Rattle.theory.proofs.Keys.{sameKey-refl, sameKey-equal}
+use Rattle.theory.proofs.Judging.ClaimsOn.{claimsOn-append, claimsOn-kept, claimsOn-left-out}
+use Rattle.theory.proofs.Judging.Keys.{sameKey-refl, sameKey-equal}
 use Rattle.tables.specs.Tables.{ClaimAt, HoldsClaims, SafeFacts, predicateAt}
 use Rattle.closing.specs.Closing.{Laid}
 use Rattle.packs.specs.Progress.{ProgressC}

@@ -13,7 +13,7 @@ use Rattle.integers.proofs.Truth.{by-truth, never-both, ltb-lt, ltb-ge}
 use Rattle.integers.proofs.Lists.{length-end}
 use Rattle.theory.specs.Text.{isName}
 use Rattle.theory.specs.Packs.{Predicate, Key, sameKey, keyOf, declaredAs, claimsOn}
-use Rattle.theory.proofs.Keys.{sameKey-refl}
+use Rattle.theory.proofs.Judging.Keys.{sameKey-refl}
 use Rattle.text.specs.Words.{wordsOf, wordsAt}
 use Rattle.tables.specs.Tables.{Declares, HoldsClaims, noPredicate, predicateAt, flag}
 use Rattle.packs.proofs.Places.{each-and-last}

@@ -10,9 +10,10 @@ use lib.IntN.{ℤ, pos, natAbs}
 use lib.ListN.{length, getD, drop, replicate, length-take, length-drop}
 use lib.Seq.{drop-drop, getD-drop}
 use Rattle.integers.proofs.Lists.{same-everywhere}
+use Rattle.theory.specs.Lists.{isSome}
 use Rattle.theory.specs.Text.{Bytes, natural, fieldsOf}
 use Rattle.theory.specs.Written.{Letter, P, C, H, B, M, E, noLetter, Written}
-use Rattle.theory.specs.Faults.{fault, isKind, isClaimNumber, isMultiplier, isTerm, isSome}
+use Rattle.theory.specs.Faults.{fault, isKind, isClaimNumber, isMultiplier, isTerm}
 use Rattle.text.specs.Scans.{part, partsFrom, Finds}
 use Rattle.text.proofs.Cuts.{parts-step, parts-done}
 use Rattle.tables.specs.declared.State.{State}

@@ -1,12 +1,12 @@
 -- Tables of zeros, and the state before any line: they stand for a pack of nothing.
 use mathlib.Core.Path.{_≡_, refl, subst⁻¹}
-use Prim.Native.Nat.{ℕ, _+_, _<_}
+use Prim.Native.Nat.{ℕ, _+_}
 use native.Mathlib.Omega.{arith}
 use lib.IntN.{pos}
 use lib.ListN.{length-replicate}
 use Rattle.integers.proofs.Lists.{same-everywhere}
+use Rattle.theory.specs.Lists.{isEmpty}
 use Rattle.theory.specs.Written.{nothing}
-use Rattle.theory.specs.Faults.{isEmpty}
 use Rattle.theory.specs.Check.{multiplierLines}
 use Rattle.tables.specs.declared.State.{State}
 use Rattle.tables.specs.Tables.{Tables, Holds, NoWeights, Safe}

@@ -8,15 +8,16 @@ use lib.IntN.{ℤ}
 use lib.ListN.{length, drop}
 use Rattle.integers.proofs.Lists.{length-end}
 use Rattle.integers.proofs.Truth.{leb-gt, ltb-ge}
+use Rattle.theory.specs.Lists.{ending}
 use Rattle.theory.specs.Text.{Bytes, fieldsOf}
 use Rattle.theory.specs.Terms.{allVariables}
-use Rattle.theory.specs.Packs.{Rule, atomKey}
+use Rattle.theory.specs.Packs.{Rule, headAlone, onRules, atomKey}
 use Rattle.theory.specs.Written.{H, Written, write, atomFrom, termsFrom, add}
 use Rattle.theory.specs.Residuals.{numbered, atomsVariables, ruleVariables}
 use Rattle.theory.specs.Faults.{noRule, headTests, tests, fault}
-use Rattle.theory.proofs.LastRule.{lastOf-end}
-use Rattle.theory.proofs.TermFields.{terms-arity}
-use Rattle.theory.proofs.Variables.{once-none}
+use Rattle.theory.proofs.Judging.LastRule.{lastOf-end}
+use Rattle.theory.proofs.Reading.TermFields.{terms-arity}
+use Rattle.theory.proofs.Judging.Variables.{once-none}
 use Rattle.tables.specs.declared.State.{State}
 use Rattle.tables.specs.declared.Opened.{Opened}
 use Rattle.tables.specs.declared.Fielded.{Fielded}
@@ -55,7 +56,7 @@ pub record ClosedH (line : Bytes) (w : Written) (t : Tables) (variables : List �
 
 -- the rule that a line with these fields begins
 abbrev begun : List Bytes → Rule
-begun fields = record { head = atomFrom fields; subgoals = []; multipliers = [] }
+begun fields = headAlone (atomFrom fields)
 
 abbrev headVariables : List Bytes → List Bytes
 headVariables fields = ruleVariables (atomFrom fields) []
@@ -69,9 +70,9 @@ module _ (line : Bytes) (t : Tables) (s : State) (w : Written) (o : Opened) (man
   abbrev filled : Tables
   filled = tables (t .names) (t .facts) (t .claims) variables numbers (t .slots)
 
-  head-stands : (rules : List Rule) → RuleStands filled (withHead (o .predicate) many s) (record { predicates = w .pack .predicates; claims = w .pack .claims; rules = rules }) (begun (fieldsOf line))
+  head-stands : RuleStands filled (withHead (o .predicate) many s) (onRules (ending (begun (fieldsOf line))) (w .pack)) (begun (fieldsOf line))
   unfolding atomFrom mathlib.Core.List.flatMap
-  head-stands rules = record {
+  head-stands = record {
     head = named .below;
     headKey = named .is;
     headFull = terms-arity (drop 2 (fieldsOf line)) ∙ count-terms (atomKey (atomFrom (fieldsOf line))) line w o named;
@@ -93,7 +94,7 @@ module _ (line : Bytes) (t : Tables) (s : State) (w : Written) (o : Opened) (man
     claimed = holds .claimed;
     rules = omega (arith, holds .rules, length-end (w .pack .rules) (begun (fieldsOf line)));
     lines = omega (arith, holds .lines, multiplierLines-end (w .pack .rules) (begun (fieldsOf line)));
-    last = λ unempty. rw (lastOf-end noRule (w .pack .rules) (begun (fieldsOf line))) (head-stands _);
+    last = λ unempty. rw (lastOf-end noRule (w .pack .rules) (begun (fieldsOf line))) head-stands;
     ended = holds .ended;
   }
 

@@ -9,7 +9,7 @@ use lib.IntN.{ℤ, pos, negℤ, _+ℤ_, _-ℤ_, _*ℤ_, negℤ-+ℤ}
 use lib.ListN.{length, getD, length-map, List·getD-map}
 use Rattle.integers.proofs.Truth.{by-truth, ltb-lt, ltb-ge}
 use Rattle.theory.specs.Text.{Bytes, natural, isDecimal}
-use Rattle.theory.specs.Terms.{Term, arity}
+use Rattle.theory.specs.Terms.{Term, arity, structural}
 use Rattle.theory.specs.Forms.{zeroForm, formOf}
 use Rattle.theory.specs.Packs.{Claim, Atom, Rule, Pack}
 use Rattle.theory.specs.Written.{multiplierFrom}
@@ -28,18 +28,18 @@ rowAt numbers atom i k = getD numbers (81 + (atom * 8 + k) * 17 + i) (pos 0)
 pub same-place : (numbers : List ℤ) (a b : ℕ) → a ≡ b → getD numbers a (pos 0) ≡ getD numbers b (pos 0)
 same-place numbers a b e = ap (λ n. getD numbers n (pos 0)) e
 
-row-number : (numbers : List ℤ) (base : ℕ) (xs : List Bytes) (t : Term) (i : ℕ) → i < 17 → RowStands numbers base xs t → getD numbers (base + i) (pos 0) ≡ numberOf xs (formOf t) i
+row-number : (numbers : List ℤ) (base : ℕ) (xs : List Bytes) (t : Term) (i : ℕ) → i < 17 → RowStands numbers base xs t → getD numbers (base + i) (pos 0) ≡ numberOf xs (formOf structural t) i
 row-number numbers base xs t zero less row = same-place numbers (base + 0) base (omega arith) ∙ row .constant
 row-number numbers base xs t (suc i) less row =
     same-place numbers (base + suc i) (base + 1 + i) (omega arith)
-    ∙ by-truth (λ (b : Bool). getD numbers (base + 1 + i) (pos 0) ≡ numberOf xs (formOf t) (suc i)) (ltb i (length xs))
-    (λ e. row .coefficient i (ltb-lt i (length xs) e) ∙ sym (coefficient-at (formOf t .coefficient) xs i (ltb-lt i (length xs) e)))
-    (λ e. row .beyond i (ltb-ge i (length xs) e) (omega arith) ∙ sym (coefficient-beyond (formOf t .coefficient) xs i (ltb-ge i (length xs) e)))
+    ∙ by-truth (λ (b : Bool). getD numbers (base + 1 + i) (pos 0) ≡ numberOf xs (formOf structural t) (suc i)) (ltb i (length xs))
+    (λ e. row .coefficient i (ltb-lt i (length xs) e) ∙ sym (coefficient-at (formOf structural t .coefficient) xs i (ltb-lt i (length xs) e)))
+    (λ e. row .beyond i (ltb-ge i (length xs) e) (omega arith) ∙ sym (coefficient-beyond (formOf structural t .coefficient) xs i (ltb-ge i (length xs) e)))
 
 -- a claim's numbers as the weights of an atom
 claim-number : (numbers : List ℤ) (atom : ℕ) (xs : List Bytes) (a : Atom) (claims : List ℤ) (place : ℕ) (c : Claim) (i : ℕ) → i < 17
     → AtomStands numbers atom xs (a .terms) → ClaimAt claims place c → length (c .coefficients) ≡ arity (a .terms)
-    → weighted (λ j. getD claims (place + j) (pos 0)) (rowAt numbers atom i) i ≡ numberOf xs (claimForm a c) i
+    → weighted (λ j. getD claims (place + j) (pos 0)) (rowAt numbers atom i) i ≡ numberOf xs (claimForm structural a c) i
 claim-number numbers atom xs a claims place c i less stands numbered full =
     number-claim xs (λ j. getD claims (place + j) (pos 0)) (rowAt numbers atom i) i a c full (stands .few)
     (same-place claims (place + 0) place (omega arith) ∙ numbered .constant)
@@ -77,7 +77,7 @@ partAfter numbers claims slots fs i index s = weighted (λ j. weightAfter claims
 
 -- a multiplier times its form
 abbrev taken : List Claim → List Atom → List Bytes → List Bytes → ℕ → ℕ → ℤ
-taken cs subgoals xs fs i k = pos (multiplierFrom (at fs k)) *ℤ numberOf xs (getD (subgoalForms cs subgoals) k zeroForm) i
+taken cs subgoals xs fs i k = pos (multiplierFrom (at fs k)) *ℤ numberOf xs (getD (subgoalForms structural cs subgoals) k zeroForm) i
 
 module _ (numbers claims : List ℤ) (slots : List ℕ) (cs : List Claim) (subgoals : List Atom) (xs fs : List Bytes) (i : ℕ) (less : i < 17)
     (rows : (s : ℕ) → s < length subgoals → AtomStands numbers (suc s) xs (subgoalAt subgoals s .terms)) where
@@ -104,7 +104,7 @@ module _ (numbers claims : List ℤ) (slots : List ℕ) (cs : List Claim) (subgo
       old : ℕ → ℕ → ℤ
       old s j = weightAfter claims slots fs s j k
 
-      form : weighted claim (row subgoal) i ≡ numberOf xs (getD (subgoalForms cs subgoals) k zeroForm) i
+      form : weighted claim (row subgoal) i ≡ numberOf xs (getD (subgoalForms structural cs subgoals) k zeroForm) i
       form = claim-number numbers (suc subgoal) xs (subgoalAt subgoals subgoal) claims (getD slots k 0) _ i less (rows subgoal (slot .subgoal)) (slot .claim) (slot .full)
           ∙ sym (ap (λ f. numberOf xs f i) (slot .form))
 
@@ -128,12 +128,12 @@ atoms-sum : (numbers : List ℤ) (i n : ℕ) → atomsSum numbers i (suc n) ≡ 
 atoms-sum numbers i n = atoms-below numbers i (suc n) ∙ sum-first (λ atom. atomSum numbers atom i) n
 
 all-taken : (cs : List Claim) (subgoals : List Atom) (xs fs : List Bytes) (i : ℕ)
-    → numberOf xs (combined (map multiplierFrom fs) (subgoalForms cs subgoals)) i ≡ sumBelow (taken cs subgoals xs fs i) (length fs)
+    → numberOf xs (combined (map multiplierFrom fs) (subgoalForms structural cs subgoals)) i ≡ sumBelow (taken cs subgoals xs fs i) (length fs)
 unfolding natural isDecimal
 all-taken cs subgoals xs fs i =
-    number-combined xs (map multiplierFrom fs) (subgoalForms cs subgoals) i
+    number-combined xs (map multiplierFrom fs) (subgoalForms structural cs subgoals) i
     ∙ (ap (sumBelow _) (length-map fs multiplierFrom)
-    ∙ sum-same _ (taken cs subgoals xs fs i) (length fs) (λ k less. ap (λ m. pos m *ℤ numberOf xs (getD (subgoalForms cs subgoals) k zeroForm) i) (List·getD-map multiplierFrom fs k [])))
+    ∙ sum-same _ (taken cs subgoals xs fs i) (length fs) (λ k less. ap (λ m. pos m *ℤ numberOf xs (getD (subgoalForms structural cs subgoals) k zeroForm) i) (List·getD-map multiplierFrom fs k [])))
 
 module _ (t : Tables) (s : State) (p : Pack) (r : Rule) (fs : List Bytes) (numbers weighed : List ℤ) (place : ℕ) (c : Claim)
     (stands : RuleStands t s p r) (few : length (r .subgoals) ≤ 8)
@@ -142,7 +142,7 @@ module _ (t : Tables) (s : State) (p : Pack) (r : Rule) (fs : List Bytes) (numbe
   row-kept : (atom i k : ℕ) → rowAt weighed atom i k ≡ rowAt (t .numbers) atom i k
   row-kept atom i k = head .above (81 + (atom * 8 + k) * 17 + i) (omega arith) ∙ progress .rows (81 + (atom * 8 + k) * 17 + i) (omega arith)
 
-  head-number : (i : ℕ) → i < 17 → atomSum weighed 0 i ≡ numberOf (ruleVariables (r .head) (r .subgoals)) (claimForm (r .head) c) i
+  head-number : (i : ℕ) → i < 17 → atomSum weighed 0 i ≡ numberOf (ruleVariables (r .head) (r .subgoals)) (claimForm structural (r .head) c) i
   head-number i less =
       atom-sum weighed 0 i (λ j. getD (t .claims) (place + j) (pos 0)) (rowAt (t .numbers) 0 i)
       (λ j below. same-place weighed (0 * 9 + j) j (omega arith) ∙ head .weight j below) (λ k below. row-kept 0 i k)
@@ -159,11 +159,11 @@ module _ (t : Tables) (s : State) (p : Pack) (r : Rule) (fs : List Bytes) (numbe
           atom-sum weighed (suc a) i (λ j. weightAfter (t .claims) (t .slots) fs a j (length fs)) (rowAt (t .numbers) (suc a) i)
           (λ j below. head .above (suc a * 9 + j) (omega arith) ∙ progress .weight a j (omega arith) below) (λ k below. row-kept (suc a) i k)
 
-  pub line-number : (i : ℕ) → i < 17 → atomsSum weighed i (suc (s .subgoals)) ≡ numberOf (ruleVariables (r .head) (r .subgoals)) (residual (p .claims) (r .head) (r .subgoals) c (map multiplierFrom fs)) i
+  pub line-number : (i : ℕ) → i < 17 → atomsSum weighed i (suc (s .subgoals)) ≡ numberOf (ruleVariables (r .head) (r .subgoals)) (residual structural (p .claims) (r .head) (r .subgoals) c (map multiplierFrom fs)) i
   unfolding residual
   line-number i less =
       let xs = ruleVariables (r .head) (r .subgoals) in
-      let forms = combined (map multiplierFrom fs) (subgoalForms (p .claims) (r .subgoals)) in
+      let forms = combined (map multiplierFrom fs) (subgoalForms structural (p .claims) (r .subgoals)) in
       atoms-sum weighed i (s .subgoals)
       ∙ (ap₂ _+ℤ_ (head-number i less) (subgoals-number i less ∙ ap negℤ (sym (all-taken (p .claims) (r .subgoals) xs fs i)))
-      ∙ sym (number-minus xs (claimForm (r .head) c) forms i))
+      ∙ sym (number-minus xs (claimForm structural (r .head) c) forms i))

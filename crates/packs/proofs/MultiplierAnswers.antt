@@ -10,13 +10,14 @@ use lib.ListN.{length, getD, drop, take, length-drop}
 use lib.Seq.{length-take-le, getD-take, ext-getD}
 use lib.Signed.{nonNeg}
 use Rattle.integers.proofs.Truth.{not-true}
-use Rattle.theory.specs.Text.{Bytes, every, fieldsOf}
+use Rattle.theory.specs.Lists.{every}
+use Rattle.theory.specs.Text.{Bytes, fieldsOf}
 use Rattle.theory.specs.Terms.{arity}
-use Rattle.theory.specs.Packs.{Key, claimsOn}
+use Rattle.theory.specs.Packs.{Key, claimsOn, noClaim}
 use Rattle.theory.specs.Written.{M, Written, multipliersFrom}
 use Rattle.theory.specs.Residuals.{isJustified}
-use Rattle.theory.specs.Faults.{firstOf, isMultiplier, lastRule, isComplete, mayStand, noClaim, claimDue, residualDue, multiplierTests, tests, fault}
-use Rattle.theory.proofs.Completeness.{rule-from-incomplete, due-from-incomplete}
+use Rattle.theory.specs.Faults.{firstOf, isMultiplier, lastRule, isComplete, mayStand, claimDue, residualDue, multiplierTests, tests, fault}
+use Rattle.theory.proofs.Judging.Completeness.{rule-from-incomplete, due-from-incomplete}
 use Rattle.tables.specs.declared.State.{State}
 use Rattle.tables.specs.declared.Opened.{Opened}
 use Rattle.tables.specs.declared.Closed.{Closed}

@@ -15,7 +15,7 @@ use Rattle.theory.specs.Text.{Bytes, natural, fieldsOf}
 use Rattle.theory.specs.Packs.{numberLimit}
 use Rattle.theory.specs.Written.{M, Written, write, multiplierFrom, multipliersFrom}
 use Rattle.theory.specs.Faults.{firstOf, isMultiplier, residualDue, multiplierTests, tests, fault}
-use Rattle.theory.proofs.Spelling.{natural-within}
+use Rattle.theory.proofs.Reading.Spelling.{natural-within}
 use Rattle.tables.specs.declared.State.{State}
 use Rattle.tables.specs.declared.Opened.{Opened}
 use Rattle.tables.specs.declared.Fielded.{Fielded}

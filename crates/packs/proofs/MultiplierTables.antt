@@ -4,19 +4,19 @@ use mathlib.Core.List.{List, [], _∷_, nil≢cons}
 use Prim.Native.Nat.{ℕ, suc, _+_, _*_, _≤_}
 use native.Mathlib.Omega.{arith}
 use lib.IntN.{ℤ, pos}
-use lib.ListN.{length, getD}
+use lib.ListN.{getD}
 use Rattle.integers.proofs.Lists.{length-end}
-use Rattle.theory.specs.Text.{Bytes, bytes, fieldsOf}
+use Rattle.theory.specs.Lists.{ending}
+use Rattle.theory.specs.Text.{Bytes, fieldsOf}
 use Rattle.theory.specs.Terms.{Term, Terms}
-use Rattle.theory.specs.Packs.{Rule}
-use Rattle.theory.specs.Written.{M, lineLetter, Written, withMultipliers, onLast, add, write, multipliersFrom}
+use Rattle.theory.specs.Packs.{Rule, onMultipliers, onRules}
+use Rattle.theory.specs.Written.{M, lineLetter, Written, onLast, add, write, multipliersFrom}
 use Rattle.theory.specs.Faults.{noRule, lastRule}
 use Rattle.theory.specs.Check.{multiplierLines}
-use Rattle.theory.proofs.LastRule.{last-changed}
-use Rattle.theory.proofs.Steps.{withLast}
+use Rattle.theory.proofs.Judging.LastRule.{last-changed}
 use Rattle.tables.specs.declared.State.{State}
 use Rattle.tables.specs.Tables.{Tables, tables, RowStands, AtomStands, RuleStands, Holds}
-use Rattle.closing.specs.Closing.{withMultipliers as countMultipliers}
+use Rattle.closing.specs.Closing.{withMultipliers}
 use Rattle.packs.proofs.RuleCounts.{length-onLast}
 use Rattle.packs.proofs.Passing.{writes-letter}
 
@@ -37,13 +37,13 @@ module _ (numbers₀ numbers : List ℤ) (kept : (i : ℕ) → 81 ≤ i → getD
 
 -- ---- what the line writes
 
-pub m-written : (w : Written) (line : Bytes) → lineLetter line ≡ M → write w line ≡ record { pack = withLast (withMultipliers (multipliersFrom (fieldsOf line))) (w .pack); ended = w .ended }
+pub m-written : (w : Written) (line : Bytes) → lineLetter line ≡ M → write w line ≡ record { pack = onRules (onLast (onMultipliers (ending (multipliersFrom (fieldsOf line))))) (w .pack); ended = w .ended }
 unfolding add
 m-written w line is = writes-letter M w line is refl
 
 -- ---- the last rule
 
-one-line-more : (ms : List ℕ) (rs : List Rule) → (rs ≡ [] → ⊥) → multiplierLines (onLast (withMultipliers ms) rs) ≡ suc (multiplierLines rs)
+one-line-more : (ms : List ℕ) (rs : List Rule) → (rs ≡ [] → ⊥) → multiplierLines (onLast (onMultipliers (ending ms)) rs) ≡ suc (multiplierLines rs)
 unfolding onLast multiplierLines
 one-line-more ms [] some = absurd (some refl)
 one-line-more ms (r ∷ []) some = omega (arith, length-end (r .multipliers) ms)
@@ -54,7 +54,7 @@ module _ (t : Tables) (s : State) (w : Written) (ms : List ℕ) (numbers : List 
   abbrev after : Tables
   after = tables (t .names) (t .facts) (t .claims) (t .variables) numbers (t .slots)
 
-  rule-after : RuleStands after (countMultipliers s) (withLast (withMultipliers ms) (w .pack)) (withMultipliers ms (lastRule (w .pack)))
+  rule-after : RuleStands after (withMultipliers s) (onRules (onLast (onMultipliers (ending ms))) (w .pack)) (onMultipliers (ending ms) (lastRule (w .pack)))
   rule-after =
       let rule = holds .last some in
       record {
@@ -71,14 +71,14 @@ module _ (t : Tables) (s : State) (w : Written) (ms : List ℕ) (numbers : List 
         multipliers = omega (arith, rule .multipliers, length-end (lastRule (w .pack) .multipliers) ms);
       }
 
-  pub m-holds : Holds after (countMultipliers s) (record { pack = withLast (withMultipliers ms) (w .pack); ended = w .ended })
+  pub m-holds : Holds after (withMultipliers s) (record { pack = onRules (onLast (onMultipliers (ending ms))) (w .pack); ended = w .ended })
   m-holds =
       record {
         declares = holds .declares;
         claims = holds .claims;
         claimed = holds .claimed;
-        rules = holds .rules ∙ sym (length-onLast (withMultipliers ms) (w .pack .rules));
+        rules = holds .rules ∙ sym (length-onLast (onMultipliers (ending ms)) (w .pack .rules));
         lines = omega (arith, holds .lines, one-line-more ms (w .pack .rules) some);
-        last = λ nonempty. rw (last-changed (withMultipliers ms) noRule (w .pack .rules) some) rule-after;
+        last = λ nonempty. rw (last-changed (onMultipliers (ending ms)) noRule (w .pack .rules) some) rule-after;
         ended = holds .ended;
       }

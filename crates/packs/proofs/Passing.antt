@@ -3,8 +3,8 @@ use mathlib.Core.Path.{_≡_, refl, sym, _∙_, ap}
 use mathlib.Core.Bool.{Bool, true, false, _||_, or-false}
 use Rattle.theory.specs.Text.{Bytes, bytes, same, fieldsOf}
 use Rattle.theory.specs.Written.{Letter, P, C, H, B, M, E, noLetter, letterOf, lineLetter, field, Written, add, write}
-use Rattle.theory.proofs.Bytes.{same-equal, same-unequal}
-use Rattle.theory.proofs.Letters.{letterField, by-letter}
+use Rattle.theory.proofs.Reading.Bytes.{same-equal, same-unequal}
+use Rattle.theory.proofs.Reading.Letters.{letterField, by-letter}
 use Rattle.integers.proofs.Truth.{by-truth}
 use Rattle.tables.specs.declared.State.{State}
 use Rattle.tables.specs.declared.Opened.{Opened}

@@ -9,8 +9,8 @@ use lib.ListN.{length, getD, set, List·getD-append}
 use lib.Seq.{getD-append-seam}
 use Rattle.integers.proofs.Truth.{by-truth, never-both}
 use Rattle.integers.proofs.Lists.{length-end, getD-member, member-getD}
-use Rattle.theory.specs.Text.{every}
-use Rattle.theory.proofs.Every.{every-member, members-every}
+use Rattle.theory.specs.Lists.{every}
+use Rattle.theory.proofs.Reading.Every.{every-member, members-every}
 
 module _ {A : Type 0} where
   -- what holds at each place of a list, and at the next, holds at each place when one more stands behind it

@@ -10,11 +10,13 @@ use lib.ListN.{length, getD, set, drop, length-set}
 use lib.Seq.{getD-set-other, getD-drop}
 use Rattle.integers.proofs.Truth.{and-left, and-right, and-both, and-not-left, and-not-right, leb-gt}
 use Rattle.integers.proofs.Lists.{length-end}
+use Rattle.theory.specs.Lists.{isSome, isEmpty}
 use Rattle.theory.specs.Text.{Bytes, natural, fieldsOf}
 use Rattle.theory.specs.Packs.{predicateLimit}
 use Rattle.theory.specs.Written.{P, Written, write, predicateFrom, add, field}
-use Rattle.theory.specs.Faults.{isSome, isEmpty, isKind, firstOf, mayStand, predicateTests, tests, fault}
-use Rattle.theory.proofs.Presence.{some-is, is-empty}
+use Rattle.theory.specs.Faults.{isKind, firstOf, predicateTests, tests, fault}
+use Rattle.theory.proofs.Reading.Presence.{some-is, is-empty}
+use Rattle.theory.proofs.Judging.Sections.{predicates-stand}
 use Rattle.text.specs.Words.{wordsOf}
 use Rattle.tables.specs.declared.State.{State}
 use Rattle.tables.specs.declared.Opened.{Opened}
@@ -82,14 +84,15 @@ p-holds : (line : Bytes) (t : Tables) (s : State) (w : Written) (o : Opened) →
     → let x = predicateFrom (fieldsOf line) in
     Holds (tables (withWords (t .names) (s .predicates) (wordsOf (field 1 (fieldsOf line)))) (withFacts (t .facts) (s .predicates) (x .arguments) (flag (x .kind))) (t .claims) (t .variables) (t .numbers) (t .slots))
     (withPredicates (s .predicates + 1) s) (record { pack = add P (fieldsOf line) (w .pack); ended = w .ended || false })
-unfolding add predicateFrom mayStand
+unfolding add predicateFrom
 p-holds line t s w o holds safe passed room =
     let x = predicateFrom (fieldsOf line) in
     let ps = w .pack .predicates in
     let known = s .predicates in
     let declares = holds .declares in
-    let noClaims = is-empty (w .pack .claims) (and-left (isEmpty (w .pack .claims)) (isEmpty (w .pack .rules)) (passed .stands)) in
-    let noRules = is-empty (w .pack .rules) (and-right (isEmpty (w .pack .claims)) (isEmpty (w .pack .rules)) (passed .stands)) in
+    let neither = sym (predicates-stand (w .pack)) ∙ passed .stands in
+    let noClaims = is-empty (w .pack .claims) (and-left (isEmpty (w .pack .claims)) (isEmpty (w .pack .rules)) neither) in
+    let noRules = is-empty (w .pack .rules) (and-right (isEmpty (w .pack .claims)) (isEmpty (w .pack .rules)) neither) in
     record {
       declares = declares-more (t .names) (t .facts) known ps x declares (passed .named .isNew) room (safe .sizes .names) (safe .sizes .facts) (passed .named .named);
       claims = rw noClaims (claimless (t .facts) (t .claims) ps (rw noClaims at (holds .claims)) _ (ps ++ (x ∷ [])) (omega (arith, length-end ps x, declares .count))

@@ -4,8 +4,9 @@ use mathlib.Core.List.{List, [], _∷_, _++_}
 use Prim.Native.Nat.{suc, _+_}
 use native.Mathlib.Omega.{arith}
 use lib.ListN.{length}
-use Rattle.theory.specs.Packs.{Atom, Rule}
-use Rattle.theory.specs.Written.{withSubgoal, onLast}
+use Rattle.theory.specs.Lists.{ending}
+use Rattle.theory.specs.Packs.{Atom, Rule, onSubgoals}
+use Rattle.theory.specs.Written.{onLast}
 use Rattle.theory.specs.Check.{multiplierLines}
 
 pub multiplierLines-end : (rs : List Rule) (r : Rule) → multiplierLines (rs ++ (r ∷ [])) ≡ multiplierLines rs + length (r .multipliers)
@@ -19,7 +20,7 @@ length-onLast change [] = refl
 length-onLast change (r ∷ []) = refl
 length-onLast change (r ∷ s ∷ rs) = ap suc (length-onLast change (s ∷ rs))
 
-pub multiplierLines-subgoal : (a : Atom) (rs : List Rule) → multiplierLines (onLast (withSubgoal a) rs) ≡ multiplierLines rs
+pub multiplierLines-subgoal : (a : Atom) (rs : List Rule) → multiplierLines (onLast (onSubgoals (ending a)) rs) ≡ multiplierLines rs
 unfolding multiplierLines onLast
 multiplierLines-subgoal a [] = refl
 multiplierLines-subgoal a (r ∷ []) = refl

@@ -10,11 +10,10 @@ use lib.ListN.{length, getD, length-append, length-map, List·getD-append}
 use lib.Seq.{getD-append-seam, getD-append-add}
 use Rattle.integers.proofs.Lists.{flatMap-end, length-end}
 use Rattle.integers.proofs.Truth.{by-truth, ltb-lt, ltb-ge}
-use Rattle.theory.specs.Terms.{arity}
+use Rattle.theory.specs.Terms.{arity, structural}
 use Rattle.theory.specs.Forms.{zeroForm}
-use Rattle.theory.specs.Packs.{Claim, Atom, atomKey, claimsOn, claimsOnAll}
+use Rattle.theory.specs.Packs.{Claim, Atom, atomKey, claimsOn, claimsOnAll, noClaim}
 use Rattle.theory.specs.Residuals.{claimForm, subgoalForms}
-use Rattle.theory.specs.Faults.{noClaim}
 use Rattle.tables.specs.Tables.{SafeSlots, ClaimAt, noAtom, SlotStands}
 use Rattle.closing.specs.Closing.{SlotsAdded}
 
@@ -33,15 +32,15 @@ module _ (cs : List Claim) where
   pub claims-more : (subgoals : List Atom) (a : Atom) → claimsOnAll cs (subgoals ++ (a ∷ [])) ≡ claimsOnAll cs subgoals ++ claimsOn (atomKey a) cs
   claims-more subgoals a = flatMap-end (λ (b : Atom). claimsOn (atomKey b) cs) subgoals a
 
-  forms-more : (subgoals : List Atom) (a : Atom) → subgoalForms cs (subgoals ++ (a ∷ [])) ≡ subgoalForms cs subgoals ++ map (claimForm a) (claimsOn (atomKey a) cs)
+  forms-more : (subgoals : List Atom) (a : Atom) → subgoalForms structural cs (subgoals ++ (a ∷ [])) ≡ subgoalForms structural cs subgoals ++ map (claimForm structural a) (claimsOn (atomKey a) cs)
   unfolding subgoalForms
   forms-more [] a = append-nil _
-  forms-more (b ∷ subgoals) a = ap (λ fs. map (claimForm b) (claimsOn (atomKey b) cs) ++ fs) (forms-more subgoals a) ∙ sym (append-assoc (map (claimForm b) (claimsOn (atomKey b) cs)) _ _)
+  forms-more (b ∷ subgoals) a = ap (λ fs. map (claimForm structural b) (claimsOn (atomKey b) cs) ++ fs) (forms-more subgoals a) ∙ sym (append-assoc (map (claimForm structural b) (claimsOn (atomKey b) cs)) _ _)
 
-  length-forms : (subgoals : List Atom) → length (subgoalForms cs subgoals) ≡ length (claimsOnAll cs subgoals)
+  length-forms : (subgoals : List Atom) → length (subgoalForms structural cs subgoals) ≡ length (claimsOnAll cs subgoals)
   unfolding subgoalForms mathlib.Core.List.flatMap
   length-forms [] = refl
-  length-forms (a ∷ subgoals) = omega (arith, length-append (map (claimForm a) (claimsOn (atomKey a) cs)) (subgoalForms cs subgoals), length-map (claimsOn (atomKey a) cs) (claimForm a), length-append (claimsOn (atomKey a) cs) (claimsOnAll cs subgoals), length-forms subgoals)
+  length-forms (a ∷ subgoals) = omega (arith, length-append (map (claimForm structural a) (claimsOn (atomKey a) cs)) (subgoalForms structural cs subgoals), length-map (claimsOn (atomKey a) cs) (claimForm structural a), length-append (claimsOn (atomKey a) cs) (claimsOnAll cs subgoals), length-forms subgoals)
 
 getD-map : {A B : Type 0} (f : A → B) (l : List A) (j : ℕ) (d : A) (e : B) → j < length l → getD (map f l) j e ≡ f (getD l j d)
 getD-map f [] j d e inside = absurd (omega arith)
@@ -55,7 +54,7 @@ module _ (claims : List ℤ) (slots₀ slots : List ℕ) (cs : List Claim) (subg
       → SlotStands claims slots₀ cs subgoals k → SlotStands claims slots cs (subgoals ++ (a ∷ [])) k
   slot-before k inside place of stands =
       let claim : getD (claimsOnAll cs (subgoals ++ (a ∷ []))) k noClaim ≡ getD (claimsOnAll cs subgoals) k noClaim = rw (claims-more cs subgoals a) (List·getD-append (claimsOnAll cs subgoals) (claimsOn (atomKey a) cs) noClaim k inside) in
-      let form : getD (subgoalForms cs (subgoals ++ (a ∷ []))) k zeroForm ≡ getD (subgoalForms cs subgoals) k zeroForm = rw (forms-more cs subgoals a) (List·getD-append (subgoalForms cs subgoals) _ zeroForm k (omega (arith, length-forms cs subgoals))) in
+      let form : getD (subgoalForms structural cs (subgoals ++ (a ∷ []))) k zeroForm ≡ getD (subgoalForms structural cs subgoals) k zeroForm = rw (forms-more cs subgoals a) (List·getD-append (subgoalForms structural cs subgoals) _ zeroForm k (omega (arith, length-forms cs subgoals))) in
       let subgoal = List·getD-append subgoals (a ∷ []) noAtom (getD slots₀ (128 + k) 0) (stands .subgoal) in
       record {
         claim = rw (place, claim) (stands .claim);
@@ -68,13 +67,13 @@ module _ (claims : List ℤ) (slots₀ slots : List ℕ) (cs : List Claim) (subg
       → getD slots (128 + k) 0 ≡ length subgoals → length (getD (claimsOn (atomKey a) cs) j noClaim .coefficients) ≡ arity (a .terms) → SlotStands claims slots cs (subgoals ++ (a ∷ [])) k
   slot-behind k j is inside stands of full =
       let claim : getD (claimsOnAll cs (subgoals ++ (a ∷ []))) k noClaim ≡ getD (claimsOn (atomKey a) cs) j noClaim = rw (claims-more cs subgoals a, is) (getD-append-add (claimsOnAll cs subgoals) (claimsOn (atomKey a) cs) j noClaim) in
-      let forms = map (claimForm a) (claimsOn (atomKey a) cs) in
-      let form : getD (subgoalForms cs (subgoals ++ (a ∷ []))) k zeroForm ≡ getD forms j zeroForm = rw (forms-more cs subgoals a, is, ← length-forms cs subgoals) (getD-append-add (subgoalForms cs subgoals) forms j zeroForm) in
+      let forms = map (claimForm structural a) (claimsOn (atomKey a) cs) in
+      let form : getD (subgoalForms structural cs (subgoals ++ (a ∷ []))) k zeroForm ≡ getD forms j zeroForm = rw (forms-more cs subgoals a, is, ← length-forms cs subgoals) (getD-append-add (subgoalForms structural cs subgoals) forms j zeroForm) in
       let subgoal = getD-append-seam subgoals a [] noAtom in
       record {
         claim = rw claim stands;
         subgoal = omega (arith, length-end subgoals a);
-        form = rw (of, claim, subgoal) (form ∙ getD-map (claimForm a) (claimsOn (atomKey a) cs) j noClaim zeroForm inside);
+        form = rw (of, claim, subgoal) (form ∙ getD-map (claimForm structural a) (claimsOn (atomKey a) cs) j noClaim zeroForm inside);
         full = rw (of, claim, subgoal) full;
       }
 

@@ -11,18 +11,18 @@ use lib.ListN.{length, getD, drop, length-append, List·getD-append}
 use lib.Seq.{getD-append-seam}
 use Rattle.integers.proofs.Lists.{getD-member, length-end}
 use Rattle.integers.proofs.Truth.{by-truth, not-true, and-left, leb-gt, ltb-lt, ltb-ge}
+use Rattle.theory.specs.Lists.{_∈_, isEmpty, ending}
 use Rattle.theory.specs.Text.{Bytes, fieldsOf}
 use Rattle.theory.specs.Terms.{allVariables}
-use Rattle.theory.specs.Packs.{Atom, Rule, Pack, atomKey, claimsOn, claimsOnAll}
-use Rattle.theory.specs.Written.{B, Written, write, withSubgoal, atomFrom, termsFrom, add}
+use Rattle.theory.specs.Packs.{Atom, Rule, Pack, onSubgoals, onRules, atomKey, claimsOn, claimsOnAll}
+use Rattle.theory.specs.Written.{B, Written, write, onLast, atomFrom, termsFrom, add}
 use Rattle.theory.specs.Residuals.{numbered, atomsVariables, ruleVariables}
-use Rattle.theory.specs.Faults.{noRule, isTerm, isEmpty, lastRule, mayStand, subgoalTests, tests, fault}
-use Rattle.theory.specs.Limits.{_∈_}
-use Rattle.theory.proofs.LastRule.{last-changed}
-use Rattle.theory.proofs.Presence.{is-filled}
-use Rattle.theory.proofs.RuleVariables.{variables-of-more}
-use Rattle.theory.proofs.TermFields.{terms-arity}
-use Rattle.theory.proofs.Variables.{head-variable, subgoal-variable}
+use Rattle.theory.specs.Faults.{noRule, isTerm, lastRule, mayStand, subgoalTests, tests, fault}
+use Rattle.theory.proofs.Judging.LastRule.{last-changed}
+use Rattle.theory.proofs.Reading.Presence.{is-filled}
+use Rattle.theory.proofs.Judging.RuleVariables.{variables-of-more}
+use Rattle.theory.proofs.Reading.TermFields.{terms-arity}
+use Rattle.theory.proofs.Judging.Variables.{head-variable, subgoal-variable}
 use Rattle.tables.specs.declared.State.{State}
 use Rattle.tables.specs.declared.Opened.{Opened}
 use Rattle.tables.specs.declared.Fielded.{Fielded}
@@ -30,7 +30,7 @@ use Rattle.tables.specs.declared.Closed.{Closed}
 use Rattle.tables.specs.Tables.{Tables, tables, SafeNumbers, AtomStands, noAtom, subgoalAt, SlotStands, RuleStands, Holds, Safe}
 use Rattle.opening.specs.Opening.{OldPredicate}
 use Rattle.fields.specs.Fields.{RowOf, FieldTerm}
-use Rattle.closing.specs.Closing.{withSubgoal as stateWithSubgoal, ClosesB, SlotsAdded}
+use Rattle.closing.specs.Closing.{withSubgoal, ClosesB, SlotsAdded}
 use Rattle.packs.specs.Progress.{at, Progress, PassedAs}
 use Rattle.packs.proofs.Passing.{writes-letter}
 use Rattle.packs.proofs.RuleCounts.{length-onLast, multiplierLines-subgoal}
@@ -105,7 +105,7 @@ module _ (line : Bytes) (w : Written) where
     filled = tables (t .names) (t .facts) (t .claims) variables numbers slots
 
     abbrev more : State
-    more = stateWithSubgoal (s .slots + getD (t .facts) (64 + o .predicate) 0) many s
+    more = withSubgoal (s .slots + getD (t .facts) (64 + o .predicate) 0) many s
 
     -- the rows of the other atoms
     atom-kept : (atom : ℕ) (a : Atom) → atom < suc (s .subgoals) → ((x : Bytes) → x ∈ allVariables (a .terms) → x ∈ before) → AtomStands (t .numbers) atom before (a .terms) → AtomStands numbers atom all (a .terms)
@@ -146,8 +146,8 @@ module _ (line : Bytes) (w : Written) where
         (λ k here. slot-before (t .claims) (t .slots) slots (w .pack .claims) (rule .subgoals) added k (omega (arith, stands .slots)) (laid .before k here) (laid .subgoalBefore k here) (stands .slot k here))
         slot-added
 
-    subgoal-stands : (rules : List Rule) → RuleStands filled more (record { predicates = w .pack .predicates; claims = w .pack .claims; rules = rules }) (withSubgoal added rule)
-    subgoal-stands rules = record {
+    subgoal-stands : RuleStands filled more (onRules (onLast (onSubgoals (ending added))) (w .pack)) (onSubgoals (ending added) rule)
+    subgoal-stands = record {
       head = stands .head;
       headKey = stands .headKey;
       headFull = stands .headFull;
@@ -167,9 +167,9 @@ module _ (line : Bytes) (w : Written) where
       declares = holds .declares;
       claims = holds .claims;
       claimed = holds .claimed;
-      rules = holds .rules ∙ sym (length-onLast (withSubgoal added) (w .pack .rules));
+      rules = holds .rules ∙ sym (length-onLast (onSubgoals (ending added)) (w .pack .rules));
       lines = holds .lines ∙ sym (multiplierLines-subgoal added (w .pack .rules));
-      last = λ h. rw (last-changed (withSubgoal added) noRule (w .pack .rules) unempty) (subgoal-stands _);
+      last = λ h. rw (last-changed (onSubgoals (ending added)) noRule (w .pack .rules) unempty) subgoal-stands;
       ended = holds .ended;
     }
 

@@ -12,17 +12,18 @@ use lib.ListN.{length, getD, set, take}
 use lib.Seq.{take-suc, length-take-le, getD-take, getD-set-same, getD-set-other}
 use Rattle.integers.proofs.Lists.{member-getD}
 use Rattle.integers.proofs.Truth.{by-truth, ltb-lt, ltb-ge}
+use Rattle.theory.specs.Lists.{_∈_}
 use Rattle.theory.specs.Text.{Bytes}
-use Rattle.theory.specs.Terms.{Term, Terms, variable, nil, cons, arity, readTerm, variables, allVariables}
+use Rattle.theory.specs.Terms.{Term, Terms, variable, nil, cons, arity, readTerm, structural, occurrences, variables, allVariables}
 use Rattle.theory.specs.Forms.{formOf}
 use Rattle.theory.specs.Written.{termsFrom}
 use Rattle.theory.specs.Residuals.{numbered}
 use Rattle.theory.specs.Faults.{isTerm}
-use Rattle.theory.specs.Limits.{_∈_}
-use Rattle.theory.proofs.FieldValues.{value-read}
-use Rattle.theory.proofs.RuleVariables.{numbered-append}
-use Rattle.theory.proofs.TermFields.{terms-arity}
-use Rattle.theory.proofs.Variables.{Once, member-numbered}
+use Rattle.theory.proofs.Reading.FieldValues.{value-read}
+use Rattle.theory.proofs.Judging.RuleVariables.{numbered-append}
+use Rattle.theory.proofs.Reading.TermFields.{terms-arity}
+use Rattle.theory.proofs.Judging.Variables.{Once, member-numbered}
+use Rattle.theory.proofs.Soundness.StructuralSizes.{structural-counted}
 use Rattle.terms.proofs.Numbering.{place-once, numbered-length, numbered-place}
 use Rattle.terms.proofs.Counting.{occurrences-absent}
 use Rattle.tables.specs.Tables.{argument, RowStands, AtomStands}
@@ -70,6 +71,11 @@ known-variable seen fs index k before inside x m =
 
 -- ---- a row when more variables come
 
+-- a term's form has for each variable how often it occurs
+form-counts : (t : Term) (x : Bytes) → formOf structural t .coefficient x ≡ pos (occurrences x (variables t))
+unfolding formOf
+form-counts t x = ap (λ xs. pos (occurrences x xs)) (structural-counted t)
+
 -- the variables of a term are among those of which its row tells: those that come later do not occur in it
 module _ (xs ys : List Bytes) (once : Once (numbered xs ys)) (few : length (numbered xs ys) ≤ 16) where
   later-elsewhere : (i : ℕ) → length xs ≤ i → i < length (numbered xs ys) → getD (numbered xs ys) i [] ∈ xs → ⊥
@@ -80,12 +86,11 @@ module _ (xs ys : List Bytes) (once : Once (numbered xs ys)) (few : length (numb
       omega arith
 
   row-over-more : (numbers : List ℤ) (base : ℕ) (t : Term) → ((x : Bytes) → x ∈ variables t → x ∈ xs) → RowStands numbers base xs t → RowStands numbers base (numbered xs ys) t
-  unfolding formOf
   row-over-more numbers base t within row = record {
     constant = row .constant;
-    coefficient = λ i inside. by-truth (λ b. getD numbers (base + 1 + i) (pos 0) ≡ formOf t .coefficient (getD (numbered xs ys) i [])) (ltb i (length xs))
+    coefficient = λ i inside. by-truth (λ b. getD numbers (base + 1 + i) (pos 0) ≡ formOf structural t .coefficient (getD (numbered xs ys) i [])) (ltb i (length xs))
         (λ h. rw (numbered-place xs ys i (ltb-lt _ _ h)) (row .coefficient i (ltb-lt _ _ h)))
-        (λ h. row .beyond i (ltb-ge _ _ h) (omega arith) ∙ ap pos (sym (occurrences-absent _ (variables t) (λ m. later-elsewhere i (ltb-ge _ _ h) inside (within _ m)))));
+        (λ h. row .beyond i (ltb-ge _ _ h) (omega arith) ∙ ap pos (sym (occurrences-absent _ (variables t) (λ m. later-elsewhere i (ltb-ge _ _ h) inside (within _ m)))) ∙ sym (form-counts t _));
     beyond = λ i outside small. row .beyond i (omega (arith, numbered-length xs ys)) small;
   }
 
@@ -157,7 +162,7 @@ module _ (base : ℕ) (field : Bytes) (many : ℕ) (names₀ : List ℕ) (number
   unfolding formOf
   row-counted all row = record {
     constant = ap (λ l. getD l base (pos 0)) stored ∙ getD-set-same rows base (pos constant) (pos 0) (omega (arith, counted .size)) ∙ ap pos (done .counted fine .3 .is t reads);
-    coefficient = λ i inside. elsewhere (base + 1 + i) (omega arith) ∙ row .counts i inside;
+    coefficient = λ i inside. elsewhere (base + 1 + i) (omega arith) ∙ row .counts i inside ∙ sym (form-counts t _);
     beyond = λ i outside small. elsewhere (base + 1 + i) (omega arith) ∙ row .zeros i small outside;
   }
 

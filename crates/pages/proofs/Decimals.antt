@@ -7,7 +7,7 @@ use native.Mathlib.Omega.{arith}
 use lib.ListN.{length}
 use Rattle.integers.proofs.Lists.{length-end}
 use Rattle.theory.specs.Text.{decimal}
-use Rattle.theory.proofs.Decimals.{decimal-one, decimal-more}
+use Rattle.theory.proofs.Reading.Decimals.{decimal-one, decimal-more}
 
 module _ (n : ℕ) where
   pub decimal-last : 10 ≤ n → decimal n ≡ decimal (n / 10) ++ ((48 + n % 10) ∷ [])

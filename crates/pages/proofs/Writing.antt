@@ -7,7 +7,7 @@ use native.Mathlib.Omega.{arith}
 use lib.ListN.{length, set, drop, length-set}
 use lib.Seq.{drop-cons, drop-set-lt, getD-set-same}
 use Rattle.theory.specs.Text.{Bytes, decimal}
-use Rattle.theory.proofs.Decimals.{decimal-one}
+use Rattle.theory.proofs.Reading.Decimals.{decimal-one}
 use Rattle.pages.specs.Pages.{Puts}
 use Rattle.pages.proofs.Decimals.{decimal-last, digits-one, digits-more, digits-some}
 

@@ -5,12 +5,12 @@ use mathlib.Core.Option.{Option, some, none, Option·getD}
 use Prim.Native.Nat.{ℕ, _≤_}
 use native.Mathlib.Omega.{arith}
 use Rattle.integers.proofs.Truth.{by-truth, or-left, or-right, or-neither}
+use Rattle.theory.specs.Lists.{isSome}
 use Rattle.theory.specs.Text.{Bytes, bytes, same, natural}
-use Rattle.theory.specs.Faults.{isSome}
-use Rattle.theory.proofs.Bytes.{same-refl, same-equal}
-use Rattle.theory.proofs.Presence.{some-is, none-is}
-use Rattle.theory.proofs.ReserveAnswers.{written-zero}
-use Rattle.theory.proofs.Spelling.{natural-of-decimal, decimal-of-natural, natural-wider}
+use Rattle.theory.proofs.Reading.Bytes.{same-refl, same-equal}
+use Rattle.theory.proofs.Reading.Presence.{some-is, none-is}
+use Rattle.theory.proofs.Reserving.ReserveAnswers.{written-zero}
+use Rattle.theory.proofs.Reading.Spelling.{natural-of-decimal, decimal-of-natural, natural-wider}
 
 -- what test 16 finds
 abbrev pub isUnasked : ℕ → Bytes → Bool

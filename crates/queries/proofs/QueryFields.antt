@@ -8,17 +8,18 @@ use native.Mathlib.Decide.{decLt}
 use native.Mathlib.Omega.{arith}
 use lib.ListN.{length, getD, take, drop, length-map, List·getD-map}
 use Rattle.integers.proofs.Lists.{getD-member}
+use Rattle.theory.specs.Lists.{isSome}
 use Rattle.theory.specs.Text.{Bytes, bytes, same, isDecimal, natural, fieldsOf}
 use Rattle.theory.specs.Packs.{key}
 use Rattle.theory.specs.Written.{field}
-use Rattle.theory.specs.Faults.{isSome}
 use Rattle.theory.specs.Reserve.{queryKey, queryFrom, queryOf, sizeFrom}
-use Rattle.theory.proofs.Every.{every-member}
+use Rattle.theory.proofs.Reading.Every.{every-member}
 use Rattle.text.specs.Scans.{part, Finds, partsFrom}
 use Rattle.text.proofs.Cuts.{parts-all, parts-done, parts-step}
 use Rattle.tables.specs.QuerySizes.{entryOf, SizesStand}
 use Rattle.queries.specs.Queries.{SizesRead}
-use Rattle.queries.proofs.SizeFields.{number-entry, size-small, known-small}
+use Rattle.theory.proofs.Reserving.QuerySizes.{size-small, known-small}
+use Rattle.queries.proofs.SizeFields.{number-entry}
 
 module _ (query : Bytes) (stop : ℕ) (first : Finds query 44 0 stop) where
   name-off : fieldsOf query ≡ take stop query ∷ partsFrom 44 query (stop + 1)

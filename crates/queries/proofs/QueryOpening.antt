@@ -7,13 +7,14 @@ use Prim.Native.Nat.{ℕ, _+_, _-_, _≤_, _<_}
 use native.Mathlib.Omega.{arith}
 use lib.ListN.{length, getD, take, drop}
 use Rattle.integers.proofs.Truth.{by-truth}
-use Rattle.theory.specs.Text.{Bytes, every, isName, natural, partsAt, fieldsOf}
+use Rattle.theory.specs.Lists.{every, isSome}
+use Rattle.theory.specs.Text.{Bytes, isName, natural, partsAt, fieldsOf}
 use Rattle.theory.specs.Packs.{Pack, declaredAs}
 use Rattle.theory.specs.Written.{field}
-use Rattle.theory.specs.Faults.{isSome, isUnfit}
+use Rattle.theory.specs.Faults.{isUnfit}
 use Rattle.theory.specs.Reserve.{queryKey, queryFrom, queryOf, sizeFrom, sizeGiven, queryFault}
-use Rattle.theory.proofs.Presence.{none-is}
-use Rattle.theory.proofs.Spelling.{natural-within}
+use Rattle.theory.proofs.Reading.Presence.{none-is}
+use Rattle.theory.proofs.Reading.Spelling.{natural-within}
 use Rattle.text.specs.Scans.{part, Finds, partsFrom}
 use Rattle.tables.specs.Tables.{predicateAt, Declares}
 use Rattle.opening.proofs.Lookup.{name-is, name-declared, name-new}

@@ -8,7 +8,7 @@ use lib.ListN.{length, getD}
 use mir.Syntax.{w64}
 use mir.Val.{Fits}
 use Rattle.theory.specs.Text.{Bytes, natural, partsAt}
-use Rattle.theory.proofs.Spelling.{natural-within}
+use Rattle.theory.proofs.Reading.Spelling.{natural-within}
 use Rattle.text.specs.Scans.{Finds, partsFrom}
 use Rattle.tables.specs.Tables.{SafeFacts}
 use Rattle.queries.proofs.QueryFields.{asked-inside, size-count}

@@ -1,16 +1,16 @@
 -- A size field as a number, and the asked argument's field: what `read_size` and `read_asked` answer.
 use mathlib.Core.Path.{_≡_, refl, _∙_, ap}
-use mathlib.Core.Bool.{Bool, true, false, cond}
-use mathlib.Core.Option.{Option, some, none, Option·map, Option·getD, map-eq-some-iff}
-use Prim.Native.Nat.{ℕ, _+_, _≤_, _<_}
+use mathlib.Core.Bool.{Bool, true, false}
+use mathlib.Core.Option.{Option, some, none, Option·map, Option·getD}
+use Prim.Native.Nat.{ℕ, _+_, _≤_}
 use native.Mathlib.Omega.{arith}
 use lib.ListN.{length, getD, drop-of-length-le}
 use Rattle.integers.proofs.Truth.{by-truth, never-both}
+use Rattle.theory.specs.Lists.{isSome}
 use Rattle.theory.specs.Text.{Bytes, bytes, same, natural}
-use Rattle.theory.specs.Faults.{isSome}
 use Rattle.theory.specs.Reserve.{sizeFrom}
-use Rattle.theory.proofs.Bytes.{same-refl, same-equal}
-use Rattle.theory.proofs.Spelling.{natural-within}
+use Rattle.theory.proofs.Reading.Bytes.{same-refl, same-equal}
+use Rattle.theory.proofs.Reserving.QuerySizes.{Small, size-small}
 use Rattle.text.specs.declared.Natural.{Natural}
 use Rattle.text.specs.declared.Natural.the-variants.{Whole, NoNatural}
 use Rattle.text.specs.Numbers.{naturalOf}
@@ -55,22 +55,6 @@ module _ (field : Bytes) (arity limit : ℕ) (is : limit ≡ arity) (r : Natural
   asked-malformed e = rw (← is, ← read, e)
 
 -- ---- what the number tells
-
--- a size that a field gives
-abbrev Small : Option (Option ℕ) → Type 0
-Small o = (s : ℕ) → o ≡ some (some s) → s ≤ 65535
-
-pub size-small : (field : Bytes) → Small (sizeFrom field)
-unfolding sizeFrom
-size-small field s =
-    by-truth (λ (b : Bool). cond b (some none) (Option·map some (natural 65535 field)) ≡ some (some s) → s ≤ 65535) (same field (bytes "-"))
-    (λ _ e. let never : _≡_ {A = ℕ} 0 1 = cc in absurd (omega arith))
-    (λ _ e. let found = map-eq-some-iff some (natural 65535 field) .0 e in let is : found .0 ≡ s = cc in omega (arith, natural-within 65535 field (found .0) (found .1)))
-
--- a known size is one that a field gives
-pub known-small : (o : Option (Option ℕ)) (s : ℕ) → Small o → Option·getD o none ≡ some s → s < 65536
-known-small none s small e = let never : _≡_ {A = ℕ} 0 1 = cc in absurd (omega arith)
-known-small (some size) s small e = omega (arith, small s (ap some e))
 
 module _ (field : Bytes) where
   pub number-malformed : sizeNumber (sizeFrom field) ≡ 65537 → isSome (sizeFrom field) ≡ false

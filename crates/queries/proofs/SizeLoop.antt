@@ -9,8 +9,8 @@ use borrow.Author.Count.{below-more}
 use lib.ListN.{length, getD, set, drop, length-set}
 use lib.Seq.{getD-set-same, getD-set-other, getD-drop, drop-drop}
 use Rattle.integers.proofs.Truth.{and-not-left}
-use Rattle.theory.specs.Text.{Bytes, every}
-use Rattle.theory.specs.Faults.{isSome}
+use Rattle.theory.specs.Lists.{every, isSome}
+use Rattle.theory.specs.Text.{Bytes}
 use Rattle.theory.specs.Reserve.{sizeFrom}
 use Rattle.text.specs.Scans.{part, Finds, partsFrom}
 use Rattle.text.proofs.Cuts.{parts-done, parts-step}

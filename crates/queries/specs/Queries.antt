@@ -5,9 +5,9 @@ use mathlib.Core.List.{List, []}
 use mathlib.Core.Option.{Option, some, none}
 use Prim.Native.Nat.{ℕ, _≤_, _<_}
 use lib.ListN.{length, getD}
-use Rattle.theory.specs.Text.{Bytes, every, isName}
+use Rattle.theory.specs.Lists.{every, isSome}
+use Rattle.theory.specs.Text.{Bytes, isName}
 use Rattle.theory.specs.Packs.{Pack, keyOf}
-use Rattle.theory.specs.Faults.{isSome}
 use Rattle.theory.specs.Reserve.{queryKey, queryOf, sizeFrom, queryFault}
 use Rattle.text.specs.Scans.{partsFrom}
 use Rattle.text.specs.Words.{wordsOf, PlaceOf}

@@ -8,8 +8,8 @@ use lib.ListN.{length, getD}
 use Rattle.integers.proofs.Truth.{not-true, and-not-left, and-not-right, eqb-different}
 use Rattle.theory.specs.Text.{Bytes, bytes, same, onFirst, linesOf}
 use Rattle.theory.specs.Program.{wholeLines, throughEnd, behindEnd, packPart, queries}
-use Rattle.theory.proofs.Every.{every-first, every-rest}
-use Rattle.theory.proofs.Separators.{isFree}
+use Rattle.theory.proofs.Reading.Every.{every-first, every-rest}
+use Rattle.theory.proofs.Reading.Separators.{isFree}
 
 -- ---- whole lines
 

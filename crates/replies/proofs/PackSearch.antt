@@ -6,9 +6,10 @@ use Prim.Native.Nat.{ℕ, _+_, _-_, _≤_, _<_}
 use native.Mathlib.Omega.{arith}
 use lib.ListN.{length, getD, take, drop, length-take, length-drop, take-append-drop, drop-of-length-le}
 use lib.Seq.{take-add, take-length, drop-length, getD-take, getD-drop}
-use Rattle.theory.specs.Text.{Bytes, every, linesOf}
+use Rattle.theory.specs.Lists.{every}
+use Rattle.theory.specs.Text.{Bytes, linesOf}
 use Rattle.theory.specs.Program.{packPart, queries}
-use Rattle.theory.proofs.Separators.{isFree}
+use Rattle.theory.proofs.Reading.Separators.{isFree}
 use Rattle.text.specs.Scans.{part, Finds}
 use Rattle.text.proofs.Parts.{part-more, part-rest, drop-cut, drop-more}
 use Rattle.replies.specs.Replies.{PackEnds}

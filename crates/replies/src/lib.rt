@@ -33,7 +33,7 @@ pub fn put_fields(page: &mut [u8], three: Three) -> usize
     pages::put_field(page, second, three.claim as u64, 10)
 }
 
-/// The place behind the first line that is exactly `E` and its byte 10, or the end.
+/// The place after the first line `E`, with its byte 10; or the end where there is none.
 pub fn pack_end(input: &[u8]) -> usize
     ensures { λ r. ⌜ PackEnds (now (input .entry)) r ⌝ }
 {

@@ -1,3 +1,2 @@
--- What the answers from the tables come to, and how large they are.
+-- What the answers from the tables come to, and what they pass on.
 pub mod QueryAnswers
-pub mod AnswerRange

@@ -1,15 +1,17 @@
 -- From the tests of a query and the claims' reservation, by the tables, to what reserve answers.
 use mathlib.Core.Path.{_≡_, refl, sym, _∙_, ap, subst}
+use mathlib.Core.Bool.{false}
 use mathlib.Core.List.{List}
 use Prim.Native.Nat.{ℕ, zero, suc, _+_, _≤_}
 use native.Mathlib.Omega.{arith}
+use lib.Dec.{eqb}
 use lib.IntN.{ℤ}
 use lib.ListN.{length, getD, length-replicate, replicate}
 use borrow.Author.Tests.{ne-eqb}
 use Rattle.theory.specs.Text.{Bytes}
 use Rattle.theory.specs.Packs.{Pack, Key, claimsOn, keyOf}
 use Rattle.theory.specs.Written.{packOf}
-use Rattle.theory.specs.Check.{Numbers, verdictOf}
+use Rattle.theory.specs.Check.{Numbers, verdictOf, refusalOf}
 use Rattle.theory.specs.Reserve.{queryKey, queryOf, queryFault, reservation, refusal, answerOf, reserveOf}
 use Rattle.theory.specs.Answers.{numbersOf, refusalNumbers}
 use Rattle.theory.specs.declared.QueryRefusal.{QueryRefusal}
@@ -21,7 +23,7 @@ use Rattle.theory.specs.declared.Counts.{Counts}
 use Rattle.theory.specs.declared.Verdict.the-variants.{Accepted}
 use Rattle.theory.specs.declared.Reservation.{Reservation}
 use Rattle.theory.specs.declared.Reservation.the-variants.{PackRefused, QueryRefused}
-use Rattle.theory.proofs.RefusalNumbers.{refusal-number}
+use Rattle.theory.proofs.Reserving.RefusalNumbers.{refusal-number}
 use Rattle.tables.specs.Tables.{Tables, SafeFacts, SafeClaims, predicateAt, HoldsClaims}
 use Rattle.tables.specs.QuerySizes.{SafeSizes}
 use Rattle.queries.specs.declared.Asked.{Asked}
@@ -62,6 +64,7 @@ module _ (query : Bytes) {names facts : List ℕ} {claims : List ℤ} {known : �
     tells = λ p declares holds.
         let fault : queryFault p query ≡ asked .fault = opens .tells p declares .refused some in
         rw (fault, ne-eqb _ _ some, refuses .numbered (opens .fault some)) refl;
+    passesNone = refl;
   }
 
   -- the claims on the query's predicate stand in the table
@@ -85,6 +88,7 @@ module _ (query : Bytes) {names facts : List ℕ} {claims : List ℤ} {known : �
         let key = queryKey (queryOf query) in
         reserves .tells (queryOf query) (claimsOn key (p .claims)) (rw is (stands p key (passed .is) holds passed))
         ∙ rw (passed .faultless) refl;
+    passesNone = reserves .passesNone;
   }
 
 -- ---- a pack that is loaded
@@ -97,21 +101,27 @@ ready-accepted ready is = let accepted = is-accepted is in (ready .few accepted,
 
 module _ (query : Bytes) {verdict : Verdict} {names facts : List ℕ} {claims : List ℤ} {known : ℕ} where
   pub refused-pack : (r : Refusal) → verdict ≡ Refused r → Responds verdict query names facts claims known (PackRefused r)
-  unfolding reserveOf refusal
-  refused-pack r is = record {
-    tells = λ text held.
-        let number : refusalNumbers r .number ≡ verdictOf text .returned .number = ap (λ (n : Numbers). n .number) (sym (ap numbersOf is) ∙ held .judged) in
-        rw (← number, ne-eqb (refusalNumbers r .number) 0 (λ zero. omega (arith, refusal-number r))) refl;
-  }
+  unfolding reserveOf refusal refusalOf
+  refused-pack r is = record { tells = λ text held. rw (← returned held, some); passes = λ text held. rw (← returned held, some) }
+    where
+      returned : {text : Bytes} → PackHeld text verdict names facts claims known → refusalNumbers r ≡ verdictOf text .returned
+      returned held = sym (ap numbersOf is) ∙ held .judged
+
+      some : eqb (refusalNumbers r .number) 0 ≡ false
+      some = ne-eqb (refusalNumbers r .number) 0 (λ zero. omega (arith, refusal-number r))
 
   pub answered-pack : {counts : Counts} (r : Reservation) → verdict ≡ Accepted counts → Answers query names facts claims known r → Responds verdict query names facts claims known r
-  unfolding reserveOf
+  unfolding reserveOf refusalOf
   answered-pack r is answers = record {
-    tells = λ text held.
-        let accepted = is-accepted is in
-        let none : verdictOf text .returned .number ≡ 0 = sym (ap (λ (n : Numbers). n .number) (held .judged)) ∙ accepted in
-        rw none (answers .tells (packOf text) (held .declares accepted) (held .claimed accepted));
+    tells = λ text held. rw (fine held) (answers .tells (packOf text) (held .declares accepted) (held .claimed accepted));
+    passes = λ text held. rw (fine held) (answers .passesNone);
   }
+    where
+      accepted : numbersOf verdict .number ≡ 0
+      accepted = is-accepted is
+
+      fine : {text : Bytes} → PackHeld text verdict names facts claims known → verdictOf text .returned .number ≡ 0
+      fine held = sym (ap (λ (n : Numbers). n .number) (held .judged)) ∙ accepted
 
 -- what loading leaves
 module _ {text : Bytes} {l : Loaded} {t : Tables} (loads : Loads text l t) where

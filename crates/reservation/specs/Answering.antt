@@ -1,14 +1,15 @@
 -- A query answered from the tables that hold a pack.
 use mathlib.Core.Path.{_≡_}
 use mathlib.Core.List.{List}
+use mathlib.Core.Option.{none}
 use Prim.Native.Nat.{ℕ, _≤_}
 use lib.IntN.{ℤ}
 use Rattle.theory.specs.Text.{Bytes}
 use Rattle.theory.specs.Packs.{Pack}
 use Rattle.theory.specs.Written.{packOf}
-use Rattle.theory.specs.Check.{verdictOf}
+use Rattle.theory.specs.Check.{verdictOf, refusalOf}
 use Rattle.theory.specs.Reserve.{answerOf, reserveOf}
-use Rattle.theory.specs.Answers.{queryNumber, numbersOf, fieldsOf}
+use Rattle.theory.specs.Answers.{queryNumber, numbersOf, reservedFields, passedOn}
 use Rattle.theory.specs.declared.QueryRefusal.{QueryRefusal}
 use Rattle.theory.specs.declared.Reservation.{Reservation}
 use Rattle.theory.specs.declared.Verdict.{Verdict}
@@ -19,9 +20,10 @@ use Rattle.queries.specs.Queries.{OfQuery}
 pub record RefusesQuery (fault : ℕ) (r : QueryRefusal) : Type 0 where
   pub numbered : OfQuery fault → queryNumber r ≡ fault
 
--- the answer of the definition, for the pack whose predicates and claims the tables hold
+-- the answer of the definition, for the pack whose predicates and claims the tables hold; and it is never a pack's refusal
 pub record Answers (query : Bytes) (names facts : List ℕ) (claims : List ℤ) (known : ℕ) (r : Reservation) : Type 0 where
-  pub tells : (p : Pack) → Declares names facts known (p .predicates) → HoldsClaims facts claims (p .predicates) (p .claims) → fieldsOf r ≡ answerOf p query
+  pub tells : (p : Pack) → Declares names facts known (p .predicates) → HoldsClaims facts claims (p .predicates) (p .claims) → reservedFields r ≡ answerOf p query
+  pub passesNone : passedOn r ≡ none
 
 -- tables that are safe to read where the pack is accepted
 pub record Ready (verdict : Verdict) (facts : List ℕ) (claims : List ℤ) (known : ℕ) : Type 0 where
@@ -35,6 +37,7 @@ pub record PackHeld (text : Bytes) (verdict : Verdict) (names facts : List ℕ) 
   pub declares : numbersOf verdict .number ≡ 0 → Declares names facts known (packOf text .predicates)
   pub claimed : numbersOf verdict .number ≡ 0 → HoldsClaims facts claims (packOf text .predicates) (packOf text .claims)
 
--- what reserve returns, for the text that is loaded
+-- what reserve returns, for the text that is loaded: its fields, and the pack's refusal where it passes one on
 pub record Responds (verdict : Verdict) (query : Bytes) (names facts : List ℕ) (claims : List ℤ) (known : ℕ) (r : Reservation) : Type 0 where
-  pub tells : (text : Bytes) → PackHeld text verdict names facts claims known → fieldsOf r ≡ reserveOf text query
+  pub tells : (text : Bytes) → PackHeld text verdict names facts claims known → reservedFields r ≡ reserveOf text query
+  pub passes : (text : Bytes) → PackHeld text verdict names facts claims known → passedOn r ≡ refusalOf text

@@ -1,8 +1,9 @@
 // Reserve: a query answered from the tables that a pack is loaded into.
 ghost use mathlib.Core.Path.{_≡_};
 ghost use Prim.Native.Nat.{_≤_};
+ghost use Rattle.theory.specs.Check.{refusalOf};
 ghost use Rattle.theory.specs.Reserve.{reserveOf};
-ghost use Rattle.theory.specs.Answers.{fieldsOf};
+ghost use Rattle.theory.specs.Answers.{reservedFields, passedOn};
 ghost use Rattle.tables.specs.Tables.{SafeFacts, SafeClaims};
 ghost use Rattle.reservation.specs.Answering.{RefusesQuery, Answers, Ready, Responds};
 use theory::QueryRefusal;
@@ -62,9 +63,10 @@ pub fn respond(
     }
 }
 
-/// Reserves by a pack and a query: the pack's refusal, the query's, or what the claims give.
+/// Reserves by a pack and a query: the pack's refusal with all of check's numbers, the query's, or what the claims give.
 pub fn reserve(text: &[u8], query: &[u8]) -> Reservation
-    ensures { λ r. ⌜ fieldsOf r ≡ reserveOf (now (text .entry)) (now (query .entry)) ⌝ }
+    ensures { λ r. ⌜ reservedFields r ≡ reserveOf (now (text .entry)) (now (query .entry)) ⌝ }
+    ensures passes { λ r. ⌜ passedOn r ≡ refusalOf (now (text .entry)) ⌝ }
 {
     let mut names = [0u64; 64];
     let mut facts = [0u8; 96];

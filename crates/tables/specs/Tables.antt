@@ -5,13 +5,14 @@ use mathlib.Core.List.{List, []}
 use Prim.Native.Nat.{ℕ, zero, suc, _+_, _*_, _≤_, _<_}
 use lib.IntN.{ℤ, pos, natAbs}
 use lib.ListN.{length, getD}
+use Rattle.theory.specs.Lists.{isEmpty}
 use Rattle.theory.specs.Text.{Bytes, isName}
-use Rattle.theory.specs.Terms.{Term, Terms, variable, nil, cons, arity}
+use Rattle.theory.specs.Terms.{Term, Terms, variable, nil, cons, arity, structural}
 use Rattle.theory.specs.Forms.{zeroForm, formOf}
-use Rattle.theory.specs.Packs.{Kind, given, ruled, Predicate, Claim, Atom, Rule, Pack, keyOf, atomKey, claimsOn, claimsOnAll}
+use Rattle.theory.specs.Packs.{Kind, given, ruled, Predicate, Claim, Atom, Rule, Pack, keyOf, atomKey, claimsOn, claimsOnAll, noClaim}
 use Rattle.theory.specs.Written.{Written}
 use Rattle.theory.specs.Residuals.{claimForm, subgoalForms, ruleVariables}
-use Rattle.theory.specs.Faults.{isEmpty, lastRule, noClaim}
+use Rattle.theory.specs.Faults.{lastRule}
 use Rattle.theory.specs.Check.{multiplierLines}
 use Rattle.text.specs.Words.{wordsOf, wordsAt}
 use Rattle.terms.specs.Rows.{Holds as HoldsVariables}
@@ -108,8 +109,8 @@ argument (cons t ts) (suc k) = argument ts k
 
 -- the row from base on is the form of a term over a rule's variables, zeros behind the last
 pub record RowStands (numbers : List ℤ) (base : ℕ) (xs : List Bytes) (t : Term) : Type 0 where
-  pub constant : getD numbers base (pos 0) ≡ formOf t .constant
-  pub coefficient : (i : ℕ) → i < length xs → getD numbers (base + 1 + i) (pos 0) ≡ formOf t .coefficient (getD xs i [])
+  pub constant : getD numbers base (pos 0) ≡ formOf structural t .constant
+  pub coefficient : (i : ℕ) → i < length xs → getD numbers (base + 1 + i) (pos 0) ≡ formOf structural t .coefficient (getD xs i [])
   pub beyond : (i : ℕ) → length xs ≤ i → i < 16 → getD numbers (base + 1 + i) (pos 0) ≡ pos 0
 
 -- the rows of an atom: the head is atom 0, the subgoal at place s atom s + 1
@@ -127,7 +128,7 @@ subgoalAt subgoals s = getD subgoals s noAtom
 pub record SlotStands (claims : List ℤ) (slots : List ℕ) (cs : List Claim) (subgoals : List Atom) (k : ℕ) : Type 0 where
   pub claim : ClaimAt claims (getD slots k 0) (getD (claimsOnAll cs subgoals) k noClaim)
   pub subgoal : getD slots (128 + k) 0 < length subgoals
-  pub form : getD (subgoalForms cs subgoals) k zeroForm ≡ claimForm (subgoalAt subgoals (getD slots (128 + k) 0)) (getD (claimsOnAll cs subgoals) k noClaim)
+  pub form : getD (subgoalForms structural cs subgoals) k zeroForm ≡ claimForm structural (subgoalAt subgoals (getD slots (128 + k) 0)) (getD (claimsOnAll cs subgoals) k noClaim)
   pub full : length (getD (claimsOnAll cs subgoals) k noClaim .coefficients) ≡ arity (subgoalAt subgoals (getD slots (128 + k) 0) .terms)
 
 pub record RuleStands (t : Tables) (s : State) (p : Pack) (r : Rule) : Type 0 where

@@ -7,13 +7,13 @@ use native.Mathlib.Omega.{arith}
 use lib.ListN.{length, getD, List·getD-append}
 use lib.Seq.{getD-append-seam}
 use Rattle.integers.proofs.Truth.{by-truth, never-both}
+use Rattle.theory.specs.Lists.{_∈_}
 use Rattle.theory.specs.Text.{Bytes, same, among}
 use Rattle.theory.specs.Terms.{occurrences}
 use Rattle.theory.specs.Residuals.{numbered}
-use Rattle.theory.specs.Limits.{_∈_}
-use Rattle.theory.proofs.Bytes.{same-refl, same-equal}
-use Rattle.theory.proofs.Variables.{not-among, member-numbered, Once}
-use Rattle.theory.proofs.Sizes.{occurrences-append}
+use Rattle.theory.proofs.Reading.Bytes.{same-refl, same-equal}
+use Rattle.theory.proofs.Judging.Variables.{not-among, member-numbered, Once}
+use Rattle.theory.proofs.Soundness.Sizes.{occurrences-append}
 use Rattle.terms.proofs.Numbering.{place-among, place-once}
 
 -- ---- by name

@@ -4,12 +4,14 @@ use mathlib.Core.List.{_++_, append-assoc}
 use mathlib.Core.Option.{Option, some, none, Option·map}
 use Prim.Native.Nat.{ℕ, zero, suc, _+_, _<_}
 use native.Mathlib.Omega.{arith}
-use Rattle.theory.specs.Terms.{Terms, nil, cons, arity, firstTerms, sizes, variables, allVariables}
+use Rattle.theory.specs.Lists.{total}
+use Rattle.theory.specs.Terms.{Terms, nil, cons, arity, firstTerms, argumentSizes, variables, allVariables}
+use Rattle.theory.proofs.Soundness.StructuralSizes.{sizesTogether}
 
 pub record CutAt (k : ℕ) (ts first rest : Terms) : Type 0 where
   pub taken : arity first ≡ k
   pub count : arity ts ≡ k + arity rest
-  pub sizesAdd : sizes ts ≡ sizes first + sizes rest
+  pub sizesAdd : sizesTogether ts ≡ sizesTogether first + sizesTogether rest
   pub variablesJoin : allVariables ts ≡ allVariables first ++ allVariables rest
 
 -- the first k of some terms with the others, or none because there are fewer
@@ -18,7 +20,7 @@ pub data FirstOf (k : ℕ) (ts : Terms) : Option (Terms × Terms) → Type 0 whe
   too-few : arity ts < k → FirstOf k ts none
 
 pub first-of : (k : ℕ) (ts : Terms) → FirstOf k ts (firstTerms k ts)
-unfolding firstTerms arity sizes allVariables
+unfolding firstTerms arity total argumentSizes allVariables
 first-of zero ts = enough nil ts (record { taken = refl; count = omega arith; sizesAdd = omega arith; variablesJoin = refl })
 first-of (suc k) nil = too-few (omega arith)
 first-of (suc k) (cons t ts) = one-more (first-of k ts)

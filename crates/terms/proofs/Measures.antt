@@ -8,12 +8,13 @@ use lib.ListN.{length}
 use Rattle.integers.proofs.Truth.{ltb-ge, or-not-left, not-true, not-false}
 use Rattle.theory.specs.declared.Measurement.{Measurement}
 use Rattle.theory.specs.declared.Measurement.the-variants.{Size}
+use Rattle.theory.specs.Lists.{isEmpty}
 use Rattle.theory.specs.Text.{Bytes}
 use Rattle.theory.specs.Terms.{Term, readTerm, variables}
-use Rattle.theory.specs.Faults.{isUnfit, isTerm, isEmpty}
+use Rattle.theory.specs.Faults.{isUnfit, isTerm}
 use Rattle.theory.specs.Measure.{measured, measureTerm, measureOf}
 use Rattle.theory.specs.Answers.{measuredOf}
-use Rattle.theory.proofs.Presence.{is-some, is-none}
+use Rattle.theory.proofs.Reading.Presence.{is-some, is-none}
 use Rattle.terms.specs.Tokens.{ConstantRead, VariableFound}
 use Rattle.terms.proofs.TokenBounds.{size-small}
 

@@ -7,10 +7,10 @@ use native.Mathlib.Omega.{arith}
 use lib.ListN.{length, getD, length-append, List·getD-append}
 use Rattle.integers.proofs.Truth.{by-truth}
 use Rattle.integers.proofs.Lists.{getD-member, member-getD}
+use Rattle.theory.specs.Lists.{_∈_}
 use Rattle.theory.specs.Text.{Bytes, among}
 use Rattle.theory.specs.Residuals.{numbered}
-use Rattle.theory.specs.Limits.{_∈_}
-use Rattle.theory.proofs.Variables.{among-member, not-among, Once, once-none, once-more}
+use Rattle.theory.proofs.Judging.Variables.{among-member, not-among, Once, once-none, once-more}
 
 -- ---- among, by places
 

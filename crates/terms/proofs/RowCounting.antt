@@ -12,7 +12,7 @@ use Rattle.integers.proofs.Lists.{length-end}
 use Rattle.theory.specs.Text.{Bytes, among}
 use Rattle.theory.specs.Terms.{occurrences}
 use Rattle.theory.specs.Residuals.{numbered}
-use Rattle.theory.proofs.Variables.{Once}
+use Rattle.theory.proofs.Judging.Variables.{Once}
 use Rattle.terms.specs.Rows.{RowCounts}
 use Rattle.terms.proofs.RowStores.{countAt}
 use Rattle.terms.proofs.Counting.{occurrences-same, count-elsewhere, count-next, count-before}

@@ -7,9 +7,10 @@ use Prim.Native.Nat.{ℕ, zero, suc, _+_, _-_, _<_}
 use native.Mathlib.Omega.{arith}
 use lib.Dec.{eqb, eqb·zero-suc, eqb·suc-suc}
 use Rattle.integers.proofs.Truth.{by-truth, eqb-equal, eqb-unequal, equal-eqb, eqb-different}
+use Rattle.theory.specs.Lists.{isSome}
 use Rattle.theory.specs.Text.{Bytes, partsAt}
 use Rattle.theory.specs.Terms.{Terms, nil, cons, symbol, arity, Token, variableNamed, symbolOf, noToken, tokenOf, behind, behindAll, termsOf, theOnly, readTerm}
-use Rattle.theory.specs.Faults.{isSome, isTerm}
+use Rattle.theory.specs.Faults.{isTerm}
 use Rattle.terms.proofs.FirstTerms.{FirstOf, enough, too-few, first-of}
 
 -- one token, where some terms are wanted, and the rest of the scan by what is wanted then

@@ -10,11 +10,11 @@ use Rattle.integers.proofs.Truth.{by-truth, never-both, not-true, equal-eqb}
 use Rattle.integers.proofs.Lists.{getD-member}
 use Rattle.theory.specs.Text.{Bytes, isWord, isDigit, isName, isVariable, isDecimal, valueBehind, decimal}
 use Rattle.theory.specs.Terms.{Token, symbolOf, noToken, symbolToken, tokenOf}
-use Rattle.theory.proofs.Bytes.{between-from, between-low, between-high}
-use Rattle.theory.proofs.Every.{every-member}
-use Rattle.theory.proofs.Decimals.{decimal-of-value}
-use Rattle.theory.proofs.Spelling.{variable-no-slash}
-use Rattle.theory.proofs.Tokens.{ReadAs, as-variable, as-symbol, as-none, token-of-symbol, read-as}
+use Rattle.theory.proofs.Reading.Bytes.{between-from, between-low, between-high}
+use Rattle.theory.proofs.Reading.Every.{every-member}
+use Rattle.theory.proofs.Reading.Decimals.{decimal-of-value}
+use Rattle.theory.proofs.Reading.Spelling.{variable-no-slash}
+use Rattle.theory.proofs.Reading.Tokens.{ReadAs, as-variable, as-symbol, as-none, token-of-symbol, read-as}
 use Rattle.text.proofs.Parts.{drop-more}
 
 abbrev pub lastByte : Bytes → ℕ

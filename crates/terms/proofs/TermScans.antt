@@ -10,8 +10,9 @@ use denote.Enum.Declared.{tagOf}
 use types.Run.{OneOf}
 use mir.Syntax.{w64}
 use mir.Val.{Fits}
+use Rattle.theory.specs.Lists.{isEmpty}
 use Rattle.theory.specs.Text.{Bytes, partsAt}
-use Rattle.theory.specs.Faults.{isEmpty, isTerm}
+use Rattle.theory.specs.Faults.{isTerm}
 use Rattle.text.specs.Scans.{part, Finds, partsFrom}
 use Rattle.text.specs.Words.{VariableRead}
 use Rattle.text.specs.declared.Words.{Words}

@@ -7,11 +7,10 @@ use Prim.Native.Nat.{ℕ, suc, _+_, _-_, _*_, _≤_, _<_, _^_}
 use native.Mathlib.Omega.{arith}
 use lib.ListN.{length}
 use Rattle.integers.proofs.Truth.{by-truth}
-use Rattle.theory.specs.Text.{Bytes, same, partsAt, isVariable}
-use Rattle.theory.specs.Terms.{Term, Token, tokenOf, symbolOf, readTerm, contribution, size, variables, occurrences}
-use Rattle.theory.proofs.Separators.{joined-of-parts}
-use Rattle.theory.proofs.Tokens.{ReadAs, as-variable, as-symbol, as-none, read-as}
-use Rattle.theory.proofs.TermLengths.{joined-count}
+use Rattle.theory.specs.Text.{Bytes, partsAt, isVariable}
+use Rattle.theory.specs.Terms.{Term, Token, tokenOf, symbolOf, readTerm, structural, size, variables}
+use Rattle.theory.proofs.Reading.Tokens.{ReadAs, as-variable, as-symbol, as-none, read-as}
+use Rattle.theory.proofs.Reading.TermLengths.{parts-count}
 use Rattle.terms.proofs.TokenKinds.{arity-of-token}
 use Rattle.terms.proofs.TokenSums.{constantOf, constants, variableTokens, token-sums}
 
@@ -22,7 +21,7 @@ pub wanted-behind : (w f : Bytes) (k wanted passed : ℕ) → tokenOf w ≡ symb
 wanted-behind w f k wanted passed e h = omega (arith, arity-of-token w f k e)
 
 constant-of-token : (w : Bytes) → constantOf (tokenOf w) ≤ 9
-unfolding constantOf contribution
+unfolding constantOf
 constant-of-token w = one-digit (read-as w)
   where
     one-digit : {token : Token} → ReadAs w token → constantOf token ≤ 9
@@ -41,22 +40,13 @@ variable-tokens-count [] = omega arith
 variable-tokens-count (w ∷ ws) =
     by-truth (λ b. length (cond b (w ∷ variableTokens ws) (variableTokens ws)) ≤ suc (length ws)) (isVariable w) (λ h. omega (arith, variable-tokens-count ws)) (λ h. omega (arith, variable-tokens-count ws))
 
-pub occurrences-bound : (x : Bytes) (xs : List Bytes) → occurrences x xs ≤ length xs
-unfolding occurrences
-occurrences-bound x [] = omega arith
-occurrences-bound x (y ∷ xs) =
-    by-truth (λ b. cond b (suc (occurrences x xs)) (occurrences x xs) ≤ suc (length xs)) (same x y) (λ h. omega (arith, occurrences-bound x xs)) (λ h. omega (arith, occurrences-bound x xs))
-
 -- ---- against the number of bytes
-
-pub parts-count : (separator : ℕ) (bs : Bytes) → length (partsAt separator bs) ≤ suc (length bs)
-parts-count separator bs = omega (arith, joined-count separator (partsAt separator bs), ap length (joined-of-parts separator bs))
 
 -- for fields no longer than a line
 pub constants-small : (field : Bytes) → length field ≤ 1024 → constants (partsAt 32 field) < 2 ^ 16
 constants-small field short = omega (arith, constants-bound (partsAt 32 field), parts-count 32 field)
 
-pub size-small : (field : Bytes) (t : Term) → readTerm field ≡ some t → length field ≤ 1024 → size t < 2 ^ 16
+pub size-small : (field : Bytes) (t : Term) → readTerm field ≡ some t → length field ≤ 1024 → size structural t < 2 ^ 16
 size-small field t e short = omega (arith, token-sums field t e .constant, constants-small field short)
 
 pub variables-few : (field : Bytes) (t : Term) → readTerm field ≡ some t → length field ≤ 1024 → length (variables t) ≤ 1025

@@ -6,10 +6,10 @@ use mathlib.Core.List.{List, _∷_, List·Memᴰ·head, List·Memᴰ·tail}
 use Prim.Native.Nat.{ℕ, _≤_}
 use native.Mathlib.Omega.{arith}
 use Rattle.integers.proofs.Truth.{by-truth}
+use Rattle.theory.specs.Lists.{_∈_}
 use Rattle.theory.specs.Text.{Bytes, isVariable}
 use Rattle.theory.specs.Terms.{Token, variableNamed, symbolOf, tokenOf}
-use Rattle.theory.specs.Limits.{_∈_}
-use Rattle.theory.proofs.Tokens.{ReadAs, as-variable, as-symbol, as-none, token-of-variable, read-as}
+use Rattle.theory.proofs.Reading.Tokens.{ReadAs, as-variable, as-symbol, as-none, token-of-variable, read-as}
 
 -- ---- one token
 

@@ -7,8 +7,8 @@ use lib.ListN.{length}
 use Rattle.integers.proofs.Truth.{never-both}
 use Rattle.theory.specs.Text.{Bytes, isDigit, isName, isVariable}
 use Rattle.theory.specs.Terms.{variableNamed, symbolOf, noToken, tokenOf}
-use Rattle.theory.proofs.Bytes.{between-from, between-low, between-high}
-use Rattle.theory.proofs.Tokens.{token-of-variable}
+use Rattle.theory.proofs.Reading.Bytes.{between-from, between-low, between-high}
+use Rattle.theory.proofs.Reading.Tokens.{token-of-variable}
 use Rattle.text.specs.declared.Words.{Words}
 use Rattle.text.specs.declared.Word.{Word}
 use Rattle.text.specs.declared.Word.the-variants.{Name, Variable, Neither}

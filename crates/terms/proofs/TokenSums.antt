@@ -1,4 +1,4 @@
--- The size and the variables of a term, token by token: its constant is the sum of its symbols' contributions, and its variables are the tokens spelled as one.
+-- The size and the variables of a term, token by token: its constant is the sum of its symbols' arities, and its variables are the tokens spelled as one.
 use mathlib.Core.Path.{_≡_, refl, _∙_, ap}
 use mathlib.Core.Logic.{inl, inr}
 use mathlib.Core.Bool.{true, false, cond}
@@ -6,18 +6,20 @@ use mathlib.Core.List.{List, [], _∷_, append-nil, List·Memᴰ·not-nil}
 use mathlib.Core.Option.{Option, some, none, Option·map, Option·some-injective, Option·none-ne-some}
 use Prim.Native.Nat.{ℕ, _+_}
 use native.Mathlib.Omega.{arith}
+use Rattle.theory.specs.Lists.{total}
 use Rattle.theory.specs.Text.{Bytes, partsAt, isVariable}
 use Rattle.theory.specs.Terms.{Term, variable, symbol, Terms, nil, cons, Token, variableNamed, symbolOf, noToken, tokenOf, behind, behindAll, termsOf, theOnly, readTerm}
-use Rattle.theory.specs.Terms.{contribution, size, sizes, variables, allVariables}
+use Rattle.theory.specs.Terms.{structural, size, argumentSizes, variables, allVariables}
 use Rattle.theory.specs.Faults.{isTerm}
-use Rattle.theory.proofs.Presence.{is-some}
-use Rattle.theory.proofs.Tokens.{ReadAs, as-variable, as-symbol, as-none, read-as}
+use Rattle.theory.proofs.Reading.Presence.{is-some}
+use Rattle.theory.proofs.Reading.Tokens.{ReadAs, as-variable, as-symbol, as-none, read-as}
+use Rattle.theory.proofs.Soundness.StructuralSizes.{sizesTogether, structural-size}
 use Rattle.terms.proofs.TokenKinds.{IsRead, AllRead, one-more-read, symbol-token}
 use Rattle.terms.proofs.FirstTerms.{FirstOf, enough, too-few, first-of}
 
 unfoldable pub constantOf : Token → ℕ
 constantOf (variableNamed x) = 0
-constantOf (symbolOf f k) = contribution k
+constantOf (symbolOf f k) = k
 constantOf noToken = 0
 
 unfoldable pub constants : List Bytes → ℕ
@@ -31,7 +33,7 @@ variableTokens (w ∷ ws) = cond (isVariable w) (w ∷ variableTokens ws) (varia
 -- ---- one token more
 
 module _ (w : Bytes) (ws : List Bytes) where
-  pub constants-symbol : (f : Bytes) (k : ℕ) → tokenOf w ≡ symbolOf f k → constants (w ∷ ws) ≡ contribution k + constants ws
+  pub constants-symbol : (f : Bytes) (k : ℕ) → tokenOf w ≡ symbolOf f k → constants (w ∷ ws) ≡ k + constants ws
   unfolding constants constantOf
   constants-symbol f k e = rw e
 
@@ -41,7 +43,6 @@ module _ (w : Bytes) (ws : List Bytes) where
 
   -- one step of adding up arities, where a variable's is 0
   pub constants-step : (r : ℕ) → IsRead w → ((f : Bytes) (k : ℕ) → tokenOf w ≡ symbolOf f k → r ≡ k) → (tokenOf w ≡ variableNamed w → r ≡ 0) → constants (w ∷ ws) ≡ r + constants ws
-  unfolding contribution
   constants-step r (inl e) of-symbol of-variable = omega (arith, constants-variable e, of-variable e)
   constants-step r (inr (f, k, e)) of-symbol of-variable = omega (arith, constants-symbol f k e, of-symbol f k e)
 
@@ -57,11 +58,11 @@ module _ (w : Bytes) (ws : List Bytes) where
 
 -- what tokens are read as, with the sums of their tokens
 data Summed (ws : List Bytes) : Option Terms → Type 0 where
-  summed : (ts : Terms) → constants ws ≡ sizes ts → variableTokens ws ≡ allVariables ts → AllRead ws → Summed ws (some ts)
+  summed : (ts : Terms) → constants ws ≡ sizesTogether ts → variableTokens ws ≡ allVariables ts → AllRead ws → Summed ws (some ts)
   unread : Summed ws none
 
-token-in-front : (w : Bytes) (ws : List Bytes) (us : Terms) → constants ws ≡ sizes us → variableTokens ws ≡ allVariables us → AllRead ws → {token : Token} → ReadAs w token → tokenOf w ≡ token → Summed (w ∷ ws) (behind token us)
-unfolding behind size variables
+token-in-front : (w : Bytes) (ws : List Bytes) (us : Terms) → constants ws ≡ sizesTogether us → variableTokens ws ≡ allVariables us → AllRead ws → {token : Token} → ReadAs w token → tokenOf w ≡ token → Summed (w ∷ ws) (behind token us)
+unfolding behind total size variables
 token-in-front w ws us sum names all (as-variable h) e =
     summed (cons (variable w) us) (omega (arith, constants-variable w ws e)) (variable-first w ws h ∙ ap (λ l. w ∷ l) names) (one-more-read w ws (inl e) all)
 token-in-front w ws us sum names all (as-symbol {f = f} {k = k} is named few) e = with-arguments (first-of k us)
@@ -70,14 +71,14 @@ token-in-front w ws us sum names all (as-symbol {f = f} {k = k} is named few) e 
     with-arguments (enough first rest cut) =
         summed
         (cons (symbol f first) rest)
-        (omega (arith, constants-symbol w ws f k e, ap contribution (cut .taken)))
+        (omega (arith, constants-symbol w ws f k e, structural-size f first, cut .taken))
         (other-first w ws (symbol-token w f k e) ∙ names ∙ cut .variablesJoin)
         (one-more-read w ws (inr (f, k, e)) all)
     with-arguments (too-few h) = unread
 token-in-front w ws us sum names all as-none e = unread
 
 terms-summed : (ws : List Bytes) → Summed ws (termsOf ws)
-unfolding termsOf behindAll constants variableTokens sizes allVariables
+unfolding termsOf behindAll constants variableTokens total argumentSizes allVariables
 terms-summed [] = summed nil refl refl (λ w m. absurd (List·Memᴰ·not-nil m))
 terms-summed (w ∷ ws) = in-front (terms-summed ws)
   where
@@ -88,19 +89,19 @@ terms-summed (w ∷ ws) = in-front (terms-summed ws)
 -- ---- a field that is a term
 
 pub record Sums (field : Bytes) (t : Term) : Type 0 where
-  pub constant : constants (partsAt 32 field) ≡ size t
+  pub constant : constants (partsAt 32 field) ≡ size structural t
   pub names : variableTokens (partsAt 32 field) ≡ variables t
   pub all : AllRead (partsAt 32 field)
 
 pub token-sums : (field : Bytes) (t : Term) → readTerm field ≡ some t → Sums field t
-unfolding readTerm theOnly sizes allVariables
+unfolding readTerm theOnly total argumentSizes allVariables
 token-sums field t e = only (terms-summed (partsAt 32 field)) e
   where
     only : {o : Option Terms} → Summed (partsAt 32 field) o → theOnly o ≡ some t → Sums field t
     only (summed nil sum names all) e = absurd (Option·none-ne-some t e)
     only (summed (cons u nil) sum names all) e =
         let same : u ≡ t = Option·some-injective u t e in
-        record { constant = omega (arith, ap size same); names = names ∙ append-nil (variables u) ∙ ap variables same; all = all }
+        record { constant = omega (arith, ap (size structural) same); names = names ∙ append-nil (variables u) ∙ ap variables same; all = all }
     only (summed (cons u (cons v ts)) sum names all) e = absurd (Option·none-ne-some t e)
     only unread e = absurd (Option·none-ne-some t e)
 

@@ -10,8 +10,8 @@ use lib.Seq.{getD-set-same, getD-set-other, getD-append-seam}
 use Rattle.integers.proofs.Lists.{length-end}
 use Rattle.theory.specs.Text.{Bytes, among, isVariable}
 use Rattle.theory.specs.Residuals.{numbered}
-use Rattle.theory.proofs.Spelling.{variable-bytes}
-use Rattle.theory.proofs.Variables.{Once, numbered-once}
+use Rattle.theory.proofs.Reading.Spelling.{variable-bytes}
+use Rattle.theory.proofs.Judging.Variables.{Once, numbered-once}
 use Rattle.text.specs.Words.{wordsOf, wordsAt, PlaceOf}
 use Rattle.text.specs.declared.Words.{Words}
 use Rattle.text.proofs.WordLaws.{words-equal}

@@ -10,7 +10,7 @@ use Rattle.theory.specs.Text.{Bytes, isVariable}
 use Rattle.theory.specs.Terms.{Term, readTerm, variables, occurrences}
 use Rattle.theory.specs.Packs.{lineLimit, variableLimit}
 use Rattle.theory.specs.Residuals.{numbered}
-use Rattle.theory.proofs.Variables.{Once}
+use Rattle.theory.proofs.Judging.Variables.{Once}
 use Rattle.text.specs.Words.{wordsOf, wordsAt, PlaceOf}
 use Rattle.text.specs.declared.Words.{Words}
 

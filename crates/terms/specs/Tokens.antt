@@ -1,11 +1,11 @@
 -- What the token reader and the term readers found.
 use mathlib.Core.Path.{_≡_}
-use mathlib.Core.Bool.{Bool, true, not}
+use mathlib.Core.Bool.{Bool, not}
 use mathlib.Core.Option.{some}
 use Prim.Native.Nat.{ℕ, _≤_}
+use Rattle.theory.specs.Lists.{isEmpty}
 use Rattle.theory.specs.Text.{Bytes}
-use Rattle.theory.specs.Terms.{Term, variableNamed, symbolOf, noToken, tokenOf, readTerm, size, variables}
-use Rattle.theory.specs.Faults.{isEmpty}
+use Rattle.theory.specs.Terms.{Term, variableNamed, symbolOf, noToken, tokenOf, readTerm, structural, size, variables}
 use Rattle.terms.specs.declared.Token.{Token}
 use Rattle.terms.specs.declared.Token.the-variants.{Variable, Symbol, NoToken}
 
@@ -21,7 +21,7 @@ pub record ArityRead (bs : Bytes) (r : ℕ) : Type 0 where
 
 -- of a field that is a term: its constant; whether it has a variable
 pub record ConstantRead (field : Bytes) (r : ℕ) : Type 0 where
-  pub is : (t : Term) → readTerm field ≡ some t → r ≡ size t
+  pub is : (t : Term) → readTerm field ≡ some t → r ≡ size structural t
 
 pub record VariableFound (field : Bytes) (r : Bool) : Type 0 where
   pub is : (t : Term) → readTerm field ≡ some t → r ≡ not (isEmpty (variables t))

@@ -7,8 +7,8 @@ use native.Mathlib.Omega.{arith}
 use lib.ListN.{length, getD, take, drop}
 use lib.Seq.{take-add, drop-drop}
 use Rattle.theory.specs.Text.{Bytes}
-use Rattle.theory.proofs.Every.{every-append}
-use Rattle.theory.proofs.Separators.{isFree}
+use Rattle.theory.proofs.Reading.Every.{every-append}
+use Rattle.theory.proofs.Reading.Separators.{isFree}
 use Rattle.text.specs.Scans.{part, Finds, Nearest}
 use Rattle.text.proofs.Parts.{free-none, free-more}
 

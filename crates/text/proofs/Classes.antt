@@ -6,7 +6,8 @@ use Prim.Native.Nat.{ℕ, _+_, _<_}
 use lib.Dec.{eqb, leb}
 use lib.ListN.{length, getD, take, drop, take-append-drop}
 use Rattle.integers.proofs.Truth.{and-left, and-right, and-not-left, and-not-right, gt-leb}
-use Rattle.theory.specs.Text.{Bytes, every, between, isLower, isUpper, isDigit, isNameByte}
+use Rattle.theory.specs.Lists.{every}
+use Rattle.theory.specs.Text.{Bytes, between, isLower, isUpper, isDigit, isNameByte}
 use Rattle.text.proofs.Parts.{drop-more}
 
 module _ (test : ℕ → Bool) where

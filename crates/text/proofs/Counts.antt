@@ -9,7 +9,7 @@ use lib.ListN.{length, getD, drop, length-drop, drop-of-length-le}
 use lib.Seq.{length-take-le}
 use Rattle.integers.proofs.Truth.{by-truth, equal-eqb, eqb-different}
 use Rattle.theory.specs.Text.{Bytes, onFirst, partsAt}
-use Rattle.theory.proofs.Separators.{parts-cons}
+use Rattle.theory.proofs.Reading.Separators.{parts-cons}
 use Rattle.text.specs.Scans.{part, CountsParts}
 use Rattle.text.proofs.Parts.{drop-cut, drop-more}
 

@@ -8,8 +8,8 @@ use native.Mathlib.Omega.{arith}
 use lib.ListN.{length, drop, length-take, length-drop, drop-of-length-le}
 use Rattle.integers.proofs.Truth.{le-leb, gt-leb}
 use Rattle.theory.specs.Text.{Bytes, onFirst, partsAt, linesOf}
-use Rattle.theory.proofs.Every.{every-rest}
-use Rattle.theory.proofs.Separators.{isFree, free-first, Cuts, parts-cut, lines-cut, cut-other, cut-off}
+use Rattle.theory.proofs.Reading.Every.{every-rest}
+use Rattle.theory.proofs.Reading.Separators.{isFree, free-first, Cuts, parts-cut, lines-cut, cut-other, cut-off}
 use Rattle.text.specs.Scans.{part, Finds, partsFrom}
 use Rattle.text.proofs.Parts.{part-rest, drop-cut, drop-more}
 

@@ -6,7 +6,8 @@ use native.Mathlib.Omega.{arith}
 use lib.Dec.{leb, ltb}
 use lib.ListN.{length, getD, drop, drop-of-length-le}
 use Rattle.integers.proofs.Truth.{by-truth, leb-le, leb-gt, lt-ltb, ge-ltb}
-use Rattle.theory.specs.Text.{Bytes, every, between}
+use Rattle.theory.specs.Lists.{every}
+use Rattle.theory.specs.Text.{Bytes, between}
 use Rattle.theory.specs.Faults.{isUnfit}
 use Rattle.text.proofs.Classes.{every-at}
 

@@ -13,7 +13,7 @@ use mir.Syntax.{w32, w64}
 use mir.Val.{Fits, SFits, toZ, ofZ}
 use Rattle.integers.proofs.Truth.{equal-eqb, eqb-different}
 use Rattle.theory.specs.Text.{Bytes, natural, negated, integer}
-use Rattle.theory.proofs.Spelling.{natural-within}
+use Rattle.theory.proofs.Reading.Spelling.{natural-within}
 use Rattle.text.specs.declared.Natural.{Natural}
 use Rattle.text.specs.declared.Natural.the-variants.{Whole, NoNatural}
 use Rattle.text.specs.Numbers.{naturalOf}

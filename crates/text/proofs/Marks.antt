@@ -9,9 +9,10 @@ use lib.Dec.{eqb}
 use lib.ListN.{length, getD, take, drop, length-drop}
 use lib.Seq.{length-take-le, take-take, getD-take, getD-drop}
 use Rattle.integers.proofs.Truth.{by-truth, eqb-equal, eqb-unequal, eqb-different, equal-eqb}
-use Rattle.theory.specs.Text.{Bytes, every}
-use Rattle.theory.proofs.Every.{every-cons}
-use Rattle.theory.proofs.Separators.{isFree}
+use Rattle.theory.specs.Lists.{every}
+use Rattle.theory.specs.Text.{Bytes}
+use Rattle.theory.proofs.Reading.Every.{every-cons}
+use Rattle.theory.proofs.Reading.Separators.{isFree}
 use Rattle.text.specs.Scans.{part, Nearest, markOf, marks, Marked}
 use Rattle.text.proofs.Parts.{part-none, part-more}
 use Rattle.text.proofs.Blocks.{part-join}

@@ -7,8 +7,9 @@ use Prim.Native.Nat.{ℕ, _+_, _-_, _*_, _≤_, _<_}
 use native.Mathlib.Omega.{arith}
 use lib.ListN.{length, getD, drop, drop-of-length-le}
 use Rattle.integers.proofs.Truth.{and-not-left, equal-eqb, eqb-different, le-leb, gt-leb}
-use Rattle.theory.specs.Text.{Bytes, every, isDigit, valueBehind, isDecimal, natural}
-use Rattle.theory.proofs.Bytes.{between-from}
+use Rattle.theory.specs.Lists.{every}
+use Rattle.theory.specs.Text.{Bytes, isDigit, valueBehind, isDecimal, natural}
+use Rattle.theory.proofs.Reading.Bytes.{between-from}
 use Rattle.text.proofs.Parts.{empty-is, drop-more}
 use Rattle.text.proofs.Classes.{between-below, between-above, every-at}
 

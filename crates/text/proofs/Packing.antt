@@ -9,7 +9,8 @@ use lib.Seq.{drop-length}
 use mir.Syntax.{w64}
 use mir.Val.{Fits}
 use Rattle.integers.proofs.Truth.{and-both, and-not-left}
-use Rattle.theory.specs.Text.{Bytes, every, isNameByte}
+use Rattle.theory.specs.Lists.{every}
+use Rattle.theory.specs.Text.{Bytes, isNameByte}
 use Rattle.text.specs.Words.{number, PacksInto}
 use Rattle.text.proofs.Classes.{every-at, every-not-behind}
 use Rattle.text.proofs.WordLaws.{number-at}

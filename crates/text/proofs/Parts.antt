@@ -8,9 +8,10 @@ use native.Mathlib.Omega.{arith}
 use lib.ListN.{length, getD, take, drop, length-drop, take-append-drop, drop-of-length-le}
 use lib.Seq.{take-suc, take-all, drop-cons, drop-drop, getD-drop}
 use Rattle.integers.proofs.Truth.{eqb-different}
-use Rattle.theory.specs.Text.{Bytes, every}
-use Rattle.theory.proofs.Every.{every-append}
-use Rattle.theory.proofs.Separators.{isFree}
+use Rattle.theory.specs.Lists.{every}
+use Rattle.theory.specs.Text.{Bytes}
+use Rattle.theory.proofs.Reading.Every.{every-append}
+use Rattle.theory.proofs.Reading.Separators.{isFree}
 use Rattle.text.specs.Scans.{part}
 
 module _ (s : Bytes) where

@@ -6,9 +6,10 @@ use Prim.Native.Nat.{ℕ, _+_, _*_, _≤_, _<_}
 use native.Mathlib.Omega.{arith}
 use lib.ListN.{length, getD, take, drop, take-append-drop}
 use Rattle.integers.proofs.Truth.{and-left, gt-leb}
-use Rattle.theory.specs.Text.{Bytes, every, isWord, isName, isVariable}
-use Rattle.theory.proofs.Bytes.{isTokenByte, between-low, between-high}
-use Rattle.theory.proofs.Every.{every-first, every-rest}
+use Rattle.theory.specs.Lists.{every}
+use Rattle.theory.specs.Text.{Bytes, isWord, isName, isVariable}
+use Rattle.theory.proofs.Reading.Bytes.{isTokenByte, between-low, between-high}
+use Rattle.theory.proofs.Reading.Every.{every-first, every-rest}
 use Rattle.text.specs.Words.{number, wordsOf}
 use Rattle.text.proofs.Parts.{drop-more}
 use Rattle.text.proofs.Classes.{every-before, every-behind}

@@ -9,7 +9,8 @@ use lib.Dec.{leb, leb·suc-suc}
 use lib.ListN.{length, getD, take, drop, drop-of-length-le}
 use lib.Seq.{take-all}
 use Rattle.integers.proofs.Truth.{by-truth, and-both, and-not-left, and-not-right, le-leb, gt-leb}
-use Rattle.theory.specs.Text.{Bytes, every, isLower, isUpper, isNameByte, isWord, isName, isVariable}
+use Rattle.theory.specs.Lists.{every}
+use Rattle.theory.specs.Text.{Bytes, isLower, isUpper, isNameByte, isWord, isName, isVariable}
 use Rattle.text.specs.declared.Words.{Words}
 use Rattle.text.specs.declared.Packed.{Packed}
 use Rattle.text.specs.declared.Word.{Word}

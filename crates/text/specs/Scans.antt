@@ -6,7 +6,7 @@ use Prim.Native.Nat.{ℕ, _+_, _-_, _*_, _≤_, _<_}
 use lib.Dec.{leb, eqb}
 use lib.ListN.{length, getD, take, drop}
 use Rattle.theory.specs.Text.{Bytes, partsAt}
-use Rattle.theory.proofs.Separators.{isFree}
+use Rattle.theory.proofs.Reading.Separators.{isFree}
 
 -- the bytes from place a up to place e
 abbrev pub part : Bytes → ℕ → ℕ → Bytes

@@ -4,7 +4,8 @@ use mathlib.Core.Bool.{true, false}
 use mathlib.Core.List.{List, [], _∷_}
 use Prim.Native.Nat.{ℕ, _+_, _*_, _≤_, _<_}
 use lib.ListN.{getD, take, drop}
-use Rattle.theory.specs.Text.{Bytes, every, isNameByte, isName, isVariable}
+use Rattle.theory.specs.Lists.{every}
+use Rattle.theory.specs.Text.{Bytes, isNameByte, isName, isVariable}
 use Rattle.text.specs.declared.Words.{Words}
 use Rattle.text.specs.declared.Packed.{Packed}
 use Rattle.text.specs.declared.Word.{Word}

@@ -1,20 +1,24 @@
--- Document 01, "Examples on the edges": those with a star, as one table met by computation from the definitions.
-use mathlib.Core.Path.{_≡_, refl}
-use mathlib.Core.List.{List, [], _∷_, _++_, map, flatMap}
+-- The starred examples of document 01 as one table: the definitions compute every answer in it.
+use mathlib.Core.Path.{_≡_, refl, sym, ap, subst}
+use mathlib.Core.List.{List, [], _∷_, _++_, map, flatMap, flatten, List·Memᴰ·head, List·Memᴰ·eq-of-singleton}
 use Prim.Native.Nat.{ℕ}
 use Prim.Native.Char.{code}
+use native.Mathlib.Omega.{arith}
 use Prim.Native.String.{String}
 use lib.IntN.{ℤ, pos, negsuc}
 use lib.ListN.{replicate}
-use Rattle.theory.specs.Text.{bytes, same, among, every, partsAt, joined, linesOf, isNameByte, isWord, valueBehind, isDecimal, natural, negated, integer}
-use Rattle.theory.specs.Terms.{arity, symbolFrom, tokenOf, firstTerms, behind, behindAll, termsOf, theOnly, readTerm, contribution, size, variables, occurrences}
+use Rattle.theory.specs.Lists.{_∈_, total, every, isSome, isEmpty}
+use Rattle.theory.specs.Text.{bytes, same, among, partsAt, joined, linesOf, isNameByte, isWord, valueBehind, isDecimal, natural, negated, integer}
+use Rattle.theory.specs.Terms.{variable, nil, cons, arity, symbolFrom, symbolIn, tokenOf, firstTerms, behind, behindAll, termsOf, theOnly, readTerm, structural, flagged, size, counted, variables, occurrences}
 use Rattle.theory.specs.Forms.{zeroForm, plus, times, minus, constantForm, formOf}
-use Rattle.theory.specs.Packs.{key, sameKey, declaredAs, claimsOn}
+use Rattle.theory.specs.Packs.{given, Predicate, Atom, Rule, fromRules, fromClaims, ruleLines, claimLine, headLine, key, sameKey, declaredAs, claimsOn, noClaim}
 use Rattle.theory.specs.Written.{letterOf, termsFrom, kindFrom, predicateFrom, claimFrom, atomFrom, multipliersFrom, nothing, onLast, add, write, writeAll, packOf}
 use Rattle.theory.specs.Residuals.{weighted, claimForm, subgoalForms, combined, residual, numbered, atomsVariables, ruleVariables, residualNumbers, isJustified}
-use Rattle.theory.specs.Faults.{firstOf, isSome, isUnfit, arityIn, isGiven, givenIn, isEmpty, noRule, lastOf, mayStand, noClaim, residualDue, predicateTests, claimTests, atomTests, headTests, subgoalTests, multiplierTests, tests, fault}
+use Rattle.theory.specs.Faults.{firstOf, isUnfit, arityIn, isGiven, givenIn, noRule, lastOf, mayStand, residualDue, predicateTests, claimTests, atomTests, headTests, subgoalTests, multiplierTests, tests, fault}
 use Rattle.theory.specs.Check.{numbers, Checked, multiplierLines, refused, judge, isFinished, verdictOf, checkOf}
 use Rattle.theory.specs.Measure.{Measured, measured, measureTerm, measureOf}
+use Rattle.theory.specs.Derivations.{GivenFact, Derivable, byRule, atomUnder}
+use Rattle.theory.proofs.Judging.Keys.{declared-member}
 use Rattle.theory.specs.Reserve.{Fields, fields, sizeFrom, queryFrom, queryOf, queryFault, unknownsAtMostZero, knownPart, isUsable, numerator, boundBy, usableFrom, impossibles, smallest, bounded, impossibleOr, reservation, refusal, answerOf, reserveOf}
 
 -- a call with quoted texts, and what it answers
@@ -29,7 +33,7 @@ pub data Answer : Type 0 where
   sized : Measured → Answer
 
 unfoldable pub answerTo : Example → Answer
-unfolding bytes same among every partsAt joined linesOf isNameByte isWord valueBehind isDecimal natural negated integer arity symbolFrom tokenOf firstTerms behind behindAll termsOf theOnly readTerm contribution size variables occurrences zeroForm plus times minus constantForm formOf key sameKey declaredAs claimsOn letterOf termsFrom kindFrom predicateFrom claimFrom atomFrom multipliersFrom nothing onLast add write writeAll packOf weighted claimForm subgoalForms combined residual numbered atomsVariables ruleVariables residualNumbers isJustified firstOf isSome isUnfit arityIn isGiven givenIn isEmpty noRule lastOf mayStand noClaim residualDue predicateTests claimTests atomTests headTests subgoalTests multiplierTests tests fault multiplierLines refused judge isFinished verdictOf checkOf measureTerm measureOf sizeFrom queryFrom queryOf queryFault unknownsAtMostZero knownPart isUsable numerator boundBy usableFrom impossibles smallest bounded impossibleOr reservation refusal answerOf reserveOf flatMap
+unfolding bytes same among every partsAt joined linesOf isNameByte isWord valueBehind isDecimal natural negated integer arity symbolFrom symbolIn tokenOf firstTerms behind behindAll termsOf theOnly readTerm structural flagged total flatten size counted variables occurrences zeroForm plus times minus constantForm formOf key sameKey declaredAs claimsOn letterOf termsFrom kindFrom predicateFrom claimFrom atomFrom multipliersFrom nothing onLast add write writeAll packOf weighted claimForm subgoalForms combined residual numbered atomsVariables ruleVariables residualNumbers isJustified firstOf isSome isUnfit arityIn isGiven givenIn isEmpty noRule lastOf fromRules fromClaims ruleLines claimLine headLine mayStand noClaim residualDue predicateTests claimTests atomTests headTests subgoalTests multiplierTests tests fault multiplierLines refused judge isFinished verdictOf checkOf measureTerm measureOf sizeFrom queryFrom queryOf queryFault unknownsAtMostZero knownPart isUsable numerator boundBy usableFrom impossibles smallest bounded impossibleOr reservation refusal answerOf reserveOf flatMap
 answerTo (check pack area) = checked (checkOf (bytes pack) area)
 answerTo (reserve pack query) = reserved (reserveOf (bytes pack) (bytes query))
 answerTo (measure term) = sized (measureOf (bytes term))
@@ -48,13 +52,22 @@ unchanged a b c d = checked (record { returned = numbers a b c d; area = before 
 abbrev unjustified : ℕ → ℕ → ℕ → List ℤ → Answer
 unjustified l r c area = checked (record { returned = numbers 13 l r c; area = area })
 
-pub record Row : Type 0 where
+-- what is said besides of a pack: it has facts, but none has a derivation
+abbrev NothingDerivable : String → Type 0
+NothingDerivable pack = (f : Atom) → Derivable (packOf (bytes pack)) (GivenFact (packOf (bytes pack))) f → ⊥
+
+pub record Row : Type 1 where
   pub call : Example
   pub answer : Answer
+  pub besides : Type 0
 
 infix 10 _gives_
 abbrev _gives_ : Example → Answer → Row
-_gives_ e a = record { call = e; answer = a }
+_gives_ e a = record { call = e; answer = a; besides = Unit {0} }
+
+-- a claim that contradicts itself
+abbrev contradicted : String
+contradicted = "P,k,1,R\nC,k,-1,0\nH,k,X\nB,k,X\nM,1\nE\n"
 
 abbrev pub starred : List Row
 starred =
@@ -65,12 +78,38 @@ starred =
     ∷ (check "E\nE\n" before gives unchanged 5 2 0 0)
     ∷ (check "P,k,1,R\nC,k,-1,1\nH,k,nil/0\nM\nE\n" before gives unjustified 4 1 1 (left 16 (negsuc 0 ∷ [])))
     ∷ (check "P,k,1,R\nC,k,0,1\nH,k,nil/0\nM\nE\n" before gives unchanged 0 5 1 1)
-    ∷ (check "P,k,1,R\nC,k,-1,0\nH,k,X\nB,k,X\nM,1\nE\n" before gives unchanged 0 6 1 1)
+    ∷ record { call = check contradicted before; answer = unchanged 0 6 1 1; besides = NothingDerivable contradicted }
     ∷ (reserve "P,k,1,G\nC,k,7,-2\nE\n" "k,1,-" gives reserved (fields (code "B") 3 1))
     ∷ (measure "a/0" gives sized (measured 0 0))
     ∷ (measure "cons/2 a/0" gives sized (measured 11 0))
     ∷ []
 
-pub starred-are-met : map (λ (r : Row). answerTo (r .call)) starred ≡ map (λ (r : Row). r .answer) starred
+-- ---- what is said besides
+
+-- its only predicate is ruled
+no-given : (x : Predicate) → x ∈ packOf (bytes contradicted) .predicates → x .kind ≡ given → ⊥
+unfolding bytes same every partsAt linesOf isNameByte isWord valueBehind isDecimal natural negated integer arity symbolFrom symbolIn tokenOf firstTerms behind behindAll termsOf theOnly readTerm key sameKey declaredAs claimsOn letterOf termsFrom kindFrom predicateFrom claimFrom atomFrom multipliersFrom nothing onLast add write writeAll packOf
+no-given x m e = let z : _≡_ {A = ℕ} 0 1 = cc (ap (λ (y : Predicate). y .kind) (List·Memᴰ·eq-of-singleton m)) in omega arith
+
+-- and its only rule has a subgoal
+rule-subgoal : (r : Rule) → r ∈ packOf (bytes contradicted) .rules → (a : Atom) × (a ∈ r .subgoals)
+unfolding bytes same every partsAt linesOf isNameByte isWord valueBehind isDecimal natural negated integer arity symbolFrom symbolIn tokenOf firstTerms behind behindAll termsOf theOnly readTerm key sameKey declaredAs claimsOn letterOf termsFrom kindFrom predicateFrom claimFrom atomFrom multipliersFrom nothing onLast add write writeAll packOf
+rule-subgoal r m = (record { name = bytes "k"; terms = cons (variable (bytes "X")) nil }, subst (λ (s : Rule). record { name = bytes "k"; terms = cons (variable (bytes "X")) nil } ∈ s .subgoals) (sym (List·Memᴰ·eq-of-singleton m)) (List·Memᴰ·head refl))
+
+-- so a derivation would need another before it, and so on
+nothing-derivable : NothingDerivable contradicted
+nothing-derivable f (Derivable.isGiven g) = no-given (g .fact .predicate) (declared-member _ _ (g .fact .predicate) (g .fact .declared) .0) (g .isGiven)
+nothing-derivable f (byRule r m σ below) = let (a, n) = rule-subgoal r m in nothing-derivable (atomUnder σ a) (below a n)
+
+abbrev AllBesides : List Row → Type 0
+AllBesides [] = Unit {0}
+AllBesides (r ∷ rows) = r .besides × AllBesides rows
+
+-- The table as a whole: every answer, and what is said besides.
+pub record TableMet (rows : List Row) : Type 0 where
+  pub answers : map (λ (r : Row). answerTo (r .call)) rows ≡ map (λ (r : Row). r .answer) rows
+  pub besides : AllBesides rows
+
+pub starred-are-met : TableMet starred
 unfolding answerTo
-starred-are-met = refl
+starred-are-met = record { answers = refl; besides = (tt, (tt, (tt, (tt, (tt, (tt, (tt, (nothing-derivable, (tt, (tt, (tt, tt))))))))))) }

@@ -1,74 +1,8 @@
--- From justified claims to whole derivations: each rule keeps the claims, so every derivable fact meets them.
-use mathlib.Core.Path.{refl, _∙_, subst}
-use mathlib.Core.List.{List, [], _∷_, List·Memᴰ·head, List·Memᴰ·tail}
-use Prim.Native.Nat.{ℕ}
-use lib.IntN.{pos}
-use lib.ListN.{getD}
-use lib.Signed.{_≤ℤ_}
-use Rattle.integers.proofs.Order.{nonneg-pos, add-nonneg, mul-nonneg, nonneg-of-rest}
-use Rattle.integers.proofs.Lists.{member-getD}
-use Rattle.theory.specs.Text.{Bytes}
-use Rattle.theory.specs.Terms.{size, Substitution}
-use Rattle.theory.specs.Forms.{Form, valueAt}
-use Rattle.theory.specs.Packs.{Claim, Atom, Rule, Pack, atomKey, claimsOn}
-use Rattle.theory.specs.Residuals.{subgoalForms, combined, residual, ruleVariables}
-use Rattle.theory.specs.Faults.{noClaim}
-use Rattle.theory.specs.Limits.{_∈_, Fits, JustifiedAt, Justified}
-use Rattle.theory.specs.Derivations.{IsFact, Meets, MeetsAll, GivenFact, atomUnder, Derivable, isGiven, byRule}
-use Rattle.theory.proofs.Variables.{rule-variables-once, head-variable, subgoal-variable}
-use Rattle.theory.proofs.SubgoalForms.{of-subgoal}
-use Rattle.theory.proofs.FormValues.{value-plus, value-times, value-minus, value-zero, value-nonneg}
-use Rattle.theory.proofs.Sizes.{arity-under, key-under, all-ground-under, claim-under}
-
--- ---- one rule
-
--- forms that are at least 0 somewhere are so with multipliers, added up
-combined-nonneg : (sizeOf : Bytes → ℕ) (xs : List Bytes) (ms : List ℕ) (fs : List Form) → ((f : Form) → f ∈ fs → pos 0 ≤ℤ valueAt sizeOf xs f) → pos 0 ≤ℤ valueAt sizeOf xs (combined ms fs)
-unfolding combined
-combined-nonneg sizeOf xs [] fs h = rw value-zero (nonneg-pos 0)
-combined-nonneg sizeOf xs (m ∷ ms) [] h = rw value-zero (nonneg-pos 0)
-combined-nonneg sizeOf xs (m ∷ ms) (f ∷ fs) h =
-    rw (value-plus, value-times)
-    (add-nonneg _ _ (mul-nonneg _ _ (nonneg-pos m) (h f (List·Memᴰ·head refl))) (combined-nonneg sizeOf xs ms fs (λ g n. h g (List·Memᴰ·tail n))))
-
--- every subgoal under σ meets every claim on its predicate
-abbrev pub SubgoalsMeet : List Claim → Rule → Substitution → Type 0
-SubgoalsMeet claims r σ = (a : Atom) → a ∈ r .subgoals → (c : Claim) → c ∈ claimsOn (atomKey a) claims → Meets (atomUnder σ a) c
-
-module _ (claims : List Claim) (r : Rule) (σ : Substitution) (below : SubgoalsMeet claims r σ) where
-  subgoal-nonneg : (f : Form) → f ∈ subgoalForms claims (r .subgoals) → pos 0 ≤ℤ valueAt (λ x. size (σ .for x)) (ruleVariables (r .head) (r .subgoals)) f
-  subgoal-nonneg f m =
-      let found = of-subgoal claims (r .subgoals) f m in
-      let within = subgoal-variable (r .head) (r .subgoals) (found .subgoal) (found .isSubgoal) in
-      rw (found .is, claim-under σ _ (rule-variables-once (r .head) (r .subgoals)) (found .subgoal) (found .claim) within)
-      (below (found .subgoal) (found .isSubgoal) (found .claim) (found .isClaim) .holds)
-
-  -- then a justified claim holds of the head under σ: what is left of it is at least 0, and so is what was taken away
-  pub rule-keeps : (i : ℕ) → JustifiedAt claims r i → Meets (atomUnder σ (r .head)) (getD (claimsOn (atomKey (r .head)) claims) i noClaim)
-  unfolding residual
-  rule-keeps i justified =
-      let sizeOf : Bytes → ℕ = λ x. size (σ .for x) in
-      let xs = ruleVariables (r .head) (r .subgoals) in
-      let claim = getD (claimsOn (atomKey (r .head)) claims) i noClaim in
-      let left = rw value-minus at (value-nonneg sizeOf xs _ (justified .left)) in
-      let taken = combined-nonneg sizeOf xs (getD (r .multipliers) i []) (subgoalForms claims (r .subgoals)) subgoal-nonneg in
-      let value = claim-under σ xs (rule-variables-once (r .head) (r .subgoals)) (r .head) claim (head-variable (r .head) (r .subgoals)) in
-      record { holds = rw (← value) (nonneg-of-rest _ _ left taken) }
-
--- ---- whole derivations
-
-module _ (p : Pack) (Given : Atom → Type 0) (givenFact : (f : Atom) → Given f → GivenFact p f) where
-  pub derivable-is-fact : Fits p → (f : Atom) → Derivable p Given f → IsFact p f
-  derivable-is-fact fits f (isGiven g) = givenFact f g .fact
-  derivable-is-fact fits f (byRule r m σ below) =
-      let head = fits .rules r m .head in
-      record { predicate = head .predicate; declared = rw (key-under σ (r .head)) (head .declared); full = arity-under σ (r .head .terms) ∙ head .full; ground = all-ground-under σ (r .head .terms) }
-
-  pub derivable-meets : Justified p → (f : Atom) → Derivable p Given f → MeetsAll p f
-  derivable-meets justified f (isGiven g) = givenFact f g .meets
-  derivable-meets justified f (byRule r m σ below) = record {
-    meets = λ c n.
-        let found = member-getD noClaim (rw (key-under σ (r .head)) at n) in
-        let subgoals : SubgoalsMeet (p .claims) r σ = λ a l d k. derivable-meets justified (atomUnder σ a) (below a l) .meets d (rw (key-under σ a) k) in
-        subst (Meets (atomUnder σ (r .head))) (found .2) (rule-keeps (p .claims) r σ subgoals (found .0) (justified .every r m (found .0) (found .1)));
-  }
+-- From forms and sizes to whole derivations.
+pub mod FormValues
+pub mod Sizes
+pub mod StructuralSizes
+pub mod SubgoalForms
+pub mod Derivable
+pub mod FormBounds
+pub mod FormRanges

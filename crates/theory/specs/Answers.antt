@@ -1,4 +1,5 @@
 -- Document 01, the tables of "What check returns" and "Reserving": the numbers and values of each case of an answer.
+use mathlib.Core.Option.{Option, some, none}
 use Prim.Native.Nat.{ℕ}
 use Prim.Native.Char.{code}
 use Rattle.theory.specs.declared.Refusal.{Refusal}
@@ -44,12 +45,20 @@ queryNumber SizeField = 17
 queryNumber AskedIsKnown = 18
 
 -- Reserve's three fields.
-abbrev pub fieldsOf : Reservation → Fields
-fieldsOf (Bounded b) = fields (code "B") (b .size) (b .claim)
-fieldsOf NoBound = fields (code "N") 0 0
-fieldsOf (Impossible c) = fields (code "I") 0 c
-fieldsOf (PackRefused r) = fields (code "R") (refusalNumbers r .number) 0
-fieldsOf (QueryRefused q) = fields (code "R") (queryNumber q) 0
+abbrev pub reservedFields : Reservation → Fields
+reservedFields (Bounded b) = fields (code "B") (b .size) (b .claim)
+reservedFields NoBound = fields (code "N") 0 0
+reservedFields (Impossible c) = fields (code "I") 0 c
+reservedFields (PackRefused r) = fields (code "R") (refusalNumbers r .number) 0
+reservedFields (QueryRefused q) = fields (code "R") (queryNumber q) 0
+
+-- the pack's refusal that an answer of reserve passes on, if it is one
+abbrev pub passedOn : Reservation → Option Numbers
+passedOn (Bounded b) = none
+passedOn NoBound = none
+passedOn (Impossible c) = none
+passedOn (PackRefused r) = some (refusalNumbers r)
+passedOn (QueryRefused q) = none
 
 -- Measure's refusal, or 0 and the size.
 abbrev pub measuredOf : Measurement → Measured

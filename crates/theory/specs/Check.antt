@@ -1,6 +1,7 @@
 -- Document 01, "What check returns": the four numbers and the residual area, for every text and every area.
 use mathlib.Core.Bool.{Bool, false, cond}
 use mathlib.Core.List.{List, [], _∷_, _++_}
+use mathlib.Core.Option.{Option, some, none}
 use Prim.Native.Nat.{ℕ, _+_}
 use lib.Dec.{eqb, ltb}
 use lib.IntN.{ℤ}
@@ -9,6 +10,7 @@ use Rattle.theory.specs.Text.{Bytes, fieldsOf, linesOf}
 use Rattle.theory.specs.Packs.{Rule, textLimit}
 use Rattle.theory.specs.Written.{Written, nothing, write, multipliersFrom}
 use Rattle.theory.specs.Faults.{fault, lastRule, residualDue}
+use Rattle.theory.specs.Residuals.{areaNeeded}
 
 -- the four numbers that check returns
 pub record Numbers : Type 0 where
@@ -38,7 +40,7 @@ refused w k l n = cond (eqb n 13)
     (record { returned = numbers 13 k (length (w .pack .rules)) (length (lastRule (w .pack) .multipliers) + 1); residue = residualDue (w .pack) (multipliersFrom (fieldsOf l)) })
     (plain (numbers n k 0 0))
 
--- Lines are judged from the top, behind k lines that write w; the first faulty line decides. Accepted: lines, rules, `M` lines.
+-- The judgement of lines, after k lines that write w: the first that has a fault decides. Accepted: lines, rules, `M` lines.
 unfoldable pub judge : Written → ℕ → List Bytes → Judgement
 judge w k [] = cond (w .ended) (plain (numbers 0 k (length (w .pack .rules)) (multiplierLines (w .pack .rules)))) (plain (numbers 6 0 0 0))
 judge w k (l ∷ ls) = cond (eqb (fault w l) 0) (judge (write w l) (k + 1) ls) (refused w (k + 1) l (fault w l))
@@ -55,15 +57,19 @@ verdictOf text =
     cond (ltb textLimit (length text)) (plain (numbers 2 0 0 0))
     (cond (isFinished text) (judge nothing 0 (linesOf text)) (plain (numbers 3 0 0 0)))
 
+-- check's refusal of a text, which the other calls over packs pass on with all its numbers; none where it is accepted
+unfoldable pub refusalOf : Bytes → Option Numbers
+refusalOf text = cond (eqb (verdictOf text .returned .number) 0) none (some (verdictOf text .returned))
+
 -- What check returns, and the area at exit.
 pub record Checked : Type 0 where
   pub returned : Numbers
   pub area : List ℤ
 
-abbrev pub areaNeeded : ℕ
-areaNeeded = 17
+abbrev pub checked : Numbers → List ℤ → Checked
+checked n area = record { returned = n; area = area }
 
 -- what is left behind lies over the area's first numbers; the rest is unchanged
 unfoldable pub checkOf : Bytes → List ℤ → Checked
-checkOf text area = cond (ltb (length area) areaNeeded) (record { returned = numbers 1 0 0 0; area = area })
-    (record { returned = verdictOf text .returned; area = verdictOf text .residue ++ drop (length (verdictOf text .residue)) area })
+checkOf text area = cond (ltb (length area) areaNeeded) (checked (numbers 1 0 0 0) area)
+    (checked (verdictOf text .returned) (verdictOf text .residue ++ drop (length (verdictOf text .residue)) area))

@@ -1,17 +1,15 @@
--- Document 01, "Derivations": facts, which facts meet a claim, and derivations. And what a query asks of a fact.
+-- Document 01, "Derivations": facts, which facts meet a claim, and derivations.
 use mathlib.Core.Path.{_≡_}
 use mathlib.Core.List.{List, [], _∷_}
-use mathlib.Core.Option.{some, none}
+use mathlib.Core.Option.{some}
 use Prim.Native.Nat.{ℕ}
 use lib.IntN.{ℤ, pos, _+ℤ_, _*ℤ_}
-use lib.ListN.{getD}
 use lib.Signed.{_≤ℤ_}
-use Rattle.theory.specs.Terms.{arity, argumentSizes, AllGround, Substitution, allUnder}
+use Rattle.theory.specs.Lists.{_∈_}
+use Rattle.theory.specs.Terms.{arity, Measure, structural, argumentSizes, AllGround, Substitution, allUnder}
 use Rattle.theory.specs.Packs.{given, Predicate, Claim, Atom, Rule, Pack, atomKey, declaredAs, claimsOn}
-use Rattle.theory.specs.Reserve.{Query, queryKey, sizeGiven}
-use Rattle.theory.specs.Limits.{_∈_}
 
--- A fact: a declared predicate with a ground term for each argument.
+-- What is a fact: an atom of a declared predicate, as many terms as that has arguments, and no variable in them.
 pub record IsFact (p : Pack) (f : Atom) : Type 0 where
   pub predicate : Predicate
   pub declared : declaredAs (atomKey f) (p .predicates) ≡ some predicate
@@ -24,13 +22,13 @@ weightedSizes [] sizes = pos 0
 weightedSizes (c ∷ cs) [] = pos 0
 weightedSizes (c ∷ cs) (s ∷ sizes) = c *ℤ pos s +ℤ weightedSizes cs sizes
 
--- A fact meets a claim when the claim holds at the sizes of its arguments.
-pub record Meets (f : Atom) (c : Claim) : Type 0 where
-  pub holds : pos 0 ≤ℤ (c .constant +ℤ weightedSizes (c .coefficients) (argumentSizes (f .terms)))
+-- The claim holds of a fact: at the sizes of its arguments it is at least 0.
+pub record Meets (m : Measure) (f : Atom) (c : Claim) : Type 0 where
+  pub holds : pos 0 ≤ℤ (c .constant +ℤ weightedSizes (c .coefficients) (argumentSizes m (f .terms)))
 
 -- it meets every claim on its predicate
 pub record MeetsAll (p : Pack) (f : Atom) : Type 0 where
-  pub meets : (c : Claim) → c ∈ claimsOn (atomKey f) (p .claims) → Meets f c
+  pub meets : (c : Claim) → c ∈ claimsOn (atomKey f) (p .claims) → Meets structural f c
 
 -- A fact of a given predicate that meets the claims on it.
 pub record GivenFact (p : Pack) (f : Atom) : Type 0 where
@@ -41,18 +39,9 @@ pub record GivenFact (p : Pack) (f : Atom) : Type 0 where
 abbrev pub atomUnder : Substitution → Atom → Atom
 atomUnder σ a = record { name = a .name; terms = allUnder σ (a .terms) }
 
--- What has a derivation, by the rules of a pack, from the facts that are given. Nothing else has.
+-- What has a derivation, by the rules of a pack, from the facts that are given: in these two ways, and no third.
 pub data Derivable (p : Pack) (Given : Atom → Type 0) : Atom → Type 0 where
   isGiven : {f : Atom} → Given f → Derivable p Given f
   byRule : (r : Rule) → r ∈ p .rules → (σ : Substitution)
       → ((a : Atom) → a ∈ r .subgoals → Derivable p Given (atomUnder σ a))
       → Derivable p Given (atomUnder σ (r .head))
-
--- the size of the argument at a place, from 0
-abbrev pub sizeAt : ℕ → Atom → ℕ
-sizeAt i f = getD (argumentSizes (f .terms)) i 0
-
--- A fact has the query's known sizes when it is of the query's predicate and each argument whose size the query gives has that size.
-pub record HasKnownSizes (q : Query) (f : Atom) : Type 0 where
-  pub ofPredicate : atomKey f ≡ queryKey q
-  pub known : (i s : ℕ) → sizeGiven i q ≡ some s → sizeAt i f ≡ s

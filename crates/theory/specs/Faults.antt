@@ -1,14 +1,15 @@
 -- Document 01, the table of "What check returns": what is wrong with a line, given what the lines before it write.
 use mathlib.Core.Bool.{Bool, true, false, cond, not, _&&_, _||_}
-use mathlib.Core.List.{List, [], _∷_, _++_}
+use mathlib.Core.List.{List, [], _∷_}
 use mathlib.Core.Option.{Option, some, none}
-use Prim.Native.Nat.{ℕ, zero, _+_}
+use Prim.Native.Nat.{ℕ, _+_}
 use lib.Dec.{eqb, leb, ltb}
-use lib.IntN.{ℤ, pos}
+use lib.IntN.{ℤ}
 use lib.ListN.{length, getD, drop}
-use Rattle.theory.specs.Text.{Bytes, bytes, same, every, between, isName, natural, integer, fieldsOf}
-use Rattle.theory.specs.Terms.{nil, readTerm}
-use Rattle.theory.specs.Packs.{Kind, given, ruled, Predicate, Claim, Atom, Rule, Pack, lineLimit, predicateLimit, claimLimit, ruleLimit, subgoalLimit, variableLimit, numberLimit, keyOf, claimKey, atomKey, declaredAs, claimsOn, claimsOnAll}
+use Rattle.theory.specs.Lists.{every, isEmpty, isSome, ending}
+use Rattle.theory.specs.Text.{Bytes, bytes, same, between, isName, natural, integer, fieldsOf}
+use Rattle.theory.specs.Terms.{nil, readTerm, structural}
+use Rattle.theory.specs.Packs.{Kind, given, ruled, Predicate, Claim, Atom, Rule, Pack, noClaim, headAlone, lineLimit, predicateLimit, claimLimit, ruleLimit, subgoalLimit, variableLimit, numberLimit, keyOf, claimKey, atomKey, declaredAs, claimsOn, claimsOnAll, fromRules, fromClaims}
 use Rattle.theory.specs.Written.{Letter, P, C, H, B, M, E, noLetter, lineLetter, field, Written, predicateFrom, claimFrom, atomFrom, multipliersFrom}
 use Rattle.theory.specs.Residuals.{residual, ruleVariables, residualNumbers, isJustified}
 
@@ -26,10 +27,6 @@ test n b = record { number = n; finds = b }
 unfoldable pub firstOf : List Test → ℕ
 firstOf [] = 0
 firstOf (t ∷ ts) = cond (t .finds) (t .number) (firstOf ts)
-
-unfoldable pub isSome {ℓ} : {A : Type ℓ} → Option A → Bool
-isSome none = false
-isSome (some a) = true
 
 abbrev pub isTerm : Bytes → Bool
 isTerm f = isSome (readTerm f)
@@ -62,13 +59,9 @@ unfoldable pub givenIn : Option Predicate → Bool
 givenIn none = false
 givenIn (some p) = isGiven (p .kind)
 
-unfoldable pub isEmpty {ℓ} : {A : Type ℓ} → List A → Bool
-isEmpty [] = true
-isEmpty (a ∷ rest) = false
-
 -- a rule of no predicate, which stands for the last rule where there is none
 unfoldable pub noRule : Rule
-noRule = record { head = record { name = []; terms = nil }; subgoals = []; multipliers = [] }
+noRule = headAlone (record { name = []; terms = nil })
 
 unfoldable pub lastOf : Rule → List Rule → Rule
 lastOf before [] = before
@@ -85,19 +78,15 @@ headClaims p = claimsOn (atomKey (lastRule p .head)) (p .claims)
 abbrev pub isComplete : Pack → Bool
 isComplete p = isEmpty (p .rules) || leb (length (headClaims p)) (length (lastRule p .multipliers))
 
--- The letters allowed at this point.
+-- Which letters may come next: those of a section while the sections after it have no line; those of a rule as its lines come.
 unfoldable pub mayStand : Pack → Letter → Bool
-mayStand p P = isEmpty (p .claims) && isEmpty (p .rules)
-mayStand p C = isEmpty (p .rules)
+mayStand p P = isEmpty (fromClaims p)
+mayStand p C = isEmpty (fromRules p)
 mayStand p H = isComplete p
 mayStand p B = not (isEmpty (p .rules)) && isEmpty (lastRule p .multipliers)
 mayStand p M = not (isComplete p)
 mayStand p E = isComplete p
 mayStand p noLetter = false
-
--- a claim on no predicate, which stands for the claim of a number where there is none
-unfoldable pub noClaim : Claim
-noClaim = record { name = []; constant = pos 0; coefficients = [] }
 
 -- the claim that the next `M` line is for
 abbrev pub claimDue : Pack → Claim
@@ -107,7 +96,7 @@ claimDue p = getD (headClaims p) (length (lastRule p .multipliers)) noClaim
 unfoldable pub residualDue : Pack → List ℕ → List ℤ
 residualDue p multipliers =
     let r = lastRule p in
-    residualNumbers (ruleVariables (r .head) (r .subgoals)) (residual (p .claims) (r .head) (r .subgoals) (claimDue p) multipliers)
+    residualNumbers (ruleVariables (r .head) (r .subgoals)) (residual structural (p .claims) (r .head) (r .subgoals) (claimDue p) multipliers)
 
 -- ## The tests of a line, by its letter
 
@@ -153,7 +142,7 @@ headTests fields p =
 unfoldable pub subgoalTests : List Bytes → Pack → List Test
 subgoalTests fields p =
     let r = lastRule p in
-    atomTests false (leb subgoalLimit (length (r .subgoals)) || manyVariables (r .head) (r .subgoals ++ (atomFrom fields ∷ []))) fields p
+    atomTests false (leb subgoalLimit (length (r .subgoals)) || manyVariables (r .head) (ending (atomFrom fields) (r .subgoals))) fields p
 
 unfoldable pub multiplierTests : List Bytes → Pack → List Test
 multiplierTests fields p =

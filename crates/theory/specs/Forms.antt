@@ -3,14 +3,14 @@ use mathlib.Core.List.{List, [], _∷_}
 use Prim.Native.Nat.{ℕ}
 use lib.IntN.{ℤ, pos, negsuc, _+ℤ_, _*ℤ_}
 use Rattle.theory.specs.Text.{Bytes}
-use Rattle.theory.specs.Terms.{Term, size, variables, occurrences}
+use Rattle.theory.specs.Terms.{Term, Measure, size, counted, occurrences}
 
 -- A form. Its coefficient for a variable goes by the variable's name; the residual area lists them by number (Residuals).
 pub record Form : Type 0 where
   pub constant : ℤ
   pub coefficient : Bytes → ℤ
 
--- The zero form is where every sum begins.
+-- the form that sums start from
 unfoldable pub zeroForm : Form
 zeroForm = record { constant = pos 0; coefficient = λ x. pos 0 }
 
@@ -26,9 +26,9 @@ minus f g = plus f (times (negsuc 0) g)
 unfoldable pub constantForm : ℤ → Form
 constantForm c = record { constant = c; coefficient = λ x. pos 0 }
 
--- The size of a term, as a form: the sum of the arities, and the number of occurrences of each variable.
-unfoldable pub formOf : Term → Form
-formOf t = record { constant = pos (size t); coefficient = λ x. pos (occurrences x (variables t)) }
+-- A term's size by a measure, as a form: what its symbols count, and how often each variable counts.
+unfoldable pub formOf : Measure → Term → Form
+formOf m t = record { constant = pos (size m t); coefficient = λ x. pos (occurrences x (counted m t)) }
 
 -- a form's value where each of some variables has a size
 unfoldable pub valueAt : (Bytes → ℕ) → List Bytes → Form → ℤ

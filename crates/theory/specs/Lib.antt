@@ -1,4 +1,5 @@
 -- The definitions of document 01, in reading order.
+pub mod Lists
 pub mod Text
 pub mod Terms
 pub mod Forms
@@ -10,7 +11,11 @@ pub mod Check
 pub mod Measure
 pub mod Reserve
 pub mod Program
+pub mod Words
 pub mod Answers
 pub mod Limits
 pub mod Derivations
+pub mod Outcomes
+pub mod SmallestBound
+pub mod Ranges
 pub mod Promises

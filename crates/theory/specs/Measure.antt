@@ -1,10 +1,11 @@
 -- Document 01, "What check returns": measure. Its refusal, or 0 with the size of a ground term.
-use mathlib.Core.Bool.{false, cond}
+use mathlib.Core.Bool.{cond}
 use mathlib.Core.Option.{Option, some, none}
 use Prim.Native.Nat.{ℕ}
+use Rattle.theory.specs.Lists.{isEmpty}
 use Rattle.theory.specs.Text.{Bytes}
-use Rattle.theory.specs.Terms.{Term, readTerm, size as sizeOf, variables}
-use Rattle.theory.specs.Faults.{isUnfit, isEmpty}
+use Rattle.theory.specs.Terms.{Term, readTerm, structural, size as sizeOf, variables}
+use Rattle.theory.specs.Faults.{isUnfit}
 
 pub record Measured : Type 0 where
   pub refusal : ℕ
@@ -15,7 +16,7 @@ measured r s = record { refusal = r; size = s }
 
 unfoldable pub measureTerm : Option Term → Measured
 measureTerm none = measured 11 0
-measureTerm (some t) = cond (isEmpty (variables t)) (measured 0 (sizeOf t)) (measured 19 0)
+measureTerm (some t) = cond (isEmpty (variables t)) (measured 0 (sizeOf structural t)) (measured 19 0)
 
 unfoldable pub measureOf : Bytes → Measured
 measureOf bs = cond (isUnfit bs) (measured 4 0) (measureTerm (readTerm bs))

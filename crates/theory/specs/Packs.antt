@@ -1,10 +1,10 @@
 -- Document 01, "The pack": predicates, claims, rules with their multipliers; and how a pack is written, line by line.
-use mathlib.Core.Bool.{Bool, false, cond}
+use mathlib.Core.Bool.{Bool, cond}
 use mathlib.Core.List.{List, [], _∷_, _++_, map, flatMap}
 use mathlib.Core.Option.{Option, some, none}
 use Prim.Native.Nat.{ℕ}
 use Prim.Native.Char.{code}
-use lib.IntN.{ℤ}
+use lib.IntN.{ℤ, pos}
 use lib.ListN.{length}
 use Rattle.theory.specs.Text.{Bytes, bytes, same, joined, decimal, signedDecimal}
 use Rattle.theory.specs.Terms.{Terms, nil, cons, arity, writtenTerm}
@@ -29,7 +29,7 @@ pub record Atom : Type 0 where
   pub name : Bytes
   pub terms : Terms
 
--- multipliers: one list for each claim on the head's predicate, in claim order
+-- multipliers: a list for each claim on the head, as the claims are numbered
 pub record Rule : Type 0 where
   pub head : Atom
   pub subgoals : List Atom
@@ -39,6 +39,38 @@ pub record Pack : Type 0 where
   pub predicates : List Predicate
   pub claims : List Claim
   pub rules : List Rule
+
+-- a claim on no predicate, which stands for the claim of a number where there is none
+unfoldable pub noClaim : Claim
+noClaim = record { name = []; constant = pos 0; coefficients = [] }
+
+-- a rule's head, before its other lines
+abbrev pub headAlone : Atom → Rule
+headAlone a = record { head = a; subgoals = []; multipliers = [] }
+
+abbrev pub emptyPack : Pack
+emptyPack = record { predicates = []; claims = []; rules = [] }
+
+-- ## One field changed
+
+abbrev pub onSubgoals : (List Atom → List Atom) → Rule → Rule
+onSubgoals change r = record { head = r .head; subgoals = change (r .subgoals); multipliers = r .multipliers }
+
+abbrev pub onMultipliers : (List (List ℕ) → List (List ℕ)) → Rule → Rule
+onMultipliers change r = record { head = r .head; subgoals = r .subgoals; multipliers = change (r .multipliers) }
+
+abbrev pub onPredicates : (List Predicate → List Predicate) → Pack → Pack
+onPredicates change p = record { predicates = change (p .predicates); claims = p .claims; rules = p .rules }
+
+abbrev pub onClaims : (List Claim → List Claim) → Pack → Pack
+onClaims change p = record { predicates = p .predicates; claims = change (p .claims); rules = p .rules }
+
+abbrev pub onRules : (List Rule → List Rule) → Pack → Pack
+onRules change p = record { predicates = p .predicates; claims = p .claims; rules = change (p .rules) }
+
+-- a pack's opening: the pack without its rules
+abbrev pub opening : Pack → Pack
+opening p = onRules (λ (rules : List Rule). []) p
 
 -- ## Limits
 
@@ -101,7 +133,7 @@ unfoldable pub claimsOn : Key → List Claim → List Claim
 claimsOn k [] = []
 claimsOn k (c ∷ cs) = cond (sameKey k (claimKey c)) (c ∷ claimsOn k cs) (claimsOn k cs)
 
--- the claims on the predicates of subgoals: subgoals in order, claims in order within each
+-- the claims on the predicates of subgoals, subgoal after subgoal
 abbrev pub claimsOnAll : List Claim → List Atom → List Claim
 claimsOnAll claims subgoals = flatMap (λ (a : Atom). claimsOn (atomKey a) claims) subgoals
 
@@ -136,9 +168,19 @@ endLine = bytes "E" ∷ []
 unfoldable pub ruleLines : Rule → List (List Bytes)
 ruleLines r = headLine (r .head) ∷ map subgoalLine (r .subgoals) ++ map multiplierLine (r .multipliers)
 
+-- Sections follow one another: predicates, claims, rules. The lines from each section on:
+unfoldable pub fromRules : Pack → List (List Bytes)
+fromRules p = flatMap ruleLines (p .rules)
+
+unfoldable pub fromClaims : Pack → List (List Bytes)
+fromClaims p = map claimLine (p .claims) ++ fromRules p
+
+unfoldable pub fromPredicates : Pack → List (List Bytes)
+fromPredicates p = map predicateLine (p .predicates) ++ fromClaims p
+
 -- the lines before `E`
-unfoldable pub openLines : Pack → List (List Bytes)
-openLines p = map predicateLine (p .predicates) ++ (map claimLine (p .claims) ++ flatMap ruleLines (p .rules))
+abbrev pub openLines : Pack → List (List Bytes)
+openLines p = fromPredicates p
 
 -- fields parted by commas
 abbrev pub line : List Bytes → Bytes

@@ -1,23 +1,20 @@
--- Document 01, "The program" and the C words of "What check returns".
-use mathlib.Core.Bool.{false, cond}
-use mathlib.Core.List.{List, [], _∷_, _++_, map, flatten}
-use Prim.Native.Nat.{ℕ, _+_, _*_, _^_}
+-- Document 01, "The program": what it prints.
+use mathlib.Core.Bool.{cond}
+use mathlib.Core.List.{List, [], _∷_, map, flatten}
+use Prim.Native.Nat.{ℕ}
 use lib.Dec.{eqb, ltb}
 use lib.ListN.{length}
 use Rattle.theory.specs.Text.{Bytes, bytes, same, onFirst, linesOf, decimal}
 use Rattle.theory.specs.Packs.{line, textOf}
 use Rattle.theory.specs.Check.{Numbers, numbers, verdictOf}
-use Rattle.theory.specs.Measure.{Measured}
 use Rattle.theory.specs.Reserve.{Fields, reserveOf}
 
--- ## The program
-
--- the lines of the input, each with its byte 10, the last one with or without it
+-- the lines of the input, each with its byte 10 (which the last may lack)
 unfoldable pub wholeLines : Bytes → List Bytes
 wholeLines [] = []
 wholeLines (b ∷ bs) = cond (eqb b 10) ((b ∷ []) ∷ wholeLines bs) (onFirst b (wholeLines bs))
 
--- the lines through the first that is exactly `E` and its byte 10, or all; and the lines behind it
+-- the lines up to the first `E` line with its byte 10, that one too, or all; and the lines after it
 unfoldable pub throughEnd : List Bytes → List Bytes
 throughEnd [] = []
 throughEnd (l ∷ ls) = cond (same l (bytes "E\n")) (l ∷ []) (l ∷ throughEnd ls)
@@ -47,14 +44,3 @@ unfoldable pub reply : Bytes → Bytes
 reply input =
     cond (ltb inputLimit (length input)) (textOf (printedNumbers (numbers 2 0 0 0) ∷ []))
     (textOf (printedNumbers (verdictOf (packPart input) .returned) ∷ map (λ (q : Bytes). printedFields (reserveOf (packPart input) q)) (queries input)))
-
--- ## The C words
-
-unfoldable pub checkWord : Numbers → ℕ
-checkWord n = n .number + n .line * 2 ^ 8 + n .rule * 2 ^ 24 + n .claim * 2 ^ 32
-
-unfoldable pub reserveWord : Fields → ℕ
-reserveWord f = f .letter + f .claim * 2 ^ 8 + f .middle * 2 ^ 16
-
-unfoldable pub measureWord : Measured → ℕ
-measureWord m = m .refusal + m .size * 2 ^ 8

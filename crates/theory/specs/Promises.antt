@@ -1,46 +1,114 @@
--- Demands 2 and 3, as statements about what check and reserve return. Proved in proofs/Acceptance.antt and proofs/DemandThree.antt.
+-- The three demands, as statements about what check and reserve return, each with its premises; and what the calls' own
+-- answers and words tell. Proved in proofs/DemandOne, DemandTwo, DemandThree, Words.
 use mathlib.Core.Path.{_≡_}
 use mathlib.Core.Logic.{_↔_}
 use mathlib.Core.List.{List}
 use Prim.Native.Nat.{ℕ, _≤_}
 use Prim.Native.Char.{code}
 use lib.IntN.{ℤ}
+use lib.ListN.{drop}
 use Rattle.theory.specs.Text.{Bytes}
+use Rattle.theory.specs.Terms.{structural}
 use Rattle.theory.specs.Packs.{Atom}
 use Rattle.theory.specs.Written.{packOf}
-use Rattle.theory.specs.Check.{checkOf}
-use Rattle.theory.specs.Reserve.{queryOf, fields, reserveOf}
+use Rattle.theory.specs.Residuals.{areaNeeded}
+use Rattle.theory.specs.Check.{verdictOf, checkOf}
+use Rattle.theory.specs.Measure.{measureOf}
+use Rattle.theory.specs.Reserve.{queryOf, queryFault, fields, reserveOf, sizeAt, HasKnownSizes}
+use Rattle.theory.specs.Words.{checkWord, reserveWord, measureWord, CheckRoom, ReserveRoom, MeasureRoom, wordNumber, wordLetter, wordMiddle, numbersIn, fieldsIn, measuredIn}
 use Rattle.theory.specs.Limits.{Acceptable}
-use Rattle.theory.specs.Answers.{numbersOf, fieldsOf}
+use Rattle.theory.specs.Outcomes.{Outcome}
+use Rattle.theory.specs.SmallestBound.{BoundGiven, ImpossibleBy, NoneUsable}
+use Rattle.theory.specs.Answers.{refusalNumbers, numbersOf, reservedFields}
 use Rattle.theory.specs.declared.Counts.{Counts}
+use Rattle.theory.specs.declared.Refusal.{Refusal}
 use Rattle.theory.specs.declared.Verdict.{Verdict}
 use Rattle.theory.specs.declared.Verdict.the-variants.{Accepted}
 use Rattle.theory.specs.declared.Bound.{Bound}
+use Rattle.theory.specs.declared.QueryRefusal.{QueryRefusal}
 use Rattle.theory.specs.declared.Reservation.{Reservation}
-use Rattle.theory.specs.declared.Reservation.the-variants.{Bounded, Impossible}
-use Rattle.theory.specs.Derivations.{MeetsAll, Derivable, sizeAt, HasKnownSizes}
+use Rattle.theory.specs.declared.Reservation.the-variants.{Bounded, Impossible, PackRefused, QueryRefused}
+use Rattle.theory.specs.Derivations.{GivenFact, MeetsAll, Derivable}
 
--- Demand 2: a pack is accepted exactly when area, text and lines have 01's form and limits and every residual number is at least 0.
-pub record DemandTwo (text : Bytes) (area : List ℤ) : Type 0 where
-  pub exactly : (checkOf text area .returned .number ≡ 0) ↔ Acceptable text area
+-- ## Demand 1
 
--- Demand 3, of a text and of some given facts: whatever has a derivation from the pack that the text's lines write.
-pub record DemandThree (text : Bytes) (Given : Atom → Type 0) : Type 0 where
-  -- check accepts: every fact with a derivation meets every claim on its predicate
+-- For every text and area check gives one of its outcomes; the area changes only for 13, and then only its first numbers.
+pub record DemandOne (text : Bytes) (area : List ℤ) : Type 0 where
+  pub outcome : Outcome text area (checkOf text area)
+  pub unchanged : (checkOf text area .returned .number ≡ 13 → ⊥) → checkOf text area .area ≡ area
+  pub rest : drop areaNeeded (checkOf text area .area) ≡ drop areaNeeded area
+
+-- ## Demand 2
+
+-- the pack is accepted and the query has no fault, so it is answered by the claims
+pub record Answerable (text query : Bytes) : Type 0 where
+  pub accepted : verdictOf text .returned .number ≡ 0
+  pub faultless : queryFault (packOf text) query ≡ 0
+
+-- Check accepts what has 01's form and limits and no residual number below 0, and nothing else. Reserve gives a bound
+-- exactly where it is the smallest that usable claims give, by the lowest of these that gives it; and so for the other answers.
+pub record DemandTwo (text : Bytes) : Type 0 where
+  pub accepted : (area : List ℤ) → (checkOf text area .returned .number ≡ 0) ↔ Acceptable text area
+  pub bound : (query : Bytes) (b n : ℕ) → (reserveOf text query ≡ fields (code "B") b n) ↔ (Answerable text query × BoundGiven (packOf text) (queryOf query) b n)
+  pub impossible : (query : Bytes) (n : ℕ) → (reserveOf text query ≡ fields (code "I") 0 n) ↔ (Answerable text query × ImpossibleBy (packOf text) (queryOf query) n)
+  pub noBound : (query : Bytes) → (reserveOf text query ≡ fields (code "N") 0 0) ↔ (Answerable text query × NoneUsable (packOf text) (queryOf query))
+
+-- ## Demand 3
+
+-- the premise on given facts: each is a fact of a given predicate, and it fails no claim on that
+abbrev pub GivenMeet : Bytes → (Atom → Type 0) → Type 0
+GivenMeet text Given = (f : Atom) → Given f → GivenFact (packOf text) f
+
+-- What the definitions of check and reserve tell of whatever has a derivation from the pack that the text's lines write.
+pub record ClaimsKept (text : Bytes) (Given : Atom → Type 0) : Type 0 where
+  -- check accepts: it meets every claim on its predicate
   pub claimsMet : (area : List ℤ) → checkOf text area .returned .number ≡ 0
       → (f : Atom) → Derivable (packOf text) Given f → MeetsAll (packOf text) f
-  -- reserve returns a bound: every fact with a derivation and the query's known sizes has an asked size no larger
+  -- reserve gives a bound: with the query's known sizes, its asked size is no larger
   pub boundKept : (query : Bytes) (bound claim : ℕ) → reserveOf text query ≡ fields (code "B") bound claim
-      → (f : Atom) → Derivable (packOf text) Given f → HasKnownSizes (queryOf query) f → sizeAt (queryOf query .asked) f ≤ bound
-  -- reserve replies "impossible": there is no such fact
+      → (f : Atom) → Derivable (packOf text) Given f → HasKnownSizes structural (queryOf query) f → sizeAt structural (queryOf query .asked) f ≤ bound
+  -- reserve says "impossible": there is none with the query's known sizes
   pub noneSuch : (query : Bytes) (claim : ℕ) → reserveOf text query ≡ fields (code "I") 0 claim
-      → (f : Atom) → Derivable (packOf text) Given f → HasKnownSizes (queryOf query) f → ⊥
+      → (f : Atom) → Derivable (packOf text) Given f → HasKnownSizes structural (queryOf query) f → ⊥
 
--- Demand 3 once more, of the calls' own answers: the first premise of each part is the equation that the call's contract promises.
+-- The same of the calls' own answers: the first premise of each part is the equation that the call's contract promises.
 pub record AnswersKept (text : Bytes) (Given : Atom → Type 0) : Type 0 where
   pub accepted : (area : List ℤ) (answer : Verdict) → numbersOf answer ≡ checkOf text area .returned → (counts : Counts) → answer ≡ Accepted counts
       → (f : Atom) → Derivable (packOf text) Given f → MeetsAll (packOf text) f
-  pub bounded : (query : Bytes) (answer : Reservation) → fieldsOf answer ≡ reserveOf text query → (bound : Bound) → answer ≡ Bounded bound
-      → (f : Atom) → Derivable (packOf text) Given f → HasKnownSizes (queryOf query) f → sizeAt (queryOf query .asked) f ≤ bound .size
-  pub impossible : (query : Bytes) (answer : Reservation) → fieldsOf answer ≡ reserveOf text query → (claim : ℕ) → answer ≡ Impossible claim
-      → (f : Atom) → Derivable (packOf text) Given f → HasKnownSizes (queryOf query) f → ⊥
+  pub bounded : (query : Bytes) (answer : Reservation) → reservedFields answer ≡ reserveOf text query → (bound : Bound) → answer ≡ Bounded bound
+      → (f : Atom) → Derivable (packOf text) Given f → HasKnownSizes structural (queryOf query) f → sizeAt structural (queryOf query .asked) f ≤ bound .size
+  pub impossible : (query : Bytes) (answer : Reservation) → reservedFields answer ≡ reserveOf text query → (claim : ℕ) → answer ≡ Impossible claim
+      → (f : Atom) → Derivable (packOf text) Given f → HasKnownSizes structural (queryOf query) f → ⊥
+
+-- And of the words, as the firmware sees them, taken apart by the header's functions.
+pub record WordsKept (text : Bytes) (Given : Atom → Type 0) : Type 0 where
+  pub accepted : (area : List ℤ) (word : ℕ) → word ≡ checkWord (checkOf text area .returned) → wordNumber word ≡ 0
+      → (f : Atom) → Derivable (packOf text) Given f → MeetsAll (packOf text) f
+  pub bounded : (query : Bytes) (word : ℕ) → word ≡ reserveWord (reserveOf text query) → wordLetter word ≡ code "B"
+      → (f : Atom) → Derivable (packOf text) Given f → HasKnownSizes structural (queryOf query) f → sizeAt structural (queryOf query .asked) f ≤ wordMiddle word
+  pub impossible : (query : Bytes) (word : ℕ) → word ≡ reserveWord (reserveOf text query) → wordLetter word ≡ code "I"
+      → (f : Atom) → Derivable (packOf text) Given f → HasKnownSizes structural (queryOf query) f → ⊥
+
+-- Of any given facts that keep to the premise; and, with no premise left, where all facts that meet their claims are given.
+pub record DemandThree (text : Bytes) : Type 1 where
+  pub general : (Given : Atom → Type 0) → GivenMeet text Given → ClaimsKept text Given
+  pub all : ClaimsKept text (GivenFact (packOf text))
+  pub answers : (Given : Atom → Type 0) → GivenMeet text Given → AnswersKept text Given
+  pub words : (Given : Atom → Type 0) → GivenMeet text Given → WordsKept text Given
+
+-- ## The answers themselves
+
+-- Reserve's own answer has the right case: a pack's refusal carries all of check's numbers, and a query is refused only
+-- where the pack is accepted.
+pub record RightCase (text : Bytes) (answer : Reservation) : Type 0 where
+  pub ofPack : (r : Refusal) → answer ≡ PackRefused r → refusalNumbers r ≡ verdictOf text .returned
+  pub ofQuery : (r : QueryRefusal) → answer ≡ QueryRefused r → verdictOf text .returned .number ≡ 0
+
+-- Every answer fits its word, and the header's functions give it back.
+pub record WordsTell (text : Bytes) (area : List ℤ) (query term : Bytes) : Type 0 where
+  pub checkRoom : CheckRoom (checkOf text area .returned)
+  pub reserveRoom : ReserveRoom (reserveOf text query)
+  pub measureRoom : MeasureRoom (measureOf term)
+  pub check : numbersIn (checkWord (checkOf text area .returned)) ≡ checkOf text area .returned
+  pub reserve : fieldsIn (reserveWord (reserveOf text query)) ≡ reserveOf text query
+  pub measure : measuredIn (measureWord (measureOf term)) ≡ measureOf term

@@ -1,17 +1,20 @@
--- Document 01, "Reserving": queries, usable claims, and the three fields that reserve returns.
-use mathlib.Core.Bool.{Bool, true, false, cond, not, _&&_, _||_}
+-- Document 01, "Reserving": queries, what they ask of a fact, usable claims, and what reserve returns.
+use mathlib.Core.Path.{_≡_}
+use mathlib.Core.Bool.{Bool, true, cond, not, _&&_, _||_}
 use mathlib.Core.List.{List, [], _∷_, map}
 use mathlib.Core.Option.{Option, some, none, Option·map, Option·getD}
-use Prim.Native.Nat.{ℕ, zero, _+_, _-_, _/_}
+use Prim.Native.Nat.{ℕ, _+_, _-_, _/_}
 use Prim.Native.Char.{code}
 use lib.Dec.{eqb, ltb}
 use lib.IntN.{ℤ, pos, natAbs, _+ℤ_, _*ℤ_}
 use lib.ListN.{length, getD, drop}
 use lib.Signed.{ltZ, leZ}
-use Rattle.theory.specs.Text.{Bytes, bytes, same, every, isName, natural, fieldsOf}
-use Rattle.theory.specs.Packs.{Claim, Pack, Key, key, declaredAs, claimsOn}
+use Rattle.theory.specs.Lists.{every, isSome}
+use Rattle.theory.specs.Text.{Bytes, bytes, same, isName, natural, fieldsOf}
+use Rattle.theory.specs.Terms.{Measure, argumentSizes}
+use Rattle.theory.specs.Packs.{Claim, Atom, Pack, Key, key, atomKey, declaredAs, claimsOn}
 use Rattle.theory.specs.Written.{field, packOf}
-use Rattle.theory.specs.Faults.{test, firstOf, isSome, isUnfit, arityIn}
+use Rattle.theory.specs.Faults.{test, firstOf, isUnfit, arityIn}
 use Rattle.theory.specs.Check.{verdictOf}
 
 -- ## Queries
@@ -58,6 +61,17 @@ queryFault p query =
     ∷ test 18 (isSome (sizeGiven (q .asked) q))
     ∷ [])
 
+-- ## What a query asks of a fact
+
+-- the size of the argument at a place, from 0
+abbrev pub sizeAt : Measure → ℕ → Atom → ℕ
+sizeAt m i f = getD (argumentSizes m (f .terms)) i 0
+
+-- A fact has the query's known sizes: it is of that predicate, and where the query gives a size its argument has it.
+pub record HasKnownSizes (m : Measure) (q : Query) (f : Atom) : Type 0 where
+  pub ofPredicate : atomKey f ≡ queryKey q
+  pub known : (i s : ℕ) → sizeGiven i q ≡ some s → sizeAt m i f ≡ s
+
 -- ## Usable claims
 
 -- every unknown argument's number is at most 0
@@ -67,7 +81,7 @@ unknownsAtMostZero (c ∷ cs) [] = true
 unknownsAtMostZero (c ∷ cs) (none ∷ sizes) = leZ c (pos 0) && unknownsAtMostZero cs sizes
 unknownsAtMostZero (c ∷ cs) (some s ∷ sizes) = unknownsAtMostZero cs sizes
 
--- the known sizes times their numbers
+-- each known size times the claim's number for it, added up
 unfoldable pub knownPart : List ℤ → List (Option ℕ) → ℤ
 knownPart [] sizes = pos 0
 knownPart (c ∷ cs) [] = pos 0
@@ -78,21 +92,21 @@ knownPart (c ∷ cs) (some s ∷ sizes) = c *ℤ pos s +ℤ knownPart cs sizes
 abbrev pub askedNumber : Query → Claim → ℤ
 askedNumber q c = getD (c .coefficients) (q .asked) (pos 0)
 
--- Usable: the asked argument's number is below 0, every other unknown argument's at most 0.
+-- A claim that bounds the asked size: its number there is below 0, and that of each unknown argument at most 0.
 unfoldable pub isUsable : Query → Claim → Bool
 isUsable q c = ltZ (askedNumber q c) (pos 0) && unknownsAtMostZero (c .coefficients) (q .sizes)
 
--- The numerator: c0 plus the known sizes times their numbers.
+-- The numerator: what the claim leaves for the asked argument where the others count for their known sizes, or nothing.
 unfoldable pub numerator : Query → Claim → ℤ
 numerator q c = c .constant +ℤ knownPart (c .coefficients) (q .sizes)
 
--- The numerator divided by minus the asked argument's number, rounded down. (Asked where the numerator is at least 0.)
+-- The bound by a usable claim: the numerator over the asked number's magnitude, rounded down. (Asked where the numerator is at least 0.)
 unfoldable pub boundBy : Query → Claim → ℕ
 boundBy q c = natAbs (numerator q c) / natAbs (askedNumber q c)
 
 -- ## What reserve returns
 
--- the three fields that the program prints for a query: a letter's byte, a bound or a refusal's number, a claim
+-- reserve's three fields, which the program prints: a letter's byte, a bound or a refusal's number, a claim
 pub record Fields : Type 0 where
   pub letter : ℕ
   pub middle : ℕ
@@ -129,7 +143,7 @@ unfoldable pub impossibleOr : Fields → List Usable → Fields
 impossibleOr otherwise [] = otherwise
 impossibleOr otherwise (u ∷ us) = fields (code "I") 0 (u .number)
 
--- Impossible, with the lowest such claim; otherwise the smallest bound, with the lowest claim giving it; or no bound.
+-- A usable claim that nothing can meet comes first, the lowest of them; then the smallest bound and the lowest claim for it; else there is none.
 unfoldable pub reservation : Pack → Query → Fields
 reservation p q =
     let usable = usableFrom 1 q (claimsOn (queryKey q) (p .claims)) in

@@ -1,12 +1,12 @@
--- Document 01, "Terms and their size": terms, how they are written and read, ground terms, sizes, substitutions.
+-- Document 01, "Terms and their size": terms, how they are written and read, ground terms, sizes by a measure, substitutions.
 use mathlib.Core.Path.{_≡_}
-use mathlib.Core.Bool.{true, false, cond, _&&_}
-use mathlib.Core.List.{List, [], _∷_, _++_}
+use mathlib.Core.Bool.{Bool, true, cond}
+use mathlib.Core.List.{List, [], _∷_, _++_, flatten}
 use mathlib.Core.Option.{Option, some, none, Option·map}
 use Prim.Native.Nat.{ℕ, zero, suc, _+_, _≤_}
 use Prim.Native.Char.{code}
-use lib.Dec.{eqb}
-use lib.ListN.{length, getD}
+use lib.ListN.{replicate}
+use Rattle.theory.specs.Lists.{total}
 use Rattle.theory.specs.Text.{Bytes, same, partsAt, joined, isName, isVariable, natural, decimal}
 
 -- A term: a variable by its name, or a symbol by its name with its arguments. A symbol's arity is their number.
@@ -62,10 +62,15 @@ unfoldable pub symbolFrom : Bytes → Option ℕ → Token
 symbolFrom name none = noToken
 symbolFrom name (some k) = symbolOf name k
 
--- a variable; or a name, `/`, and one digit
+-- of the parts at each `/`: two of them, a name and one digit
+unfoldable pub symbolIn : List Bytes → Token
+symbolIn [] = noToken
+symbolIn (name ∷ []) = noToken
+symbolIn (name ∷ digit ∷ []) = cond (isName name) (symbolFrom name (natural 9 digit)) noToken
+symbolIn (name ∷ digit ∷ next ∷ rest) = noToken
+
 unfoldable pub tokenOf : Bytes → Token
-tokenOf bs = cond (isVariable bs) (variableNamed bs)
-    (cond (eqb (length (partsAt (code "/") bs)) 2 && isName (getD (partsAt (code "/") bs) 0 [])) (symbolFrom (getD (partsAt (code "/") bs) 0 []) (natural 9 (getD (partsAt (code "/") bs) 1 []))) noToken)
+tokenOf bs = cond (isVariable bs) (variableNamed bs) (symbolIn (partsAt (code "/") bs))
 
 -- the first k of some terms, and the others
 unfoldable pub firstTerms : ℕ → Terms → Option (Terms × Terms)
@@ -100,24 +105,52 @@ readTerm field = theOnly (termsOf (partsAt (code " ") field))
 
 -- ## Sizes (000, section 1.4)
 
--- what a symbol of arity k adds to a size
-unfoldable pub contribution : ℕ → ℕ
-contribution k = k
+-- what a symbol counts in a size: a number of its own, and which of its arguments
+pub record Share : Type 0 where
+  pub constant : ℕ
+  pub flags : List Bool
 
--- The sum of the arities of a term's symbols: the size of a ground term, and the constant of any term's size.
+-- A measure gives the share of each symbol, by its name and arity.
+abbrev pub Measure : Type 0
+Measure = Bytes → ℕ → Share
+
+-- The structural measure, by which document 01 takes all sizes: a symbol counts its arity and every argument.
+unfoldable pub structural : Measure
+structural name k = record { constant = k; flags = replicate k true }
+
+-- those of some values that are flagged
+unfoldable pub flagged : {A : Type 0} → List Bool → List A → List A
+flagged [] values = []
+flagged (flag ∷ flags) [] = []
+flagged (flag ∷ flags) (v ∷ values) = cond flag (v ∷ flagged flags values) (flagged flags values)
+
+-- What the symbols of a term count (structurally, the sum of their arities): the size of a ground term, and the constant
+-- of any term's size. And the sizes of arguments: si is the size of argument i.
 unfoldable mutual
-  pub size : Term → ℕ
-  size (variable x) = 0
-  size (symbol f ts) = contribution (arity ts) + sizes ts
+  pub size : Measure → Term → ℕ
+  size m (variable x) = 0
+  size m (symbol f ts) = m f (arity ts) .constant + total (flagged (m f (arity ts) .flags) (argumentSizes m ts))
 
-  pub sizes : Terms → ℕ
-  sizes nil = 0
-  sizes (cons t ts) = size t + sizes ts
+  pub argumentSizes : Measure → Terms → List ℕ
+  argumentSizes m nil = []
+  argumentSizes m (cons t ts) = size m t ∷ argumentSizes m ts
 
--- the sizes of arguments: si is the size of argument i
-unfoldable pub argumentSizes : Terms → List ℕ
-argumentSizes nil = []
-argumentSizes (cons t ts) = size t ∷ argumentSizes ts
+-- The variables that count in a term's size as they occur, from left to right (structurally, all of them).
+unfoldable mutual
+  pub counted : Measure → Term → List Bytes
+  counted m (variable x) = x ∷ []
+  counted m (symbol f ts) = flatten (flagged (m f (arity ts) .flags) (argumentsCounted m ts))
+
+  pub argumentsCounted : Measure → Terms → List (List Bytes)
+  argumentsCounted m nil = []
+  argumentsCounted m (cons t ts) = counted m t ∷ argumentsCounted m ts
+
+-- how often a variable stands in a list of them
+unfoldable pub occurrences : Bytes → List Bytes → ℕ
+occurrences x [] = 0
+occurrences x (y ∷ ys) = cond (same x y) (suc (occurrences x ys)) (occurrences x ys)
+
+-- ## Variables, ground terms, substitutions
 
 -- The variables of a term as they occur, from left to right.
 unfoldable mutual
@@ -129,12 +162,7 @@ unfoldable mutual
   allVariables nil = []
   allVariables (cons t ts) = variables t ++ allVariables ts
 
--- how often a variable stands in a list of them
-unfoldable pub occurrences : Bytes → List Bytes → ℕ
-occurrences x [] = 0
-occurrences x (y ∷ ys) = cond (same x y) (suc (occurrences x ys)) (occurrences x ys)
-
--- A ground term has no variable.
+-- A ground term is one without variables.
 abbrev pub IsGround : Term → Type 0
 IsGround t = variables t ≡ []
 

@@ -9,6 +9,7 @@ use Prim.Native.String as S
 use lib.Dec.{eqb, leb, ltb}
 use lib.IntN.{ℤ, pos, negsuc}
 use lib.ListN.{length}
+use Rattle.theory.specs.Lists.{every}
 
 abbrev pub Bytes : Type 0
 Bytes = List ℕ
@@ -27,10 +28,6 @@ same (a ∷ rest) (b ∷ bs) = eqb a b && same rest bs
 unfoldable pub among : Bytes → List Bytes → Bool
 among x [] = false
 among x (y ∷ ys) = same x y || among x ys
-
-unfoldable pub every {ℓ} : {A : Type ℓ} → (A → Bool) → List A → Bool
-every test [] = true
-every test (a ∷ rest) = test a && every test rest
 
 abbrev pub between : ℕ → ℕ → ℕ → Bool
 between low high b = leb low b && leb b high
@@ -51,7 +48,7 @@ joined separator [] = []
 joined separator (part ∷ []) = part
 joined separator (part ∷ next ∷ parts) = part ++ separator ∷ joined separator (next ∷ parts)
 
--- A line ends with byte 10, and is taken without it. (What follows the last byte 10 is a line too, if it is not empty.)
+-- Lines without the byte 10 that each ends with. (What follows the last byte 10 is a line too, if it is not empty.)
 unfoldable pub linesOf : Bytes → List Bytes
 linesOf [] = []
 linesOf (b ∷ bs) = cond (eqb b 10) ([] ∷ linesOf bs) (onFirst b (linesOf bs))
@@ -73,7 +70,7 @@ isDigit b = between (code "0") (code "9") b
 unfoldable pub isNameByte : ℕ → Bool
 isNameByte b = isLower b || isUpper b || isDigit b || eqb b (code "_")
 
--- A first letter of a kind, followed by up to 15 letters, digits or underscores.
+-- one byte of a kind, and at most 15 of a name after it
 unfoldable pub isWord : (ℕ → Bool) → Bytes → Bool
 isWord isFirst [] = false
 isWord isFirst (b ∷ bs) = isFirst b && every isNameByte bs && leb (length bs) 15

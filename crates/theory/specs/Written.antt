@@ -1,14 +1,14 @@
 -- Document 01, "The pack": what lines write. It knows no faults: of a line that is no line of a pack it takes what it can.
 use mathlib.Core.Bool.{Bool, false, cond, _||_}
-use mathlib.Core.List.{List, [], _∷_, _++_, map}
+use mathlib.Core.List.{List, [], _∷_, map}
 use mathlib.Core.Option.{Option·getD}
 use Prim.Native.Nat.{ℕ}
-use Prim.Native.Char.{code}
 use lib.IntN.{ℤ, pos}
 use lib.ListN.{getD, drop}
+use Rattle.theory.specs.Lists.{ending}
 use Rattle.theory.specs.Text.{Bytes, bytes, same, fieldsOf, linesOf, natural, integer}
 use Rattle.theory.specs.Terms.{Terms, variable, nil, cons, readTerm}
-use Rattle.theory.specs.Packs.{Kind, given, ruled, Predicate, Claim, Atom, Rule, Pack, numberLimit}
+use Rattle.theory.specs.Packs.{Kind, given, ruled, Predicate, Claim, Atom, Rule, Pack, headAlone, emptyPack, onSubgoals, onMultipliers, onPredicates, onClaims, onRules, numberLimit}
 
 -- what a line is, by its first field
 pub data Letter : Type 0 where
@@ -62,13 +62,7 @@ pub record Written : Type 0 where
   pub ended : Bool
 
 unfoldable pub nothing : Written
-nothing = record { pack = record { predicates = []; claims = []; rules = [] }; ended = false }
-
-abbrev pub withSubgoal : Atom → Rule → Rule
-withSubgoal a r = record { head = r .head; subgoals = r .subgoals ++ (a ∷ []); multipliers = r .multipliers }
-
-abbrev pub withMultipliers : List ℕ → Rule → Rule
-withMultipliers ms r = record { head = r .head; subgoals = r .subgoals; multipliers = r .multipliers ++ (ms ∷ []) }
+nothing = record { pack = emptyPack; ended = false }
 
 -- the last rule changed
 unfoldable pub onLast : (Rule → Rule) → List Rule → List Rule
@@ -78,11 +72,11 @@ onLast change (r ∷ s ∷ rs) = r ∷ onLast change (s ∷ rs)
 
 -- a pack with what a line of a letter adds
 unfoldable pub add : Letter → List Bytes → Pack → Pack
-add P fields p = record { predicates = p .predicates ++ (predicateFrom fields ∷ []); claims = p .claims; rules = p .rules }
-add C fields p = record { predicates = p .predicates; claims = p .claims ++ (claimFrom fields ∷ []); rules = p .rules }
-add H fields p = record { predicates = p .predicates; claims = p .claims; rules = p .rules ++ (record { head = atomFrom fields; subgoals = []; multipliers = [] } ∷ []) }
-add B fields p = record { predicates = p .predicates; claims = p .claims; rules = onLast (withSubgoal (atomFrom fields)) (p .rules) }
-add M fields p = record { predicates = p .predicates; claims = p .claims; rules = onLast (withMultipliers (multipliersFrom fields)) (p .rules) }
+add P fields p = onPredicates (ending (predicateFrom fields)) p
+add C fields p = onClaims (ending (claimFrom fields)) p
+add H fields p = onRules (ending (headAlone (atomFrom fields))) p
+add B fields p = onRules (onLast (onSubgoals (ending (atomFrom fields)))) p
+add M fields p = onRules (onLast (onMultipliers (ending (multipliersFrom fields)))) p
 add E fields p = p
 add noLetter fields p = p
 

@@ -1,7 +1,7 @@
 -- `cerrundix::check` meets its contract. Assumes nothing.
 use mathlib.Core.Path.{_∙_, ap}
 use borrow.Author.Needs.{needs}
-use Rattle.theory.specs.Program.{checkWord}
+use Rattle.theory.specs.Words.{checkWord}
 use Rattle.cerrundix.proofs.check.Statement.{statement}
 use Rattle.cerrundix.proofs.check.Tie as tie
 

@@ -1,7 +1,7 @@
 -- `cerrundix::check_word` meets its contract. Assumes nothing.
 use mathlib.Core.Path.{refl}
 use borrow.Author.Needs.{needs}
-use Rattle.theory.specs.Program.{checkWord}
+use Rattle.theory.specs.Words.{checkWord}
 use Rattle.cerrundix.proofs.check_word.Statement.{statement}
 use Rattle.cerrundix.proofs.check_word.Tie as tie
 

@@ -1,7 +1,7 @@
 -- `cerrundix::measure` meets its contract. Assumes nothing.
 use mathlib.Core.Path.{_∙_, ap}
 use borrow.Author.Needs.{needs}
-use Rattle.theory.specs.Program.{measureWord}
+use Rattle.theory.specs.Words.{measureWord}
 use Rattle.cerrundix.proofs.measure.Statement.{statement}
 use Rattle.cerrundix.proofs.measure.Tie as tie
 

@@ -1,7 +1,7 @@
 -- `cerrundix::measure_word` meets its contract. Assumes nothing.
 use mathlib.Core.Path.{refl}
 use borrow.Author.Needs.{needs}
-use Rattle.theory.specs.Program.{measureWord}
+use Rattle.theory.specs.Words.{measureWord}
 use Rattle.cerrundix.proofs.measure_word.Statement.{statement}
 use Rattle.cerrundix.proofs.measure_word.Tie as tie
 

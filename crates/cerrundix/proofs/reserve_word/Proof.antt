@@ -1,7 +1,7 @@
 -- `cerrundix::reserve_word` meets its contract. Assumes nothing.
 use mathlib.Core.Path.{refl}
 use borrow.Author.Needs.{needs}
-use Rattle.theory.specs.Program.{reserveWord}
+use Rattle.theory.specs.Words.{reserveWord}
 use Rattle.cerrundix.proofs.reserve_word.Statement.{statement}
 use Rattle.cerrundix.proofs.reserve_word.Tie as tie
 

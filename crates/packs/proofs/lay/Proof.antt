@@ -1,6 +1,5 @@
 -- `packs::lay` meets its contract. Assumes nothing.
-use Prim.Native.Nat.{_+_, _-_}
-use lib.ListN.{length}
+use Prim.Native.Nat.{_-_}
 use borrow.Author.Needs.{needs}
 use Rattle.packs.proofs.AreaLaying.{Laying, laying-none, laying-more, laying-done}
 use Rattle.packs.proofs.lay.Statement.{statement}

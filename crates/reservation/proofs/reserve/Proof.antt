@@ -12,7 +12,9 @@ respond-requires : tie.Need-respond-requires
 respond-requires c κs = search (needs, pack-ready)
 
 returns : tie.Need-returns
-returns c = c .respond .ensures .tells _ (pack-held (c .before .before .before .before .before .load .ensures))
+returns c =
+    let held = pack-held (c .before .before .before .before .before .load .ensures) in
+    (c .respond .ensures .tells _ held, c .respond .ensures .passes _ held)
 
 pub reserve-spec : {M : Type 1} → statement M
 reserve-spec = tie.close (tie.spec load-requires respond-requires returns)

@@ -4,7 +4,7 @@ use mathlib.Core.Bool.{true}
 use Prim.Native.Nat.{_-_, _≤_}
 use lib.ListN.{length}
 use borrow.Author.Needs.{needs}
-use Rattle.theory.proofs.Separators.{isFree}
+use Rattle.theory.proofs.Reading.Separators.{isFree}
 use Rattle.text.specs.Scans.{part}
 use Rattle.text.proofs.Parts.{free-none}
 use Rattle.text.proofs.Blocks.{block-found, block-passed, found-behind}

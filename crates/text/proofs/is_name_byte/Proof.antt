@@ -2,7 +2,7 @@
 use mathlib.Core.Path.{sym, _∙_}
 use mathlib.Core.Logic.{⊎-elim}
 use borrow.Author.Needs.{needs}
-use Rattle.theory.proofs.Bytes.{between-from}
+use Rattle.theory.proofs.Reading.Bytes.{between-from}
 use Rattle.text.proofs.Classes.{between-below, between-above, lower-in-name, upper-in-name, digit-in-name, other-in-name}
 use Rattle.text.proofs.is_name_byte.Statement.{statement}
 use Rattle.text.proofs.is_name_byte.Tie as tie

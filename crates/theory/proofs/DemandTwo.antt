@@ -1,0 +1,35 @@
+-- Demand 2: which packs check accepts, and which bounds reserve gives.
+use mathlib.Core.Path.{_≡_, refl, _∙_}
+use mathlib.Core.Bool.{false}
+use mathlib.Core.Logic.{_↔_}
+use Prim.Native.Char.{code}
+use lib.Dec.{eqb}
+use Rattle.theory.specs.Text.{Bytes}
+use Rattle.theory.specs.Written.{packOf}
+use Rattle.theory.specs.Reserve.{queryOf, Fields, fields, reservation, answerOf, reserveOf}
+use Rattle.theory.specs.SmallestBound.{BoundGiven, ImpossibleBy, NoneUsable}
+use Rattle.theory.specs.Promises.{Answerable, DemandTwo}
+use Rattle.theory.proofs.Judging.Acceptance.{check-accepts, acceptable-checks}
+use Rattle.theory.proofs.Reserving.Reservations.{bound-exactly, impossible-exactly, none-exactly}
+use Rattle.theory.proofs.Reserving.ReserveAnswers.{answered}
+
+-- what is answered is what the claims give
+reserves : (text query : Bytes) → Answerable text query → reserveOf text query ≡ reservation (packOf text) (queryOf query)
+unfolding reserveOf answerOf
+reserves text query a = rw (a .accepted, a .faultless)
+
+-- an answer that is no refusal, whatever it says of the pack and the query
+exactly : (text query : Bytes) (x : Fields) (Told : Type 0) → eqb (x .letter) (code "R") ≡ false → (reservation (packOf text) (queryOf query) ≡ x) ↔ Told
+    → (reserveOf text query ≡ x) ↔ (Answerable text query × Told)
+exactly text query x Told other told = (
+  λ e. let a = answered text query x other e in (record { accepted = a .accepted; faultless = a .faultless }, told .0 (a .says)),
+  λ h. reserves text query (h .0) ∙ told .1 (h .1),
+)
+
+pub demand-two : (text : Bytes) → DemandTwo text
+demand-two text = record {
+  accepted = λ area. (check-accepts text area, acceptable-checks text area);
+  bound = λ query b n. exactly text query (fields (code "B") b n) (BoundGiven (packOf text) (queryOf query) b n) refl (bound-exactly (packOf text) (queryOf query) b n);
+  impossible = λ query n. exactly text query (fields (code "I") 0 n) (ImpossibleBy (packOf text) (queryOf query) n) refl (impossible-exactly (packOf text) (queryOf query) n);
+  noBound = λ query. exactly text query (fields (code "N") 0 0) (NoneUsable (packOf text) (queryOf query)) refl (none-exactly (packOf text) (queryOf query));
+}

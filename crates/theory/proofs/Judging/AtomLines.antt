@@ -1,0 +1,162 @@
+-- `H` and `B` lines: faultless exactly if they state a head or a subgoal that fits.
+use mathlib.Core.Path.{_≡_, refl, sym, _∙_, ap, subst}
+use mathlib.Core.Bool.{Bool, true, false, not, _||_}
+use mathlib.Core.List.{List, [], _∷_, _++_}
+use mathlib.Core.Option.{Option, some}
+use Prim.Native.Nat.{_+_, _≤_, _<_}
+use native.Mathlib.Omega.{arith}
+use lib.Dec.{leb}
+use lib.ListN.{length, length-drop, drop}
+use lib.Seq.{drop-cons}
+use Rattle.theory.specs.Lists.{every, isSome, isEmpty, ending}
+use Rattle.theory.specs.Text.{Bytes, isName}
+use Rattle.theory.specs.Terms.{AllWellFormed}
+use Rattle.theory.specs.Packs.{Kind, given, ruled, Predicate, Atom, Pack, ruleLimit, subgoalLimit, variableLimit, atomKey, declaredAs, termFields, headLine, subgoalLine, onSubgoals, onRules, headAlone}
+use Rattle.theory.specs.Written.{Letter, H, B, field, atomFrom, add, onLast}
+use Rattle.theory.specs.Residuals.{ruleVariables}
+use Rattle.theory.specs.Faults.{isTerm, arityIn, isGiven, givenIn, lastRule, isComplete, manyVariables, mayStand, atomTests, headTests, subgoalTests, tests}
+use Rattle.theory.specs.Limits.{AtomFits}
+use Rattle.integers.proofs.Truth.{not-true, not-false, never-both, and-left, and-right, and-both, or-not-left, or-not-right, or-neither, eqb-equal, equal-eqb, leb-gt, gt-leb, ltb-ge, ge-ltb}
+use Rattle.theory.proofs.Judging.Faultless.{Faultless, Adds, Readable}
+use Rattle.theory.proofs.Reading.Letters.{letterField}
+use Rattle.theory.proofs.Reading.PlainFields.{Plain, plain-cons, name-plain, letter-plain}
+use Rattle.theory.proofs.Reading.Presence.{is-some, is-empty, empty-is, is-filled, filled-is, arity-in}
+use Rattle.theory.proofs.Judging.Steps.{Step, headStep, subgoalStep}
+use Rattle.theory.proofs.Reading.TermFields.{terms-written, terms-formed, terms-arity, written-terms, written-are-terms, written-arity, terms-plain}
+use Rattle.theory.proofs.Judging.Tests.{Clear, _then_}
+
+-- the fields of an atom's line
+abbrev atomLine : Letter → Atom → List Bytes
+atomLine letter a = letterField letter ∷ a .name ∷ termFields (a .terms)
+
+-- ---- from a line
+
+-- what the tests of both letters tell
+record AtomRead (letter : Letter) (isRefused isPastLimit : Bool) (fields : List Bytes) (p : Pack) : Type 0 where
+  fits : AtomFits (p .predicates) (atomFrom fields)
+  again : atomLine letter (atomFrom fields) ≡ fields
+  allowed : isRefused ≡ false
+  within : isPastLimit ≡ false
+
+line-again : (letter : Letter) (fields : List Bytes) → 2 ≤ length fields → field 0 fields ≡ letterField letter
+    → termFields (atomFrom fields .terms) ≡ drop 2 fields → atomLine letter (atomFrom fields) ≡ fields
+unfolding atomFrom
+line-again letter fields long first rest =
+    let start = drop-cons fields 0 [] (omega arith) in
+    let second = drop-cons fields 1 [] (omega arith) in
+    cc
+
+atom-read : (letter : Letter) (isRefused isPastLimit : Bool) (fields : List Bytes) (p : Pack) → field 0 fields ≡ letterField letter
+    → Clear (atomTests isRefused isPastLimit fields p) → AtomRead letter isRefused isPastLimit fields p
+unfolding atomTests atomFrom
+atom-read letter isRefused isPastLimit fields p first c =
+    let looked = declaredAs (atomKey (atomFrom fields)) (p .predicates) in
+    let found = is-some looked (not-false (isSome looked) (or-not-left (not (isSome looked)) isRefused (c .1 .0))) in
+    let many : length fields ≡ found .0 .arguments + 2 = eqb-equal (length fields) _ (not-false _ (c .1 .1 .0)) ∙ ap (λ n. n + 2) (arity-in _ (found .0) (found .1)) in
+    let terms = not-false (every isTerm (drop 2 fields)) (c .1 .1 .1 .0) in
+    record {
+      fits = record {
+        predicate = found .0;
+        declared = found .1;
+        named = not-false _ (c .0);
+        full = omega (arith, terms-arity (drop 2 fields), length-drop 2 fields);
+        formed = terms-formed (drop 2 fields) terms;
+      };
+      again = line-again letter fields (omega arith) first (terms-written (drop 2 fields) terms);
+      allowed = or-not-right (not (isSome looked)) isRefused (c .1 .0);
+      within = c .1 .1 .1 .1 .0;
+    }
+
+ruled-kind : (k : Kind) → isGiven k ≡ false → k ≡ ruled
+unfolding isGiven
+ruled-kind given e = never-both refl e
+ruled-kind ruled e = refl
+
+given-in : (o : Option Predicate) (x : Predicate) → o ≡ some x → givenIn o ≡ isGiven (x .kind)
+unfolding givenIn
+given-in o x e = rw e
+
+pub head-step : (p : Pack) (fields : List Bytes) → Faultless H p fields → Step p fields (add H fields p)
+unfolding add tests headTests mayStand letterField headLine
+head-step p fields h =
+    let a = atomFrom fields in
+    let full = leb ruleLimit (length (p .rules)) in
+    let looked = declaredAs (atomKey a) (p .predicates) in
+    let read = atom-read H (givenIn looked) (full || manyVariables a []) fields p (h .first) (h .clear) in
+    let fits = read .fits in
+    let isRuled = ruled-kind (fits .predicate .kind) (sym (given-in looked (fits .predicate) (fits .declared)) ∙ read .allowed) in
+    let room = leb-gt ruleLimit (length (p .rules)) (or-not-left full (manyVariables a []) (read .within)) in
+    let few = ltb-ge variableLimit (length (ruleVariables a [])) (or-not-right full (manyVariables a []) (read .within)) in
+    subst (λ (fs : List Bytes). Step p fs (onRules (ending (headAlone a)) p)) (read .again) (headStep a (h .stands) fits isRuled room few)
+
+pub subgoal-step : (p : Pack) (fields : List Bytes) → Faultless B p fields → Step p fields (add B fields p)
+unfolding add tests subgoalTests mayStand letterField subgoalLine
+subgoal-step p fields h =
+    let a = atomFrom fields in
+    let r = lastRule p in
+    let full = leb subgoalLimit (length (r .subgoals)) in
+    let many = manyVariables (r .head) (r .subgoals ++ (a ∷ [])) in
+    let read = atom-read B false (full || many) fields p (h .first) (h .clear) in
+    let ruleful = is-filled (p .rules) (not-true (isEmpty (p .rules)) (and-left (not (isEmpty (p .rules))) (isEmpty (r .multipliers)) (h .stands))) in
+    let unmultiplied = is-empty (r .multipliers) (and-right (not (isEmpty (p .rules))) (isEmpty (r .multipliers)) (h .stands)) in
+    let room = leb-gt subgoalLimit (length (r .subgoals)) (or-not-left full many (read .within)) in
+    let few = ltb-ge variableLimit (length (ruleVariables (r .head) (r .subgoals ++ (a ∷ [])))) (or-not-right full many (read .within)) in
+    subst (λ (fs : List Bytes). Step p fs (onRules (onLast (onSubgoals (ending a))) p)) (read .again) (subgoalStep a ruleful unmultiplied (read .fits) room few)
+
+-- ---- to a line
+
+module _ (a : Atom) (formed : AllWellFormed (a .terms)) where
+  atom-again : (letter : Letter) → atomFrom (atomLine letter a) ≡ a
+  unfolding atomFrom
+  atom-again letter = rw (written-terms (a .terms) formed)
+
+  atom-plain : (letter : Letter) → isName (a .name) ≡ true → Plain (atomLine letter a)
+  atom-plain letter named = plain-cons (letter-plain letter) (plain-cons (name-plain (a .name) named) (terms-plain (a .terms) formed))
+
+  pub head-adds : (p : Pack) → isName (a .name) ≡ true → Adds H p (headLine a) (onRules (ending (headAlone a)) p)
+  unfolding add headLine letterField
+  head-adds p named = record { starts = refl; is = ap (λ (b : Atom). onRules (ending (headAlone b)) p) (atom-again H); plain = atom-plain H named }
+
+  pub subgoal-adds : (p : Pack) → isName (a .name) ≡ true → Adds B p (subgoalLine a) (onRules (onLast (onSubgoals (ending a))) p)
+  unfolding add subgoalLine letterField
+  subgoal-adds p named = record { starts = refl; is = ap (λ (b : Atom). onRules (onLast (onSubgoals (ending b))) p) (atom-again B); plain = atom-plain B named }
+
+module _ (letter : Letter) (p : Pack) (a : Atom) (fits : AtomFits (p .predicates) a) where
+  atom-clear : (isRefused isPastLimit : Bool) → isRefused ≡ false → isPastLimit ≡ false → Clear (atomTests isRefused isPastLimit (atomLine letter a) p)
+  unfolding atomTests isSome arityIn
+  atom-clear isRefused isPastLimit allowed within =
+      rw (atom-again a (fits .formed) letter, fits .declared)
+      (ap not (fits .named)
+      then allowed
+      then ap not (equal-eqb (length (atomLine letter a)) (fits .predicate .arguments + 2) (omega (arith, written-arity (a .terms), fits .full)))
+      then ap not (written-are-terms (a .terms) (fits .formed))
+      then within
+      then tt)
+
+pub head-readable : (p : Pack) (a : Atom) → isComplete p ≡ true → (fits : AtomFits (p .predicates) a) → fits .predicate .kind ≡ ruled
+    → length (p .rules) < ruleLimit → length (ruleVariables a []) ≤ variableLimit → Readable H p (headLine a) (onRules (ending (headAlone a)) p)
+unfolding tests headTests mayStand headLine letterField isGiven
+head-readable p a complete fits isRuled room few =
+    record {
+      faultless = record {
+        first = refl;
+        stands = complete;
+        clear = rw (atom-again a (fits .formed) H) (atom-clear H p a fits _ _ (given-in _ (fits .predicate) (fits .declared) ∙ rw isRuled) (or-neither _ _ (gt-leb ruleLimit _ room) (ge-ltb variableLimit _ few)));
+      };
+      adds = head-adds a (fits .formed) p (fits .named);
+    }
+
+pub subgoal-readable : (p : Pack) (a : Atom) → (p .rules ≡ [] → ⊥) → lastRule p .multipliers ≡ [] → AtomFits (p .predicates) a
+    → length (lastRule p .subgoals) < subgoalLimit → length (ruleVariables (lastRule p .head) (lastRule p .subgoals ++ (a ∷ []))) ≤ variableLimit
+    → Readable B p (subgoalLine a) (onRules (onLast (onSubgoals (ending a))) p)
+unfolding tests subgoalTests mayStand subgoalLine letterField
+subgoal-readable p a ruleful unmultiplied fits room few =
+    let r = lastRule p in
+    record {
+      faultless = record {
+        first = refl;
+        stands = and-both (not (isEmpty (p .rules))) (isEmpty (r .multipliers)) (ap not (filled-is (p .rules) ruleful)) (empty-is (r .multipliers) unmultiplied);
+        clear = rw (atom-again a (fits .formed) B) (atom-clear B p a fits _ _ refl (or-neither _ _ (gt-leb subgoalLimit _ room) (ge-ltb variableLimit _ few)));
+      };
+      adds = subgoal-adds a (fits .formed) p (fits .named);
+    }

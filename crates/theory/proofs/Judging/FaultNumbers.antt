@@ -1,0 +1,72 @@
+-- The numbers of faults: none is over 13, and 13 is only that of a line of multipliers that may stand.
+use mathlib.Core.Path.{_≡_, refl, sym}
+use mathlib.Core.Bool.{Bool, true, false, cond, not, _||_}
+use mathlib.Core.List.{List, [], _∷_}
+use Prim.Native.Nat.{ℕ, _<_}
+use native.Mathlib.Omega.{arith}
+use Rattle.integers.proofs.Truth.{by-truth, not-false, or-not-left, or-not-right}
+use Rattle.theory.specs.Text.{Bytes, fieldsOf}
+use Rattle.theory.specs.Packs.{Pack}
+use Rattle.theory.specs.Written.{Letter, P, C, H, B, M, E, noLetter, lineLetter, Written}
+use Rattle.theory.specs.Faults.{Test, test, firstOf, isUnfit, mayStand, predicateTests, claimTests, atomTests, headTests, subgoalTests, multiplierTests, tests, fault}
+use Rattle.theory.proofs.Judging.Tests.{_then_}
+
+-- no test has a number as high
+abbrev pub Below : ℕ → List Test → Type 0
+Below n [] = Unit {0}
+Below n (t ∷ ts) = (t .number < n) × Below n ts
+
+pub first-below : (n : ℕ) (ts : List Test) → 0 < n → Below n ts → firstOf ts < n
+unfolding firstOf
+first-below n [] h b = h
+first-below n (t ∷ ts) h b = by-truth (λ (c : Bool). cond c (t .number) (firstOf ts) < n) (t .finds) (λ e. b .0) (λ e. first-below n ts h (b .1))
+
+tests-below : (letter : Letter) (fields : List Bytes) (p : Pack) → Below 14 (tests letter fields p)
+unfolding tests predicateTests claimTests atomTests headTests subgoalTests multiplierTests
+tests-below P fields p = omega arith
+tests-below C fields p = omega arith
+tests-below H fields p = omega arith
+tests-below B fields p = omega arith
+tests-below M fields p = omega arith
+tests-below E fields p = omega arith
+tests-below noLetter fields p = tt
+
+pub fault-small : (w : Written) (l : Bytes) → fault w l < 14
+unfolding fault
+fault-small w l = first-below 14 _ (omega arith) (omega arith then omega arith then tests-below (lineLetter l) (fieldsOf l) (w .pack))
+
+-- ---- 13
+
+-- a fault past 5: the line may stand, and its own letter's tests find it
+pub record OfLetter (w : Written) (l : Bytes) (n : ℕ) : Type 0 where
+  pub unended : w .ended ≡ false
+  pub stands : mayStand (w .pack) (lineLetter l) ≡ true
+  pub found : firstOf (tests (lineLetter l) (fieldsOf l) (w .pack)) ≡ n
+
+-- the first test of some is passed over
+pub passed-over : (k n : ℕ) (b : Bool) (ts : List Test) → (k ≡ n → ⊥) → firstOf (test k b ∷ ts) ≡ n → (b ≡ false) × (firstOf ts ≡ n)
+unfolding firstOf
+passed-over k n true ts other e = absurd (other e)
+passed-over k n false ts other e = (refl, e)
+
+pub past-place : (w : Written) (l : Bytes) (n : ℕ) → fault w l ≡ n → (n ≡ 4 → ⊥) → (n ≡ 5 → ⊥) → OfLetter w l n
+unfolding fault
+past-place w l n e notFour notFive =
+    let rest = passed-over 4 n (isUnfit l) _ (λ h. notFour (sym h)) e .1 in
+    let (placed, found) = passed-over 5 n (w .ended || not (mayStand (w .pack) (lineLetter l))) _ (λ h. notFive (sym h)) rest in
+    record {
+      unended = or-not-left (w .ended) _ placed;
+      stands = not-false (mayStand (w .pack) (lineLetter l)) (or-not-right (w .ended) _ placed);
+      found = found;
+    }
+
+-- lines of other letters have no 13
+pub thirteen-is-m : (letter : Letter) (fields : List Bytes) (p : Pack) → firstOf (tests letter fields p) ≡ 13 → letter ≡ M
+unfolding tests predicateTests claimTests atomTests headTests subgoalTests
+thirteen-is-m P fields p e = absurd (omega (arith, first-below 13 (predicateTests fields p) (omega arith) (omega arith)))
+thirteen-is-m C fields p e = absurd (omega (arith, first-below 13 (claimTests fields p) (omega arith) (omega arith)))
+thirteen-is-m H fields p e = absurd (omega (arith, first-below 13 (headTests fields p) (omega arith) (omega arith)))
+thirteen-is-m B fields p e = absurd (omega (arith, first-below 13 (subgoalTests fields p) (omega arith) (omega arith)))
+thirteen-is-m M fields p e = refl
+thirteen-is-m E fields p e = absurd (omega (arith, first-below 13 (tests E fields p) (omega arith) (omega arith)))
+thirteen-is-m noLetter fields p e = absurd (omega (arith, first-below 13 (tests noLetter fields p) (omega arith) tt))

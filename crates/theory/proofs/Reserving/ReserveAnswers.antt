@@ -1,0 +1,103 @@
+-- What an answer of reserve other than a refusal tells: of the text, of the query, and of its reservation.
+use mathlib.Core.Path.{_≡_, refl, sym, _∙_, ap}
+use mathlib.Core.Bool.{false, cond, not, _||_}
+use mathlib.Core.List.{List}
+use mathlib.Core.Option.{some, none, Option·getD}
+use Prim.Native.Nat.{ℕ, zero, suc, _+_, _-_, _≤_, _<_}
+use Prim.Native.Char.{code}
+use native.Mathlib.Omega.{arith}
+use lib.Dec.{eqb}
+use lib.ListN.{length, drop, length-map, length-drop}
+use Rattle.integers.proofs.Truth.{by-truth, never-both, eqb-equal, eqb-unequal, not-false, and-right, or-not-left, or-not-right}
+use Rattle.theory.specs.Lists.{isSome, _∈_}
+use Rattle.theory.specs.Text.{Bytes, bytes, same, isName, natural, lastDigits, decimal, fieldsOf}
+use Rattle.theory.specs.Packs.{Predicate, Pack, declaredAs}
+use Rattle.theory.specs.Written.{field, packOf}
+use Rattle.theory.specs.Faults.{arityIn}
+use Rattle.theory.specs.Check.{verdictOf}
+use Rattle.theory.specs.Reserve.{Query, queryKey, queryFrom, queryOf, sizeGiven, queryFault, Fields, reservation, refusal, answerOf, reserveOf}
+use Rattle.theory.specs.Limits.{PredicateFits}
+use Rattle.theory.proofs.Reading.Bytes.{same-refl}
+use Rattle.theory.proofs.Reading.Spelling.{decimal-of-natural, natural-within, natural-wider}
+use Rattle.theory.proofs.Judging.Keys.{declared-member}
+use Rattle.theory.proofs.Reading.Presence.{is-some, is-none}
+use Rattle.theory.proofs.Judging.Tests.{zero-clear}
+
+-- ---- answers
+
+-- the text is accepted, the query has no fault, and x is what is said of them
+pub record Answered (text query : Bytes) (x : Fields) : Type 0 where
+  pub accepted : verdictOf text .returned .number ≡ 0
+  pub faultless : queryFault (packOf text) query ≡ 0
+  pub says : reservation (packOf text) (queryOf query) ≡ x
+
+-- either a fault is refused, or there is none
+unrefused : (fault : ℕ) (y x : Fields) → eqb (x .letter) (code "R") ≡ false → cond (eqb fault 0) y (refusal fault) ≡ x → (fault ≡ 0) × (y ≡ x)
+unfolding refusal
+unrefused fault y x other e =
+    by-truth (λ t. cond t y (refusal fault) ≡ x → (fault ≡ 0) × (y ≡ x)) (eqb fault 0)
+    (λ faultless e. (eqb-equal fault 0 faultless, e))
+    (λ refused e. absurd (eqb-unequal (x .letter) (code "R") other (sym (ap (λ (y : Fields). y .letter) e))))
+    e
+
+-- an answer with another letter than `R`
+pub answered : (text query : Bytes) (x : Fields) → eqb (x .letter) (code "R") ≡ false → reserveOf text query ≡ x → Answered text query x
+unfolding reserveOf answerOf
+answered text query x other e =
+    let checked = unrefused (verdictOf text .returned .number) _ x other e in
+    let asked = unrefused (queryFault (packOf text) query) _ x other (checked .1) in
+    record { accepted = checked .0; faultless = asked .0; says = asked .1 }
+
+-- ---- the asked argument
+
+pub written-zero : decimal 0 ≡ bytes "0"
+unfolding decimal bytes lastDigits
+written-zero = refl
+
+-- a field that passes the test for the asked argument of an arity, read with limit 8
+asked-within : (arity : ℕ) (f : Bytes) → arity ≤ 8 → (not (isSome (natural arity f)) || same f (bytes "0")) ≡ false → Option·getD (natural 8 f) 0 - 1 < arity
+asked-within arity f h e =
+    let number = is-some (natural arity f) (not-false _ (or-not-left _ _ e)) in
+    let n = number .0 in
+    rw (natural-wider arity 8 f n h (number .1)) (omega (arith, positive n (number .1), natural-within arity f n (number .1)))
+  where
+    positive : (n : ℕ) → natural arity f ≡ some n → 0 < n
+    positive zero is = never-both (rw (decimal-of-natural arity f 0 is, written-zero) (same-refl (bytes "0"))) (or-not-right (not (isSome (natural arity f))) _ e)
+    positive (suc n) is = omega arith
+
+-- ---- queries with no fault
+
+-- A query on a declared predicate, with a field for each argument, that asks for an unknown size of one of these.
+pub record Asks (p : Pack) (q : Query) : Type 0 where
+  pub predicate : Predicate
+  pub declared : declaredAs (queryKey q) (p .predicates) ≡ some predicate
+  pub full : length (q .sizes) ≡ predicate .arguments
+  pub within : q .asked < predicate .arguments
+  pub unknown : sizeGiven (q .asked) q ≡ none
+
+module _ (p : Pack) (fits : (x : Predicate) → x ∈ p .predicates → PredicateFits x) where
+  asks-by-fields : (fs : List Bytes) (x : Predicate) → declaredAs (queryKey (queryFrom fs)) (p .predicates) ≡ some x → length fs ≡ x .arguments + 2
+      → (not (isSome (natural (x .arguments) (field 1 fs))) || same (field 1 fs) (bytes "0")) ≡ false
+      → sizeGiven (queryFrom fs .asked) (queryFrom fs) ≡ none
+      → Asks p (queryFrom fs)
+  unfolding queryFrom
+  asks-by-fields fs x declared full place unknown = record {
+    predicate = x;
+    declared = declared;
+    full = length-map (drop 2 fs) _ ∙ omega (arith, length-drop 2 fs);
+    within = asked-within (x .arguments) (field 1 fs) (fits x (declared-member _ _ x declared .0) .few) place;
+    unknown = unknown;
+  }
+
+  pub asks : (query : Bytes) → queryFault p query ≡ 0 → Asks p (queryOf query)
+  unfolding queryFault queryOf arityIn
+  asks query e =
+      let fs = fieldsOf query in
+      let looked = declaredAs (queryKey (queryFrom fs)) (p .predicates) in
+      let c = zero-clear _ (omega arith) e in
+      let found = is-some looked (and-right (isName (field 0 fs)) _ (not-false _ (c .1 .0))) in
+      let arity = ap arityIn (found .1) in
+      asks-by-fields fs (found .0) (found .1)
+      (eqb-equal _ _ (not-false (eqb (length fs) (arityIn looked + 2)) (c .1 .1 .0)) ∙ ap (λ n. n + 2) arity)
+      (rw arity at (c .1 .1 .1 .0))
+      (is-none _ (c .1 .1 .1 .1 .1 .0))

@@ -1,0 +1,31 @@
+-- Words on lists, and on values that may be missing, that the other files use.
+use mathlib.Core.Bool.{Bool, true, false, _&&_}
+use mathlib.Core.List.{List, [], _∷_, _++_, List·Memᴰ}
+use mathlib.Core.Option.{Option, some, none}
+use Prim.Native.Nat.{ℕ, _+_}
+
+-- a is one of l
+infix 50 _∈_
+abbrev pub _∈_ : {A : Type 0} → A → List A → Type 0
+_∈_ a l = List·Memᴰ a l
+
+-- the test holds of each element
+unfoldable pub every {ℓ} : {A : Type ℓ} → (A → Bool) → List A → Bool
+every test [] = true
+every test (a ∷ rest) = test a && every test rest
+
+unfoldable pub isEmpty {ℓ} : {A : Type ℓ} → List A → Bool
+isEmpty [] = true
+isEmpty (a ∷ rest) = false
+
+unfoldable pub isSome {ℓ} : {A : Type ℓ} → Option A → Bool
+isSome none = false
+isSome (some a) = true
+
+-- a list with one element more, at its end
+abbrev pub ending : {A : Type 0} → A → List A → List A
+ending a l = l ++ (a ∷ [])
+
+unfoldable pub total : List ℕ → ℕ
+total [] = 0
+total (n ∷ ns) = n + total ns

@@ -1,0 +1,65 @@
+-- Demand 1, for check: what each of its answers says of the text, of its lines and of the area, in words.
+use mathlib.Core.Path.{_≡_}
+use mathlib.Core.Bool.{true, false}
+use mathlib.Core.List.{List, [], _∷_, _++_}
+use Prim.Native.Nat.{ℕ, _+_, _-_, _≤_, _<_}
+use lib.IntN.{ℤ}
+use lib.ListN.{length, getD, drop}
+use Rattle.theory.specs.Text.{Bytes, linesOf, fieldsOf}
+use Rattle.theory.specs.Terms.{structural}
+use Rattle.theory.specs.Packs.{Rule, Pack, textLimit, noClaim, atomKey, claimsOn}
+use Rattle.theory.specs.Written.{Written, nothing, write, writeAll, packOf, multipliersFrom}
+use Rattle.theory.specs.Residuals.{areaNeeded, residual, ruleVariables, residualNumbers}
+use Rattle.theory.specs.Faults.{fault, lastRule}
+use Rattle.theory.specs.Check.{numbers, multiplierLines, isFinished, Checked, checked}
+
+-- no line of these has a fault, after lines that write w
+abbrev pub AllFine : Written → List Bytes → Type 0
+AllFine w [] = Unit {0}
+AllFine w (l ∷ ls) = (fault w l ≡ 0) × AllFine (write w l) ls
+
+-- the area and the whole text pass their tests, so the lines are judged
+pub record Judged (text : Bytes) (area : List ℤ) : Type 0 where
+  pub room : areaNeeded ≤ length area
+  pub short : length text ≤ textLimit
+  pub finished : isFinished text ≡ true
+
+-- The first faulty line, counted from 1, with the number of its fault.
+pub record FirstFault (text : Bytes) (number line : ℕ) : Type 0 where
+  pub before : List Bytes
+  pub faulty : Bytes
+  pub after : List Bytes
+  pub are : linesOf text ≡ before ++ faulty ∷ after
+  pub place : line ≡ length before + 1
+  pub fine : AllFine nothing before
+  pub has : fault (writeAll nothing before) faulty ≡ number
+  pub isFault : number ≡ 0 → ⊥
+
+-- the pack that the lines before it write
+abbrev pub packBefore : {text : Bytes} {number line : ℕ} → FirstFault text number line → Pack
+packBefore first = writeAll nothing (first .before) .pack
+
+-- the numbers that the residual of the claim numbered so, from 1, on a rule's head has with some multipliers
+abbrev pub residualFor : Pack → Rule → ℕ → List ℕ → List ℤ
+residualFor p r claim ms = residualNumbers (ruleVariables (r .head) (r .subgoals)) (residual structural (p .claims) (r .head) (r .subgoals) (getD (claimsOn (atomKey (r .head)) (p .claims)) (claim - 1) noClaim) ms)
+
+-- An unjustified claim: the first fault is a 13, on a line of multipliers for this claim on the head of this rule, the last
+-- one so far; rules and claims are counted from 1.
+pub record Unjustified (text : Bytes) (line rule claim : ℕ) (residue : List ℤ) : Type 0 where
+  pub first : FirstFault text 13 line
+  pub isRule : rule ≡ length (packBefore first .rules)
+  pub low : 1 ≤ claim
+  pub high : claim ≤ length (claimsOn (atomKey (lastRule (packBefore first) .head)) (packBefore first .claims))
+  pub isResidual : residue ≡ residualFor (packBefore first) (lastRule (packBefore first)) claim (multipliersFrom (fieldsOf (first .faulty)))
+
+-- What check may answer, and when. The area at exit is the one at entry but in the last case.
+pub data Outcome (text : Bytes) (area : List ℤ) : Checked → Type 0 where
+  accepted : Judged text area → AllFine nothing (linesOf text) → writeAll nothing (linesOf text) .ended ≡ true
+      → Outcome text area (checked (numbers 0 (length (linesOf text)) (length (packOf text .rules)) (multiplierLines (packOf text .rules))) area)
+  shortArea : length area < areaNeeded → Outcome text area (checked (numbers 1 0 0 0) area)
+  longText : areaNeeded ≤ length area → textLimit < length text → Outcome text area (checked (numbers 2 0 0 0) area)
+  unfinished : areaNeeded ≤ length area → length text ≤ textLimit → isFinished text ≡ false → Outcome text area (checked (numbers 3 0 0 0) area)
+  noEnd : Judged text area → AllFine nothing (linesOf text) → writeAll nothing (linesOf text) .ended ≡ false → Outcome text area (checked (numbers 6 0 0 0) area)
+  faulty : {n line : ℕ} → Judged text area → FirstFault text n line → (n ≡ 13 → ⊥) → Outcome text area (checked (numbers n line 0 0) area)
+  unjustified : {line rule claim : ℕ} {residue : List ℤ} → Judged text area → Unjustified text line rule claim residue
+      → Outcome text area (checked (numbers 13 line rule claim) (residue ++ drop areaNeeded area))
