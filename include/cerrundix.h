@@ -18,7 +18,7 @@ extern "C" {
 #endif
 
 /* The numbers that the residual area holds for an unjustified claim: the constant, then 16 coefficients in the order in
- * which the rule's variables first occur, zeros behind the last. */
+ * which the rule's variables first occur, zeros after the last. */
 #define CERRUNDIX_AREA 17
 
 /* The longest texts that are accepted, in bytes: a pack with the byte 10 of its last line, a query or a term without. */

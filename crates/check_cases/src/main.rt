@@ -5,59 +5,22 @@ ghost use mathlib.Core.Path.{_≡_};
 ghost use Prim.Native.Nat.{_≤_, _<_};
 ghost use lib.IntN.{natAbs};
 ghost use lib.ListN.{length};
+use answers::Four;
 use libc::STDOUT_FILENO;
 use text::Natural;
-use theory::Counts;
-use theory::Refusal;
-use theory::Verdict;
 
 fn show(n: u64) {
     io::print_decimal(STDOUT_FILENO, n);
 }
 
-fn show_four(a: u64, b: u64, c: u64, d: u64) {
-    show(a);
+fn show_four(four: Four) {
+    show(four.number as u64);
     io::write_all(STDOUT_FILENO, b",");
-    show(b);
+    show(four.line as u64);
     io::write_all(STDOUT_FILENO, b",");
-    show(c);
+    show(four.rule as u64);
     io::write_all(STDOUT_FILENO, b",");
-    show(d);
-}
-
-fn show_line(number: u64, line: u16) {
-    show_four(number, line as u64, 0, 0);
-}
-
-fn show_refusal(r: Refusal) {
-    match r {
-        Refusal::ShortArea => show_four(1, 0, 0, 0),
-        Refusal::LongText => show_four(2, 0, 0, 0),
-        Refusal::UnfinishedText => show_four(3, 0, 0, 0),
-        Refusal::UnfitLine(line) => show_line(4, line),
-        Refusal::Letter(line) => show_line(5, line),
-        Refusal::NoEnd => show_four(6, 0, 0, 0),
-        Refusal::Name(line) => show_line(7, line),
-        Refusal::Declaration(line) => show_line(8, line),
-        Refusal::FieldCount(line) => show_line(9, line),
-        Refusal::Number(line) => show_line(10, line),
-        Refusal::NoTerm(line) => show_line(11, line),
-        Refusal::CountLimit(line) => show_line(12, line),
-        Refusal::Unjustified(line, rule, claim) => {
-            show_four(13, line as u64, rule as u64, claim as u64)
-        }
-    }
-}
-
-fn show_counts(c: Counts) {
-    show_four(0, c.lines as u64, c.rules as u64, c.multiplier_lines as u64);
-}
-
-fn show_verdict(v: Verdict) {
-    match v {
-        Verdict::Accepted(counts) => show_counts(counts),
-        Verdict::Refused(refusal) => show_refusal(refusal),
-    }
+    show(four.claim as u64);
 }
 
 // How far a number lies from 0. The difference fits at every number, where a negation does not at the least one.
@@ -89,8 +52,7 @@ fn show_area(area: &[i64]) {
 
 // Checks a text with the area that is lent, and shows the answer and the area.
 fn check_into(text: &[u8], area: &mut [i64]) {
-    let verdict = packs::check(text, area);
-    show_verdict(verdict);
+    show_four(answers::numbers_of(packs::check(text, area)));
     show_area(area);
 }
 

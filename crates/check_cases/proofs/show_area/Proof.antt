@@ -1,9 +1,9 @@
--- `checking::show_area` meets its contract, which says nothing: it is safe and ends. Assumes nothing.
+-- `check_cases::show_area` meets its contract, which says nothing: it is safe and ends. Assumes nothing.
 use Prim.Native.Nat.{_-_}
 use lib.ListN.{length}
 use borrow.Author.Needs.{needs}
-use Rattle.checking.proofs.show_area.Statement.{statement}
-use Rattle.checking.proofs.show_area.Tie as tie
+use Rattle.check_cases.proofs.show_area.Statement.{statement}
+use Rattle.check_cases.proofs.show_area.Tie as tie
 
 abbrev Inv-loop : tie.InvT-loop
 Inv-loop area i₀ t4 t5 i = Unit {0}

@@ -1,9 +1,9 @@
--- `measuring::measure_lines` meets its contract, which says nothing: it is safe and ends. Assumes nothing.
+-- `measure_cases::measure_lines` meets its contract, which says nothing: it is safe and ends. Assumes nothing.
 use Prim.Native.Nat.{_-_}
 use lib.ListN.{length}
 use borrow.Author.Needs.{needs}
-use Rattle.measuring.proofs.measure_lines.Statement.{statement}
-use Rattle.measuring.proofs.measure_lines.Tie as tie
+use Rattle.measure_cases.proofs.measure_lines.Statement.{statement}
+use Rattle.measure_cases.proofs.measure_lines.Tie as tie
 
 abbrev Inv-loop : tie.InvT-loop
 Inv-loop input n at₀ at = Unit {0}
@@ -29,8 +29,11 @@ part-measure-end c = search needs
 measure-requires : tie.Need-measure-requires Inv-loop μ-loop
 measure-requires c κs = search needs
 
-show-measurement-requires : tie.Need-show-measurement-requires Inv-loop μ-loop
-show-measurement-requires c κs = search needs
+measured-of-requires : tie.Need-measured-of-requires Inv-loop μ-loop
+measured-of-requires c κs = search needs
+
+show-requires : tie.Need-show-requires Inv-loop μ-loop
+show-requires c κs = search needs
 
 add-at : tie.Need-add-at Inv-loop μ-loop
 add-at c = search needs
@@ -56,7 +59,8 @@ measure-lines-spec =
     part-measure-start
     part-measure-end
     measure-requires
-    show-measurement-requires
+    measured-of-requires
+    show-requires
     add-at
     loop-less
     loop-again

@@ -1,9 +1,9 @@
--- `checking::check_one` meets its contract, which ensures nothing: it is safe and ends. Assumes nothing.
+-- `check_cases::check_one` meets its contract, which ensures nothing: it is safe and ends. Assumes nothing.
 use native.Mathlib.Omega.{arith}
 use lib.ListN.{length-take}
 use borrow.Author.Needs.{needs}
-use Rattle.checking.proofs.check_one.Statement.{statement}
-use Rattle.checking.proofs.check_one.Tie as tie
+use Rattle.check_cases.proofs.check_one.Statement.{statement}
+use Rattle.check_cases.proofs.check_one.Tie as tie
 
 array-borrow-prefix-area : tie.Need-array-borrow-prefix-area
 array-borrow-prefix-area c = search needs

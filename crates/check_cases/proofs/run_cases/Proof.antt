@@ -1,9 +1,9 @@
--- `checking::run_cases` meets its contract, which says nothing: it is safe and ends. Assumes nothing.
+-- `check_cases::run_cases` meets its contract, which says nothing: it is safe and ends. Assumes nothing.
 use Prim.Native.Nat.{_-_}
 use lib.ListN.{length}
 use borrow.Author.Needs.{needs}
-use Rattle.checking.proofs.run_cases.Statement.{statement}
-use Rattle.checking.proofs.run_cases.Tie as tie
+use Rattle.check_cases.proofs.run_cases.Statement.{statement}
+use Rattle.check_cases.proofs.run_cases.Tie as tie
 
 abbrev Inv-loop : tie.InvT-loop
 Inv-loop input n at₀ at = Unit {0}

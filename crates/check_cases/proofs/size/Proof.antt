@@ -1,8 +1,8 @@
--- `checking::size` meets its contract. Assumes nothing.
+-- `check_cases::size` meets its contract. Assumes nothing.
 use borrow.Author.Needs.{needs}
-use Rattle.checking.proofs.Sizes.{natural-cast, rest-fits, rest-cast, sum-fits, size-is}
-use Rattle.checking.proofs.size.Statement.{statement}
-use Rattle.checking.proofs.size.Tie as tie
+use Rattle.check_cases.proofs.Sizes.{natural-cast, rest-fits, rest-cast, sum-fits, size-is}
+use Rattle.check_cases.proofs.size.Statement.{statement}
+use Rattle.check_cases.proofs.size.Tie as tie
 
 sub-result : tie.Need-sub-result
 sub-result c = search (needs, rest-fits)
