@@ -67,7 +67,7 @@ module _ {claims : List ℤ} {predicate count arity asked : ℕ} {sizes : List �
         tells = λ q cs stands. remaining stands ∙ resumed-possible q _ u (used stands) best k _ possible ∙ rw (better, is);
       }
 
-    -- behind the last claim
+    -- after the last claim
     module _ (all : count ≤ i) where
       over : {q : Query} {cs : List Claim} → ClaimsStand claims predicate count arity asked sizes q cs → reservationFrom 1 q cs ≡ settled best
       unfolding resumed

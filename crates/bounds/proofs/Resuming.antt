@@ -34,11 +34,11 @@ module _ (q : Query) where
   abbrev boundFrom : Usable → Bound
   boundFrom u = boundOf (boundBy q (u .claim)) (u .number)
 
-  -- what is said of a usable claim that is not impossible and the usable ones behind it
+  -- what is said of a usable claim that is not impossible and the usable ones after it
   abbrev saidBehind : Usable → List Usable → Fields
   saidBehind u us = impossibleOr (bounded q (u ∷ us)) (impossibles q us)
 
-  -- the next usable claim, where rest says of each claim what is said of those behind it
+  -- the next usable claim, where rest says of each claim what is said of those after it
   module _ (rest : Bound → Fields) (us : List Usable) (says : (w : Usable) → 0 < w .number → saidBehind w us ≡ rest (boundFrom w)) (v : Usable) (later : 0 < v .number) where
     behind-smaller : (u : Usable) → 0 < u .number → impossibleOr (bounded q (u ∷ v ∷ us)) (impossibles q us) ≡ rest (smallerOf (boundFrom u) (boundBy q (v .claim)) (v .number))
     unfolding bounded smallest

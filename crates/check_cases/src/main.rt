@@ -73,7 +73,7 @@ fn number(field: &[u8]) -> usize {
     }
 }
 
-// Runs the case at a place and gives the place behind it, or the end where there is none.
+// Runs the case at a place and gives the place after it, or the end where there is none.
 fn run_case(input: &[u8], at: usize) -> usize
     requires { ⌜ at < length (now input) ⌝ }
     ensures { λ r. ⌜ at < r ⌝ }

@@ -1,4 +1,4 @@
--- A claim's nine numbers laid into the table, zeros behind those of the arguments.
+-- A claim's nine numbers laid into the table, zeros after those of the arguments.
 use mathlib.Core.Path.{_≡_, refl, sym, _∙_}
 use mathlib.Core.Bool.{cond}
 use mathlib.Core.List.{List}

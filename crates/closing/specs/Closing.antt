@@ -39,7 +39,7 @@ pub record ClosesP (o : Opened) (s : State) (small names₀ facts₀ : List ℕ)
   pub namesAre : r .fault ≡ 0 → names ≡ set (set names₀ (2 * s .predicates) (o .first)) (2 * s .predicates + 1) (o .second)
   pub factsAre : r .fault ≡ 0 → facts ≡ set (set facts₀ (s .predicates) (getD small 0 0)) (32 + s .predicates) (getD small 1 0)
 
--- nine numbers of a claim laid into the table, zeros behind those of the arguments
+-- nine numbers of a claim laid into the table, zeros after those of the arguments
 pub record Laid (claims₀ : List ℤ) (place : ℕ) (row : List ℤ) (arity : ℕ) (claims : List ℤ) : Type 0 where
   pub size : length claims ≡ length claims₀
   pub number : (i : ℕ) → i < 9 → i ≤ arity → getD claims (place + i) (pos 0) ≡ getD row i (pos 0)
@@ -57,7 +57,7 @@ pub record ClosesH (o : Opened) (s : State) (many : ℕ) (r : Closed) : Type 0 w
   pub answer : r .fault ≡ cond (leb 64 (s .rules) || ltb 16 many) 12 0
   pub state : r .fault ≡ 0 → r .state ≡ withHead (o .predicate) many s
 
--- a slot for each claim on a subgoal's predicate, behind those that there are
+-- a slot for each claim on a subgoal's predicate, after those that there are
 pub record SlotsAdded (slots₀ : List ℕ) (from predicate count subgoal : ℕ) (slots : List ℕ) : Type 0 where
   pub size : length slots ≡ length slots₀
   pub place : (j : ℕ) → j < count → getD slots (from + j) 0 ≡ (predicate * 16 + j) * 9

@@ -34,7 +34,7 @@ fn close_p(
     }
 }
 
-/// Lays a claim's numbers into the table, zeros behind the last.
+/// Lays a claim's numbers into the table, zeros after the last.
 fn lay(claims: &mut [i16; 4608], at: usize, row: &[i16; 9], arity: usize)
     requires { ⌜ (at + 9 ≤ 4608) × (length (now claims) ≡ 4608) ⌝ }
     ensures { λ r. ⌜ Laid (now (claims .entry)) at (now (row .entry)) arity (now (claims .exit)) ⌝ }

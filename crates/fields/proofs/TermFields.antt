@@ -1,6 +1,6 @@
 -- A field of an `H` or a `B` line: a term, into the row of its argument.
 use mathlib.Core.Path.{_≡_, refl, sym, _∙_}
-use mathlib.Core.Bool.{Bool, true, false}
+use mathlib.Core.Bool.{true, false}
 use mathlib.Core.List.{List}
 use Prim.Native.Nat.{ℕ, _+_, _-_, _≤_, _<_}
 use native.Mathlib.Decide.{decLe}
@@ -12,7 +12,9 @@ use Rattle.theory.specs.Text.{Bytes}
 use Rattle.theory.specs.Faults.{isTerm}
 use Rattle.theory.specs.Terms.{readTerm}
 use Rattle.theory.proofs.Reading.Presence.{is-some}
+use Rattle.terms.specs.declared.Tokens.{Tokens}
 use Rattle.terms.specs.Tokens.{ConstantRead}
+use Rattle.terms.specs.TokenCodes.{TokensStand, TokensRead, AritiesSummed}
 use Rattle.terms.specs.Rows.{RowFits, Counted}
 use Rattle.terms.proofs.RowStores.{small-stored}
 use Rattle.terms.proofs.TokenBounds.{size-small}
@@ -21,11 +23,11 @@ use Rattle.tables.specs.declared.Fielded.{Fielded}
 use Rattle.fields.specs.Fields.{FieldTerm}
 use Rattle.fields.proofs.Numbers.{kept-positive}
 
-module _ (field : Bytes) (term : Bool) (is : term ≡ isTerm field) (base many : ℕ) (names₀ : List ℕ) (numbers₀ : List ℤ) (few : many ≤ 17) where
-  pub no-term : (r : Fielded) → term ≡ false → r .fault ≡ 11 → r .variables ≡ many → FieldTerm base field many names₀ numbers₀ r names₀ numbers₀
+module _ (field : Bytes) (base many : ℕ) (names₀ : List ℕ) (numbers₀ : List ℤ) (few : many ≤ 17) (read : Tokens) (tokens : List ℕ) (read-is : TokensRead field read tokens) where
+  pub no-term : (r : Fielded) → read .fine ≡ false → r .fault ≡ 11 → r .variables ≡ many → FieldTerm base field many names₀ numbers₀ r names₀ numbers₀
   no-term r bad done kept-many =
       record {
-        answer = done ∙ rw (sym is ∙ bad);
+        answer = done ∙ rw (sym (read-is .fine) ∙ bad);
         counted = λ e. absurd (omega arith);
         sizes = (refl, refl);
         high = omega arith;
@@ -33,15 +35,21 @@ module _ (field : Bytes) (term : Bool) (is : term ≡ isTerm field) (base many :
         front = λ i h. refl;
       }
 
-  module _ (good : term ≡ true) where
-    pub term-is : isTerm field ≡ true
-    term-is = sym is ∙ good
+  module _ (good : read .fine ≡ true) where
+    pub tokens-stand : TokensStand field tokens (read .count)
+    tokens-stand = read-is .stand good
+
+    term-is : isTerm field ≡ true
+    term-is = sym (read-is .fine) ∙ good
 
     module _ (short : length field ≤ 1024) where
       pub row-fits : base + 17 ≤ 1305 → RowFits field many base
       row-fits room = record { short = short; few = few; room = room }
 
-      module _ (constant : ℕ) (sum : ConstantRead field constant) where
+      module _ (constant : ℕ) (summed : AritiesSummed tokens (read .count) constant) where
+        sum : ConstantRead field constant
+        sum = summed .is field tokens-stand
+
         pub constant-small : constant < 65536
         constant-small =
             let found = is-some (readTerm field) term-is in

@@ -3,6 +3,7 @@ ghost use mathlib.Core.Path.{_≡_};
 ghost use Prim.Native.Nat.{_+_, _≤_, _<_};
 ghost use lib.IntN.{pos, natAbs};
 ghost use lib.ListN.{length, getD};
+ghost use Rattle.text.specs.Classes.{Classes};
 ghost use Rattle.tables.specs.Tables.{SafeClaims};
 ghost use Rattle.residuals.specs.Weights.{Summable};
 ghost use Rattle.fields.specs.Fields.{RowOf, FieldP, FieldC, FieldTerm, FieldM, FieldReady, FieldDone};
@@ -100,17 +101,20 @@ fn field_term(
     base: usize,
     field: &[u8],
     variables: usize,
+    classes: &[u8; 256],
     names: &mut [u64; 64],
     numbers: &mut [i64; 1305],
+    tokens: &mut [u16; 512],
 ) -> Fielded
-    requires { ⌜ (length (now field) ≤ 1024) × (variables ≤ 17) × (base + 17 ≤ 1305) × (81 ≤ base) ⌝ }
-    ensures { λ r. ⌜ FieldTerm base (now (field .entry)) variables (now (names .entry)) (now (numbers .entry)) r (now (names .exit)) (now (numbers .exit)) ⌝ }
+    requires { ⌜ (length (now field) ≤ 1024) × (variables ≤ 17) × (base + 17 ≤ 1305) × (81 ≤ base) × (length (now tokens) ≡ 512) × Classes (now classes) ⌝ }
+    ensures { λ r. ⌜ (FieldTerm base (now (field .entry)) variables (now (names .entry)) (now (numbers .entry)) r (now (names .exit)) (now (numbers .exit))) × (length (now (tokens .exit)) ≡ 512) ⌝ }
 {
-    if !terms::is_term(field) {
+    let t = terms::read_tokens(field, classes, tokens);
+    if !t.fine {
         return fault_of(11, variables);
     }
-    let constant = signed(terms::constant(field));
-    let many = terms::occurrences(field, names, variables, numbers, base);
+    let constant = signed(terms::sum_of_arities(tokens, t.count));
+    let many = terms::count_occurrences(field, tokens, t.count, names, variables, numbers, base);
     numbers[base] = constant;
     fault_of(0, many)
 }
@@ -156,13 +160,16 @@ pub fn field(
     many: usize,
     claims: &[i16; 4608],
     slots: &[u16; 256],
+    classes: &[u8; 256],
     small: &mut [u8; 2],
     row: &mut [i16; 9],
     variables: &mut [u64; 64],
     numbers: &mut [i64; 1305],
+    tokens: &mut [u16; 512],
 ) -> Fielded
-    requires { ⌜ FieldReady letter index (now field) state many (now claims) (now slots) (now small) (now row) (now numbers) ⌝ }
-    ensures { λ r. ⌜ FieldDone letter index (now (field .entry)) state many (now (claims .entry)) (now (slots .entry)) (now (small .entry)) (now (row .entry)) (now (variables .entry)) (now (numbers .entry)) r (now (small .exit)) (now (row .exit)) (now (variables .exit)) (now (numbers .exit)) ⌝ }
+    requires { ⌜ (FieldReady letter index (now field) state many (now claims) (now slots) (now small) (now row) (now numbers)) × (length (now tokens) ≡ 512) × Classes (now classes) ⌝ }
+    ensures kept { λ r. ⌜ length (now (tokens .exit)) ≡ 512 ⌝ }
+    ensures done { λ r. ⌜ FieldDone letter index (now (field .entry)) state many (now (claims .entry)) (now (slots .entry)) (now (small .entry)) (now (row .entry)) (now (variables .entry)) (now (numbers .entry)) r (now (small .exit)) (now (row .exit)) (now (variables .exit)) (now (numbers .exit)) ⌝ }
 {
     match letter {
         b'P' => field_p(index, field, small, many),
@@ -170,7 +177,7 @@ pub fn field(
         b'M' => field_m(index, field, many, claims, slots, numbers),
         _ => {
             let base = row_of(letter, state.subgoals, index);
-            field_term(base, field, many, variables, numbers)
+            field_term(base, field, many, classes, variables, numbers, tokens)
         }
     }
 }

@@ -145,7 +145,7 @@ module _ {ℓ} {A : Type ℓ} (P : A → Type 0) where
   pub all-end : (l : List A) (b : A) → ((a : A) → List·Memᴰ a l → P a) → P b → (a : A) → List·Memᴰ a (l ++ (b ∷ [])) → P a
   all-end l b inside last = all-append l (b ∷ []) inside (all-cons last (λ a m. absurd (List·Memᴰ·not-nil m)))
 
--- a list of one element over and over has it at every place, and as its default behind the end
+-- a list of one element over and over has it at every place, and as its default after the end
 pub same-everywhere : {A : Type 0} (a : A) (n i : ℕ) → getD (replicate n a) i a ≡ a
 same-everywhere a zero i = refl
 same-everywhere a (suc n) zero = refl

@@ -1,4 +1,4 @@
--- A line's first field: the letter that it is, and what stands behind it.
+-- A line's first field: the letter that it is, and what stands after it.
 use mathlib.Core.Path.{_≡_, refl, sym, _∙_, ap, subst}
 use mathlib.Core.List.{[], _∷_, head-eq-of-cons-eq}
 use Prim.Native.Nat.{ℕ, _≤_, _<_}

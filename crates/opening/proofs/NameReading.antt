@@ -35,7 +35,7 @@ module _ (line : Bytes) (letter : ℕ) (begins : Begins line letter) (names : Li
     rest = λ e. never-both e refused;
   }
 
-  -- the field is the first of those behind the letter
+  -- the field is the first of those after the letter
   second-field : field 1 (fieldsOf line) ≡ field 0 (partsFrom 44 line 2)
   second-field = sym (getD-drop 1 (fieldsOf line) 0 []) ∙ ap (field 0) (sym (begins .rest))
 

@@ -1,4 +1,4 @@
--- The sums that the code makes fit their width: the commas of a line, and the place behind a field.
+-- The sums that the code makes fit their width: the commas of a line, and the place after a field.
 use mathlib.Core.Path.{_≡_}
 use mathlib.Core.Bool.{true}
 use mathlib.Core.List.{List}

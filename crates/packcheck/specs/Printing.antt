@@ -1,4 +1,4 @@
--- The lines that are printed for queries, behind what a page holds already.
+-- The lines that are printed for queries, after what a page holds already.
 use mathlib.Core.Path.{_≡_}
 use mathlib.Core.List.{List, _++_, map}
 use Prim.Native.Nat.{ℕ, _≤_}

@@ -26,7 +26,7 @@ fn input_room() -> [u8; 65537] {
     [0u8; 65537]
 }
 
-/// Writes reserve's fields for each line of the input from a place on, behind what is written already.
+/// Writes reserve's fields for each line of the input from a place on, after what is written already.
 fn put_queries(
     input: &[u8],
     from: usize,

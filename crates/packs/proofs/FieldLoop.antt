@@ -1,4 +1,4 @@
--- The loop over the fields of a line: before the first, what a field needs, and behind it.
+-- The loop over the fields of a line: before the first, what a field needs, and after it.
 use mathlib.Core.Path.{_≡_, refl, sym, _∙_, ap, subst}
 use mathlib.Core.Logic.{_⊎_, inl, inr, ⊎-elim}
 use mathlib.Core.List.{List, []}

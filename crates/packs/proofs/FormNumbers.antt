@@ -16,7 +16,7 @@ use Rattle.theory.specs.Residuals.{weighted as weightedForm, claimForm, combine
 use Rattle.tables.specs.Tables.{argument}
 use Rattle.packs.proofs.WeightedSums.{sumBelow, sum-same, sum-none, sum-first, own, weighted}
 
--- at place 0 the constant, at place i + 1 the coefficient of the variable at place i, zeros behind the last
+-- at place 0 the constant, at place i + 1 the coefficient of the variable at place i, zeros after the last
 abbrev pub numberOf : List Bytes → Form → ℕ → ℤ
 numberOf xs f i = getD (f .constant ∷ map (f .coefficient) xs) i (pos 0)
 

@@ -21,7 +21,7 @@ use Rattle.packs.specs.Between.{FieldsRead, LineClosed, LineJudged}
 use Rattle.packs.proofs.Passing.{outline}
 use Rattle.packs.proofs.FieldLoop.{fields-size, fields-number, fields-fault}
 
--- a line with a fault, but for 13: nothing is asked of the tables behind it but their size
+-- a line with a fault, but for 13: nothing is asked of the tables after it but their size
 refused-line : {line : Bytes} {t : Tables} {s : State} {r : Closed} {t₁ : Tables} → (r .fault ≡ 0 → ⊥) → (r .fault ≡ 13 → ⊥) → length (t₁ .numbers) ≡ 1305 → ((w : Written) → Holds t s w → fault w line ≡ r .fault) → LineJudged line s t r t₁
 refused-line bad other size tells =
     record {

@@ -33,7 +33,7 @@ at-limit : (past : Bool) (n : ℕ) → n ≡ cond past 12 0 → (n ≡ 0 → ⊥
 at-limit true n is bad = is
 at-limit false n is bad = absurd (bad is)
 
--- what holds behind a line whatever the lines write
+-- what holds after a line whatever the lines write
 record Kept (r : Closed) (t : Tables) : Type 0 where
   number : (r .fault ≡ 0 → ⊥) → (r .fault ≡ 12) ⊎ (r .fault ≡ 13)
   size : length (t .numbers) ≡ 1305
@@ -46,7 +46,7 @@ module _ {line : Bytes} {t : Tables} {s : State} {o : Opened} {many from index :
   abbrev after : Tables
   after = tables names facts claims variables numbers slots
 
-  -- ---- the tables behind a line of each letter
+  -- ---- the tables after a line of each letter
 
   after-p : o .letter ≡ 80 → after ≡ tables names facts (t .claims) (t .variables) (t .numbers) (t .slots)
   after-p is =
@@ -134,7 +134,7 @@ module _ {line : Bytes} {t : Tables} {s : State} {o : Opened} {many from index :
   kept KnownLetter.e is =
       limit-kept t (λ e. omega arith) (after-e is) (done .e is .5) (λ good. subst⁻¹ (Safe t) (done .e is .1) (e-safe t s before))
 
-  -- ---- behind lines that write w
+  -- ---- after lines that write w
 
   module _ (w : Written) (holds : Holds t s w) where
     limit-told : (x : Tables) → (o .letter ≡ 77 → ⊥) → after ≡ x → fault w line ≡ r .fault → (r .fault ≡ 0 → Holds x (r .state) (write w line)) → ClosedFor line w r after

@@ -1,4 +1,4 @@
--- The loop over the lines of a text: before the first, behind a line that passes, and where it ends.
+-- The loop over the lines of a text: before the first, after a line that passes, and where it ends.
 use mathlib.Core.Path.{_≡_, refl, sym, _∙_, ap}
 use mathlib.Core.List.{List, [], _∷_}
 use Prim.Native.Nat.{ℕ, _+_, _≤_, _<_}

@@ -154,7 +154,7 @@ m-summable t s fs index numbers safe few size progress =
         rw (place, progress .weight ((i - 9) / 9) (i % 9) (omega arith) (omega arith))
         (omega (arith, weight-small (t .claims) (t .slots) fs ((i - 9) / 9) (i % 9) index (safe .claims)))
 
--- ---- what is left behind a line
+-- ---- what is left after a line
 
 -- rows are as they were at the line's beginning
 rows-after : (fs : List Bytes) (index : ℕ) (s : State) (claims : List ℤ) (slots : List ℕ) (numbers₀ numbers₁ numbers : List ℤ) (r : Closed)

@@ -1,4 +1,4 @@
--- The tables behind an `M` line stand for what it writes: rows stay, the last rule has one list of multipliers more.
+-- The tables after an `M` line stand for what it writes: rows stay, the last rule has one list of multipliers more.
 use mathlib.Core.Path.{_≡_, refl, sym, _∙_}
 use mathlib.Core.List.{List, [], _∷_, nil≢cons}
 use Prim.Native.Nat.{ℕ, suc, _+_, _*_, _≤_}

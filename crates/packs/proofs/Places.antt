@@ -13,7 +13,7 @@ use Rattle.theory.specs.Lists.{every}
 use Rattle.theory.proofs.Reading.Every.{every-member, members-every}
 
 module _ {A : Type 0} where
-  -- what holds at each place of a list, and at the next, holds at each place when one more stands behind it
+  -- what holds at each place of a list, and at the next, holds at each place when one more stands after it
   pub each-and-last : (P : A → ℕ → Type 0) (l : List A) (x d : A) → ((i : ℕ) → i < length l → P (getD l i d) i) → P x (length l) → (i : ℕ) → i < length (l ++ (x ∷ [])) → P (getD (l ++ (x ∷ [])) i d) i
   each-and-last P l x d each last i h =
       below-more (λ (j : ℕ). P (getD (l ++ (x ∷ [])) j d) j) (length l)

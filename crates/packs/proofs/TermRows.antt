@@ -130,7 +130,7 @@ term-found field fault answer fine = go (isTerm field) (sym answer ∙ fine)
     go true e = refl
     go false e = absurd (omega arith)
 
--- what a term's field leaves, behind the variables known so far
+-- what a term's field leaves, after the variables known so far
 record Leaves (known : List Bytes) (t : Term) (base : ℕ) (numbers₀ : List ℤ) (many : ℕ) (names : List ℕ) (numbers : List ℤ) : Type 0 where
   few : length (numbered known (variables t)) ≤ 16 → many ≡ length (numbered known (variables t))
   many-more : 16 < length (numbered known (variables t)) → many ≡ 17

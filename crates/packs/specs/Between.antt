@@ -40,7 +40,7 @@ pub record FieldsRead (line : Bytes) (t : Tables) (s : State) (o : Opened) (many
   pub weights : o .letter ≡ 77 → ProgressM (partsFrom 44 line (o .from)) index (t .claims) (t .slots) (t .numbers) numbers
   pub tells : (w : Written) → Holds t s w → (p : Passed line s w o) → Progress (p .letter) line w s t index many small row variables numbers
 
--- a line that is read whole, behind lines that write w: its fault, and the tables behind it
+-- a line that is read whole, after lines that write w: its fault, and the tables after it
 pub record ClosedFor (line : Bytes) (w : Written) (r : Closed) (t : Tables) : Type 0 where
   pub answer : fault w line ≡ r .fault
   pub ruled : r .fault ≡ 13 → w .pack .rules ≡ [] → ⊥

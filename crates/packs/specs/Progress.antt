@@ -32,11 +32,11 @@ pub record ProgressP (fs : List Bytes) (index : ℕ) (small : List ℕ) : Type 0
 pub record ProgressC (fs : List Bytes) (index : ℕ) (row : List ℤ) : Type 0 where
   pub read : (i : ℕ) → i < index → integer numberLimit (at fs i) ≡ some (getD row i (pos 0))
 
--- the variables behind those seen, with the first terms read
+-- the variables after those seen, with the first terms read
 abbrev pub known : List Bytes → List Bytes → ℕ → List Bytes
 known seen fs index = numbered seen (allVariables (termsFrom (take index fs)))
 
--- the terms of an atom's line, behind variables that were seen; numbers₀ at the line's beginning
+-- the terms of an atom's line, after variables that were seen; numbers₀ at the line's beginning
 pub record ProgressTerms (atom : ℕ) (seen fs : List Bytes) (index many : ℕ) (variables : List ℕ) (numbers₀ numbers : List ℤ) : Type 0 where
   pub good : (i : ℕ) → i < index → isTerm (at fs i) ≡ true
   pub few : length (known seen fs index) ≤ 16 → many ≡ length (known seen fs index)

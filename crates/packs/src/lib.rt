@@ -20,7 +20,7 @@ pub struct LoadedLines {
     pub state: State,
 }
 
-/// Judges the lines of a text, behind lines that have filled the tables and left the state. Left at the first fault.
+/// Judges the lines of a text, after lines that have filled the tables and left the state. Left at the first fault.
 pub fn load_lines(
     text: &[u8],
     start: State,
@@ -34,6 +34,8 @@ pub fn load_lines(
     requires { ⌜ (Safe (tables (now names) (now facts) (now claims) (now variables) (now numbers) (now slots)) start) × (NoWeights (now numbers)) ⌝ }
     ensures { λ r. ⌜ LoadsLines (now (text .entry)) start (tables (now (names .entry)) (now (facts .entry)) (now (claims .entry)) (now (variables .entry)) (now (numbers .entry)) (now (slots .entry))) r (tables (now (names .exit)) (now (facts .exit)) (now (claims .exit)) (now (variables .exit)) (now (numbers .exit)) (now (slots .exit))) ⌝ }
 {
+    let classes = text::class_table();
+    let mut tokens = [0u16; 512];
     let len = text.len();
     let mut state = start;
     let mut fault: u8 = 0;
@@ -68,10 +70,12 @@ pub fn load_lines(
                 many,
                 claims,
                 slots,
+                &classes,
                 &mut small,
                 &mut row,
                 variables,
                 numbers,
+                &mut tokens,
             );
             fault = f.fault;
             if fault != 0 {

@@ -1,4 +1,4 @@
--- What stands on a page after one writer behind another.
+-- What stands on a page after one writer after another.
 use mathlib.Core.Path.{_≡_, sym, _∙_, ap, ap₂}
 use mathlib.Core.List.{[], _∷_, _++_, append-assoc, append-nil}
 use Prim.Native.Nat.{ℕ, _+_, _-_, _≤_, _<_}
@@ -38,7 +38,7 @@ module _ {bytes page₀ page : Bytes} {r : ℕ} (puts : Puts bytes page₀ page 
             ∙ sym (append-assoc bytes (b ∷ []) (drop (r + 1) page₀));
       }
 
-  -- a second writer behind the first
+  -- a second writer after the first
   pub puts-more : (more : Bytes) {last : Bytes} {q : ℕ} → Puts (take r page ++ more) page last q → Puts (bytes ++ more) page₀ last q
   puts-more more {last} {q} second =
       let front = ap (λ (bs : Bytes). bs ++ more) front-is in

@@ -11,7 +11,7 @@ use Rattle.theory.proofs.Reading.Decimals.{decimal-one}
 use Rattle.pages.specs.Pages.{Puts}
 use Rattle.pages.proofs.Decimals.{decimal-last, digits-one, digits-more, digits-some}
 
--- the digits of n are those of what is left and some that stand behind place at, in front of what stood behind all
+-- the digits of n are those of what is left and some that stand after place at, in front of what stood after all
 pub record Writing (n : ℕ) (page₀ page : Bytes) (many left at : ℕ) : Type 0 where
   pub size : length page ≡ length page₀
   pub all : many ≡ length (decimal n)
@@ -21,7 +21,7 @@ pub record Writing (n : ℕ) (page₀ page : Bytes) (many left at : ℕ) : Type 
   pub whole : decimal n ≡ decimal left ++ written
   pub behind : drop (at + 1) page ≡ written ++ drop many page₀
 
--- a byte stored at a place stands in front of what is behind the place
+-- a byte stored at a place stands in front of what is after the place
 store-front : (page : Bytes) (at b : ℕ) → at < length page → drop at (set page at b) ≡ b ∷ drop (at + 1) page
 store-front page at b h =
     let inside : at < length (set page at b) = omega (arith, length-set page at b) in

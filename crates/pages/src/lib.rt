@@ -1,4 +1,4 @@
-// Writing into a lent page. What lies around the bytes that a writer writes stays, and it gives the place behind them.
+// Writing into a lent page. What lies around the bytes that a writer writes stays, and it gives the place after them.
 ghost use mathlib.Core.Path.{_≡_};
 ghost use mathlib.Core.List.{[], _∷_, _++_};
 ghost use Prim.Native.Nat.{_+_, _≤_, _<_};
@@ -43,7 +43,7 @@ pub fn put_decimal(page: &mut [u8], n: u64) -> usize
     many
 }
 
-/// Writes a number in decimal and one byte behind it, from a place on, and gives the place behind them.
+/// Writes a number in decimal and one byte after it, from a place on, and gives the place after them.
 pub fn put_field(page: &mut [u8], at: usize, n: u64, behind: u8) -> usize
     requires { ⌜ at + length (decimal n) + 1 ≤ length (now page) ⌝ }
     ensures { λ r. ⌜ (r ≡ at + length (decimal n) + 1) × Puts (take at (now (page .entry)) ++ (decimal n ++ behind ∷ [])) (now (page .entry)) (now (page .exit)) r ⌝ }

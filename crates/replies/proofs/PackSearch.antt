@@ -1,4 +1,4 @@
--- The loop of `pack_end`: before the first line, behind a line that does not end the pack, and where the pack ends.
+-- The loop of `pack_end`: before the first line, after a line that does not end the pack, and where the pack ends.
 use mathlib.Core.Path.{_≡_, refl, sym, _∙_, ap}
 use mathlib.Core.Bool.{true}
 use mathlib.Core.List.{[], _∷_, _++_, append-assoc}

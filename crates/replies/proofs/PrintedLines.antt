@@ -18,7 +18,7 @@ use Rattle.pages.proofs.Puts.{puts-same, puts-byte, puts-more}
 pub numbers-short : (a b c d : ℕ) → a < 256 → b < 65536 → c < 256 → d < 65536 → length (decimal a) + length (decimal b) + length (decimal c) + length (decimal d) ≤ 16
 numbers-short a b c d h k l m = omega (arith, digits-few 2 a (omega arith), digits-few 4 b (omega arith), digits-few 2 c (omega arith), digits-few 4 d (omega arith))
 
--- a field and the byte behind it
+-- a field and the byte after it
 abbrev field : ℕ → ℕ → Bytes
 field n b = decimal n ++ (b ∷ [])
 

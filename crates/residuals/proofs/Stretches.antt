@@ -53,7 +53,7 @@ from s place j = elements s (place + j)
 abbrev pub zeros : ℕ → ℤ
 zeros j = pos 0
 
--- behind its end too a list has zeros
+-- after its end too a list has zeros
 zero-stored : (s : List ℤ) (i : ℕ) → elements (set s i (pos 0)) i ≡ pos 0
 zero-stored [] i = refl
 zero-stored (x ∷ s) zero = refl

@@ -88,7 +88,7 @@ pub record Declares (names facts : List ℕ) (known : ℕ) (ps : List Predicate)
 
 -- ## Claims
 
--- a claim's numbers from a place of the table on, zeros behind the last
+-- a claim's numbers from a place of the table on, zeros after the last
 pub record ClaimAt (claims : List ℤ) (place : ℕ) (c : Claim) : Type 0 where
   pub constant : getD claims place (pos 0) ≡ c .constant
   pub coefficient : (k : ℕ) → k < 8 → getD claims (place + 1 + k) (pos 0) ≡ getD (c .coefficients) k (pos 0)
@@ -107,7 +107,7 @@ argument nil k = variable []
 argument (cons t ts) zero = t
 argument (cons t ts) (suc k) = argument ts k
 
--- the row from base on is the form of a term over a rule's variables, zeros behind the last
+-- the row from base on is the form of a term over a rule's variables, zeros after the last
 pub record RowStands (numbers : List ℤ) (base : ℕ) (xs : List Bytes) (t : Term) : Type 0 where
   pub constant : getD numbers base (pos 0) ≡ formOf structural t .constant
   pub coefficient : (i : ℕ) → i < length xs → getD numbers (base + 1 + i) (pos 0) ≡ formOf structural t .coefficient (getD xs i [])

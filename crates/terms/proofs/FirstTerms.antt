@@ -1,4 +1,4 @@
--- Terms cut behind the first k: how many they are, their sizes and their variables, before the cut and behind it.
+-- Terms cut after the first k: how many they are, their sizes and their variables, before the cut and after it.
 use mathlib.Core.Path.{_≡_, refl, sym, _∙_, ap}
 use mathlib.Core.List.{_++_, append-assoc}
 use mathlib.Core.Option.{Option, some, none, Option·map}

@@ -3,14 +3,17 @@
 -- what one token is read as; whether tokens write a term
 pub mod TokenKinds
 pub mod SymbolTokens
-pub mod TokenReading
-pub mod VariableWords
+pub mod WordEnding
+pub mod TokenEnds
+pub mod NextTokens
 pub mod FirstTerms
 pub mod Scan
 -- a term's size and variables as sums over its tokens
 pub mod TokenSums
 pub mod TokenBounds
-pub mod TermScans
+pub mod CodeLaws
+pub mod TokenLoop
+pub mod CodeSums
 pub mod Measures
 -- a rule's variables, numbered and counted one at a time
 pub mod Numbering
@@ -21,4 +24,5 @@ pub mod OneOccurrence
 pub mod VariableTable
 pub mod RowCounting
 pub mod Tally
-pub mod RowLoop
+pub mod OneCode
+pub mod CodeLoop

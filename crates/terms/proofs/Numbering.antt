@@ -44,7 +44,7 @@ module _ (seen : List Bytes) (x : Bytes) (xs : List Bytes) where
   unfolding numbered
   numbered-new e = rw e
 
--- behind those passed
+-- after those passed
 numbered-end : (seen xs : List Bytes) (x : Bytes) → numbered seen (xs ++ (x ∷ [])) ≡ numbered (numbered seen xs) (x ∷ [])
 unfolding numbered
 numbered-end seen [] x = refl

@@ -1,19 +1,16 @@
 -- A symbol's token by its places: a name, a `/` as the last byte but one, and a digit.
 use mathlib.Core.Path.{_≡_, refl, sym, _∙_, ap}
-use mathlib.Core.Bool.{Bool, true, false}
+use mathlib.Core.Bool.{true, false}
 use mathlib.Core.List.{[], _∷_, _++_}
 use Prim.Native.Nat.{ℕ, _+_, _-_, _≤_, _<_}
 use native.Mathlib.Omega.{arith}
 use lib.ListN.{length, getD, take, drop, length-append, drop-of-length-le, take-append-drop}
 use lib.Seq.{take-at, getD-at, getD-append-add}
-use Rattle.integers.proofs.Truth.{by-truth, never-both, not-true, equal-eqb}
-use Rattle.integers.proofs.Lists.{getD-member}
+use Rattle.integers.proofs.Truth.{never-both}
 use Rattle.theory.specs.Text.{Bytes, isWord, isDigit, isName, isVariable, isDecimal, valueBehind, decimal}
 use Rattle.theory.specs.Terms.{Token, symbolOf, noToken, symbolToken, tokenOf}
 use Rattle.theory.proofs.Reading.Bytes.{between-from, between-low, between-high}
-use Rattle.theory.proofs.Reading.Every.{every-member}
 use Rattle.theory.proofs.Reading.Decimals.{decimal-of-value}
-use Rattle.theory.proofs.Reading.Spelling.{variable-no-slash}
 use Rattle.theory.proofs.Reading.Tokens.{ReadAs, as-variable, as-symbol, as-none, token-of-symbol, read-as}
 use Rattle.text.proofs.Parts.{drop-more}
 
@@ -96,13 +93,6 @@ module _ (w : Bytes) (long : 2 ≤ length w) (slash : lastButOne w ≡ 47) where
 
     pub symbol-read : tokenOf w ≡ symbolOf (frontOf w) (lastByte w - 48)
     symbol-read = ap tokenOf spelled ∙ token-of-symbol _ _ named (omega (arith, between-high 48 57 (lastByte w) digit))
-
-  -- a variable has no `/`
-  pub slash-no-variable : isVariable w ≡ false
-  slash-no-variable =
-      by-truth (λ (v : Bool). v ≡ false) (isVariable w)
-      (λ h. never-both (equal-eqb (lastButOne w) 47 slash) (not-true _ (every-member _ (variable-no-slash w h) (getD-member w (length w - 2) 0 (omega arith)))))
-      (λ h. refl)
 
 -- ---- neither a variable nor a symbol
 

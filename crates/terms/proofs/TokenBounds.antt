@@ -1,24 +1,19 @@
 -- How large what a scan counts can be, against the tokens and against the bytes of a field.
-use mathlib.Core.Path.{_≡_, ap}
+use mathlib.Core.Path.{_≡_}
 use mathlib.Core.Bool.{cond}
 use mathlib.Core.List.{List, [], _∷_}
 use mathlib.Core.Option.{some}
-use Prim.Native.Nat.{ℕ, suc, _+_, _-_, _*_, _≤_, _<_, _^_}
+use Prim.Native.Nat.{suc, _*_, _≤_, _<_, _^_}
 use native.Mathlib.Omega.{arith}
 use lib.ListN.{length}
 use Rattle.integers.proofs.Truth.{by-truth}
 use Rattle.theory.specs.Text.{Bytes, partsAt, isVariable}
-use Rattle.theory.specs.Terms.{Term, Token, tokenOf, symbolOf, readTerm, structural, size, variables}
+use Rattle.theory.specs.Terms.{Term, Token, tokenOf, readTerm, structural, size}
 use Rattle.theory.proofs.Reading.Tokens.{ReadAs, as-variable, as-symbol, as-none, read-as}
 use Rattle.theory.proofs.Reading.TermLengths.{parts-count}
-use Rattle.terms.proofs.TokenKinds.{arity-of-token}
 use Rattle.terms.proofs.TokenSums.{constantOf, constants, variableTokens, token-sums}
 
 -- ---- against the number of tokens
-
--- What is wanted behind a number of tokens: a symbol takes one and asks at most 9. (A variable takes one and asks none.)
-pub wanted-behind : (w f : Bytes) (k wanted passed : ℕ) → tokenOf w ≡ symbolOf f k → wanted ≤ 1 + 9 * passed → wanted - 1 + k ≤ 1 + 9 * suc passed
-wanted-behind w f k wanted passed e h = omega (arith, arity-of-token w f k e)
 
 constant-of-token : (w : Bytes) → constantOf (tokenOf w) ≤ 9
 unfolding constantOf
@@ -48,7 +43,3 @@ constants-small field short = omega (arith, constants-bound (partsAt 32 field), 
 
 pub size-small : (field : Bytes) (t : Term) → readTerm field ≡ some t → length field ≤ 1024 → size structural t < 2 ^ 16
 size-small field t e short = omega (arith, token-sums field t e .constant, constants-small field short)
-
-pub variables-few : (field : Bytes) (t : Term) → readTerm field ≡ some t → length field ≤ 1024 → length (variables t) ≤ 1025
-variables-few field t e short =
-    omega (arith, variable-tokens-count (partsAt 32 field), parts-count 32 field, ap length (token-sums field t e .names))

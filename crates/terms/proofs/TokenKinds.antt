@@ -1,7 +1,7 @@
 -- What a token is read as: a variable exactly if it is spelled as one, a symbol with an arity of one digit, or nothing.
 use mathlib.Core.Path.{_≡_, refl}
-use mathlib.Core.Logic.{_⊎_, _↔_}
-use mathlib.Core.Bool.{true, false}
+use mathlib.Core.Logic.{_⊎_}
+use mathlib.Core.Bool.{false}
 use mathlib.Core.List.{List, _∷_, List·Memᴰ·head, List·Memᴰ·tail}
 use Prim.Native.Nat.{ℕ, _≤_}
 use native.Mathlib.Omega.{arith}
@@ -12,14 +12,6 @@ use Rattle.theory.specs.Terms.{Token, variableNamed, symbolOf, tokenOf}
 use Rattle.theory.proofs.Reading.Tokens.{ReadAs, as-variable, as-symbol, as-none, token-of-variable, read-as}
 
 -- ---- one token
-
-pub variable-token : (w : Bytes) → (tokenOf w ≡ variableNamed w) ↔ (isVariable w ≡ true)
-variable-token w = (spelled (read-as w), token-of-variable w)
-  where
-    spelled : {token : Token} → ReadAs w token → token ≡ variableNamed w → isVariable w ≡ true
-    spelled (as-variable h) e = h
-    spelled (as-symbol is named few) e = let z : _≡_ {A = ℕ} 0 1 = cc in absurd (omega arith)
-    spelled as-none e = let z : _≡_ {A = ℕ} 0 1 = cc in absurd (omega arith)
 
 other-token : (w : Bytes) → (tokenOf w ≡ variableNamed w → ⊥) → isVariable w ≡ false
 other-token w other = by-truth (λ b. b ≡ false) (isVariable w) (λ h. absurd (other (token-of-variable w h))) (λ h. refl)
@@ -43,12 +35,6 @@ IsRead w = (tokenOf w ≡ variableNamed w) ⊎ ((f : Bytes) × (k : ℕ) × (tok
 
 abbrev pub AllRead : List Bytes → Type 0
 AllRead ws = (w : Bytes) → w ∈ ws → IsRead w
-
-pub first-read : (w : Bytes) (ws : List Bytes) → AllRead (w ∷ ws) → IsRead w
-first-read w ws h = h w (List·Memᴰ·head refl)
-
-pub rest-read : (w : Bytes) (ws : List Bytes) → AllRead (w ∷ ws) → AllRead ws
-rest-read w ws h v m = h v (List·Memᴰ·tail m)
 
 pub one-more-read : (w : Bytes) (ws : List Bytes) → IsRead w → AllRead ws → AllRead (w ∷ ws)
 one-more-read w ws h k v (List·Memᴰ·head e) = rw e h

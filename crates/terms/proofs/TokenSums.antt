@@ -10,11 +10,9 @@ use Rattle.theory.specs.Lists.{total}
 use Rattle.theory.specs.Text.{Bytes, partsAt, isVariable}
 use Rattle.theory.specs.Terms.{Term, variable, symbol, Terms, nil, cons, Token, variableNamed, symbolOf, noToken, tokenOf, behind, behindAll, termsOf, theOnly, readTerm}
 use Rattle.theory.specs.Terms.{structural, size, argumentSizes, variables, allVariables}
-use Rattle.theory.specs.Faults.{isTerm}
-use Rattle.theory.proofs.Reading.Presence.{is-some}
 use Rattle.theory.proofs.Reading.Tokens.{ReadAs, as-variable, as-symbol, as-none, read-as}
 use Rattle.theory.proofs.Soundness.StructuralSizes.{sizesTogether, structural-size}
-use Rattle.terms.proofs.TokenKinds.{IsRead, AllRead, one-more-read, symbol-token}
+use Rattle.terms.proofs.TokenKinds.{AllRead, one-more-read, symbol-token}
 use Rattle.terms.proofs.FirstTerms.{FirstOf, enough, too-few, first-of}
 
 unfoldable pub constantOf : Token → ℕ
@@ -40,11 +38,6 @@ module _ (w : Bytes) (ws : List Bytes) where
   pub constants-variable : tokenOf w ≡ variableNamed w → constants (w ∷ ws) ≡ constants ws
   unfolding constants constantOf
   constants-variable e = rw e (omega arith)
-
-  -- one step of adding up arities, where a variable's is 0
-  pub constants-step : (r : ℕ) → IsRead w → ((f : Bytes) (k : ℕ) → tokenOf w ≡ symbolOf f k → r ≡ k) → (tokenOf w ≡ variableNamed w → r ≡ 0) → constants (w ∷ ws) ≡ r + constants ws
-  constants-step r (inl e) of-symbol of-variable = omega (arith, constants-variable e, of-variable e)
-  constants-step r (inr (f, k, e)) of-symbol of-variable = omega (arith, constants-symbol f k e, of-symbol f k e)
 
   pub variable-first : isVariable w ≡ true → variableTokens (w ∷ ws) ≡ w ∷ variableTokens ws
   unfolding variableTokens
@@ -104,6 +97,3 @@ token-sums field t e = only (terms-summed (partsAt 32 field)) e
         record { constant = omega (arith, ap (size structural) same); names = names ∙ append-nil (variables u) ∙ ap variables same; all = all }
     only (summed (cons u (cons v ts)) sum names all) e = absurd (Option·none-ne-some t e)
     only unread e = absurd (Option·none-ne-some t e)
-
-pub all-tokens-read : (field : Bytes) → isTerm field ≡ true → AllRead (partsAt 32 field)
-all-tokens-read field h = let found = is-some (readTerm field) h in token-sums field (found .0) (found .1) .all

@@ -18,7 +18,7 @@ use Rattle.text.proofs.WordLaws.{words-equal}
 use Rattle.terms.specs.Rows.{Holds}
 use Rattle.terms.proofs.Numbering.{no-place-among, numbered-new}
 
--- the table with one word more behind the first n
+-- the table with one word more after the first n
 abbrev pub withWords : List ℕ → ℕ → Words → List ℕ
 withWords names n words = set (set names (2 * n) (words .first)) (2 * n + 1) (words .second)
 
@@ -38,7 +38,7 @@ module _ (names : List ℕ) (n : ℕ) (words : Words) where
       (getD-set-other (set names (2 * n) (words .first)) (2 * n + 1) (2 * n) (words .second) 0 (λ e. omega arith) ∙ getD-set-same names (2 * n) (words .first) 0 (omega arith))
       (getD-set-same (set names (2 * n) (words .first)) (2 * n + 1) (words .second) 0 (simp length-set h))
 
--- what holds at each place of a list, and at the next, holds at each place when one more stands behind it
+-- what holds at each place of a list, and at the next, holds at each place when one more stands after it
 each-and-last : (P : Bytes → ℕ → Type 0) (all : List Bytes) (x : Bytes) → ((i : ℕ) → i < length all → P (getD all i []) i) → P x (length all) → (i : ℕ) → i < length (all ++ (x ∷ [])) → P (getD (all ++ (x ∷ [])) i []) i
 each-and-last P all x each last i h =
     below-more (λ (j : ℕ). P (getD (all ++ (x ∷ [])) j []) j) (length all)

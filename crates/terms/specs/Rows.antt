@@ -11,8 +11,10 @@ use Rattle.theory.specs.Terms.{Term, readTerm, variables, occurrences}
 use Rattle.theory.specs.Packs.{lineLimit, variableLimit}
 use Rattle.theory.specs.Residuals.{numbered}
 use Rattle.theory.proofs.Judging.Variables.{Once}
+use Rattle.text.specs.Scans.{part}
 use Rattle.text.specs.Words.{wordsOf, wordsAt, PlaceOf}
 use Rattle.text.specs.declared.Words.{Words}
+use Rattle.terms.specs.TokenCodes.{startOf, endOf}
 
 -- the table holds the words of these variables, each once
 pub record Holds (names : List ℕ) (seen : List Bytes) : Type 0 where
@@ -22,7 +24,7 @@ pub record Holds (names : List ℕ) (seen : List Bytes) : Type 0 where
   pub proper : (i : ℕ) → i < length seen → isVariable (getD seen i []) ≡ true
   pub once : Once seen
 
--- the sixteen numbers behind base are 0, the others as they were
+-- the sixteen numbers after base are 0, the others as they were
 pub record Cleared (rows₀ : List ℤ) (base : ℕ) (rows : List ℤ) : Type 0 where
   pub size : length rows ≡ length rows₀
   pub zeros : (i : ℕ) → i < variableLimit → getD rows (base + 1 + i) (pos 0) ≡ pos 0
@@ -43,12 +45,18 @@ pub data CountsOne (words : Words) (names₀ : List ℕ) (known : ℕ) (rows₀ 
   none-left : known ≡ variableLimit → PlaceOf names₀ known words known → CountsOne words names₀ known rows₀ base (variableLimit + 1) names₀ rows₀
   past : variableLimit < known → CountsOne words names₀ known rows₀ base (variableLimit + 1) names₀ rows₀
 
+-- a code counted, where it stands for a variable
+pub data CountsCode (field : Bytes) (code : ℕ) (names₀ : List ℕ) (known : ℕ) (rows₀ : List ℤ) (base : ℕ) : ℕ → List ℕ → List ℤ → Type 0 where
+  no-variable : code < 16384 → CountsCode field code names₀ known rows₀ base known names₀ rows₀
+  one-variable : {r : ℕ} {names : List ℕ} {rows : List ℤ} → 16384 ≤ code → CountsOne (wordsOf (part field (startOf code) (endOf code))) names₀ known rows₀ base r names rows
+      → CountsCode field code names₀ known rows₀ base r names rows
+
 pub record RowFits (field : Bytes) (known base : ℕ) : Type 0 where
   pub short : length field ≤ lineLimit
   pub few : known ≤ variableLimit + 1
   pub room : base + 17 ≤ 1305
 
--- the row at base counts the occurrences of these variables in a list, with zeros behind
+-- the row at base counts the occurrences of these variables in a list, with zeros after
 pub record RowCounts (rows : List ℤ) (base : ℕ) (all xs : List Bytes) : Type 0 where
   pub counts : (i : ℕ) → i < length all → getD rows (base + 1 + i) (pos 0) ≡ pos (occurrences (getD all i []) xs)
   pub zeros : (i : ℕ) → i < variableLimit → length all ≤ i → getD rows (base + 1 + i) (pos 0) ≡ pos 0

@@ -13,7 +13,7 @@ use Rattle.text.specs.Scans.{part, Finds, Nearest}
 use Rattle.text.proofs.Parts.{free-none, free-more}
 
 module _ (s : Bytes) where
-  -- two parts, one behind the other
+  -- two parts, one after the other
   pub part-join : (a m e : ℕ) → a ≤ m → m ≤ e → part s a e ≡ part s a m ++ part s m e
   part-join a m e h k =
       let more : e - a ≡ m - a + (e - m) = omega arith in
@@ -77,7 +77,7 @@ module _ (s : Bytes) (wanted : ℕ) where
           found = λ j. rw place at (m .found (omega arith));
         }
 
-  -- ---- a block behind bytes that were passed
+  -- ---- a block after bytes that were passed
 
   module _ (from i : ℕ) (low : from ≤ i) (free : isFree wanted (part s from i) ≡ true) where
     module _ (n k : ℕ) (room : n ≤ length s - i) (near : Nearest s wanted i n k) where

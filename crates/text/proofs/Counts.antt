@@ -5,13 +5,12 @@ use mathlib.Core.List.{[], _∷_, _++_}
 use Prim.Native.Nat.{ℕ, suc, _+_, _-_, _≤_, _<_}
 use native.Mathlib.Omega.{arith}
 use lib.Dec.{eqb}
-use lib.ListN.{length, getD, drop, length-drop, drop-of-length-le}
-use lib.Seq.{length-take-le}
+use lib.ListN.{length, getD, drop, drop-of-length-le}
 use Rattle.integers.proofs.Truth.{by-truth, equal-eqb, eqb-different}
 use Rattle.theory.specs.Text.{Bytes, onFirst, partsAt}
 use Rattle.theory.proofs.Reading.Separators.{parts-cons}
 use Rattle.text.specs.Scans.{part, CountsParts}
-use Rattle.text.proofs.Parts.{drop-cut, drop-more}
+use Rattle.text.proofs.Parts.{part-length, drop-cut, drop-more}
 
 -- n separators stand before place i
 pub record Counted (separator : ℕ) (s : Bytes) (n i : ℕ) : Type 0 where
@@ -69,5 +68,5 @@ module _ (separator : ℕ) (s : Bytes) where
   counted-block n i c e l high r m found same =
       let cut = drop-cut s i e (omega arith) in
       let joined = rw (sym cut) at (parts-append (part s i e) (drop e s)) in
-      let wide : length (part s i e) ≡ e - i = length-take-le (e - i) (drop i s) (simp length-drop (omega arith)) in
+      let wide = part-length s i (e - i) e (omega arith) high in
       record { few = omega (arith, c .few, found .few, wide); high = high; parts = omega (arith, joined, c .parts, found .parts) }

@@ -13,7 +13,7 @@ use Rattle.theory.proofs.Reading.Separators.{isFree, free-first, Cuts, parts-cu
 use Rattle.text.specs.Scans.{part, Finds, partsFrom}
 use Rattle.text.proofs.Parts.{part-rest, drop-cut, drop-more}
 
--- a part with no separator behind it, where a last byte is a part
+-- a part with no separator after it, where a last byte is a part
 module _ (separator : ℕ) (cut : Bytes → List Bytes) (cuts : Cuts separator cut) (last : (b : ℕ) → onFirst b (cut []) ≡ (b ∷ []) ∷ []) where
   cut-last : (b : ℕ) (bs : Bytes) → isFree separator (b ∷ bs) ≡ true → cut (b ∷ bs) ≡ (b ∷ bs) ∷ []
   cut-last b [] free = cut-other separator cut cuts b [] (free-first separator b [] free) ∙ last b
@@ -42,7 +42,7 @@ parts-one separator [] free = refl
 parts-one separator (b ∷ bs) free = cut-last separator (partsAt separator) (parts-cut separator) (λ c. refl) b bs free
 
 module _ (separator : ℕ) (s : Bytes) where
-  parts-more : (from : ℕ) → from ≤ length s → partsFrom separator s from ≡ partsAt separator (drop from s)
+  pub parts-more : (from : ℕ) → from ≤ length s → partsFrom separator s from ≡ partsAt separator (drop from s)
   unfolding partsFrom
   parts-more from h = rw (le-leb from (length s) h)
 

@@ -60,7 +60,7 @@ through-bits : (z y : ℤ) → z ≡ y → SFits w64 y → some (toZ w64 (ofZ w6
 through-bits z y e f = ap some (rw e (toZ-ofZ f))
 
 module _ (limit : ℕ) (small : limit ≤ 99999) (s : Bytes) (any : length s ≡ 0 → ⊥) (r : Natural) where
-  -- a minus sign, and a number read behind it
+  -- a minus sign, and a number read after it
   module _ (sign : getD s 0 0 ≡ 45) (read : naturalOf r ≡ natural limit (part s 1 (length s))) where
     behind-sign : integer limit s ≡ negated (naturalOf r)
     behind-sign = integer-is limit s any ∙ rw (equal-eqb (getD s 0 0) 45 sign, ← part-rest s 1, ← read)

@@ -6,7 +6,11 @@ pub mod WordKinds
 pub mod Parts
 pub mod Classes
 -- What the functions' proofs cite.
+pub mod Entries
+pub mod WordEnds
 pub mod Blocks
+pub mod Halves
+pub mod EightBytes
 pub mod Marks
 pub mod Counts
 pub mod Fitness

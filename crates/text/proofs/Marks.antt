@@ -1,8 +1,8 @@
 -- A bit for each byte of a part: the lowest bit that is set is the first place where the byte stands.
 use mathlib.Core.Path.{_≡_, refl, sym, _∙_, ap}
 use mathlib.Core.Bool.{Bool, true, not}
-use mathlib.Core.List.{[], _∷_, _++_}
-use Prim.Native.Nat.{ℕ, zero, suc, _+_, _-_, _*_, _/_, _%_, _≤_, _<_}
+use mathlib.Core.List.{[], _∷_}
+use Prim.Native.Nat.{ℕ, zero, suc, _+_, _-_, _*_, _/_, _%_, _^_, _≤_, _<_}
 use native.Mathlib.Omega.{arith}
 use lib.Count.{trailingZeros}
 use lib.Dec.{eqb}
@@ -14,8 +14,7 @@ use Rattle.theory.specs.Text.{Bytes}
 use Rattle.theory.proofs.Reading.Every.{every-cons}
 use Rattle.theory.proofs.Reading.Separators.{isFree}
 use Rattle.text.specs.Scans.{part, Nearest, markOf, marks, Marked}
-use Rattle.text.proofs.Parts.{part-none, part-more}
-use Rattle.text.proofs.Blocks.{part-join}
+use Rattle.text.proofs.Halves.{value-join, value-one}
 
 module _ (wanted : ℕ) where
   pub marked : (b : ℕ) → b ≡ wanted → markOf wanted b ≡ 1
@@ -28,61 +27,48 @@ module _ (wanted : ℕ) where
 
   -- ---- halves
 
-  unfoldable doubled : ℕ → ℕ → ℕ
-  doubled zero n = n
-  doubled (suc k) n = 2 * doubled k n
+  marks-none : marks wanted [] ≡ 0
+  unfolding marks
+  marks-none = refl
 
-  marks-append : (xs ys : Bytes) → marks wanted (xs ++ ys) ≡ marks wanted xs + doubled (length xs) (marks wanted ys)
-  unfolding marks doubled
-  marks-append [] ys = omega arith
-  marks-append (b ∷ xs) ys = omega (arith, marks-append xs ys)
+  marks-more : (b : ℕ) (bs : Bytes) → marks wanted (b ∷ bs) ≡ markOf wanted b + 2 * marks wanted bs
+  unfolding marks
+  marks-more b bs = refl
 
   module _ (s : Bytes) (at : ℕ) where
-    marks-halves : (h m e : ℕ) → at + h ≡ m → m + h ≡ e → e ≤ length s → marks wanted (part s at e) ≡ marks wanted (part s at m) + doubled h (marks wanted (part s m e))
-    marks-halves h m e f g l =
-        let width : m - at ≡ h = omega arith in
-        let wide : length (part s at m) ≡ h = rw width (length-take-le h (drop at s) (simp length-drop (omega arith))) in
-        ap (marks wanted) (part-join s at m e (omega arith) (omega arith))
-        ∙ marks-append (part s at m) (part s m e)
-        ∙ ap (λ (n : ℕ). marks wanted (part s at m) + doubled n (marks wanted (part s m e))) wide
+    marks-halves : (h m e : ℕ) → at + h ≡ m → m ≤ e → e ≤ length s → marks wanted (part s at e) ≡ marks wanted (part s at m) + 2 ^ h * marks wanted (part s m e)
+    marks-halves = value-join 2 (markOf wanted) (marks wanted) marks-none marks-more s at
 
-    marks-one : (i : ℕ) → i < length s → marks wanted (part s i (i + 1)) ≡ markOf wanted (getD s i 0)
-    unfolding marks
-    marks-one i l = ap (marks wanted) (part-more s i i (omega arith) l ∙ ap (λ (rest : Bytes). rest ++ (getD s i 0 ∷ [])) (part-none s i)) ∙ omega arith
+    marks-one : (i e : ℕ) → i + 1 ≡ e → e ≤ length s → marks wanted (part s i e) ≡ markOf wanted (getD s i 0)
+    marks-one = value-one 2 (markOf wanted) (marks wanted) marks-none marks-more s
 
     pub two-are : at + 2 ≤ length s → (a b : ℕ) → (a ≡ markOf wanted (getD s at 0)) × (a < 2) → (b ≡ markOf wanted (getD s (at + 1) 0)) × (b < 2) → Marked s wanted at 2 4 (a + 2 * b)
-    unfolding doubled
-    two-are l a b e f =
-        let place : at + 1 + 1 ≡ at + 2 = omega arith in
-        record {
-          is = omega (arith, marks-halves 1 (at + 1) (at + 2) refl place l, e, f, marks-one at (omega arith), rw place at (marks-one (at + 1) (omega arith)));
-          small = omega arith;
-        }
+    two-are l a b e f = record {
+      is = omega (arith, marks-halves 1 (at + 1) (at + 2) refl (omega arith) l, marks-one at (at + 1) refl (omega arith), marks-one (at + 1) (at + 2) (omega arith) l);
+      small = omega arith;
+    }
 
     pub four-are : at + 4 ≤ length s → (a b : ℕ) → Marked s wanted at 2 4 a → Marked s wanted (at + 2) 2 4 b → Marked s wanted at 4 16 (a + 4 * b)
-    unfolding doubled
     four-are l a b e f =
         let place : at + 2 + 2 ≡ at + 4 = omega arith in
         record {
-          is = omega (arith, marks-halves 2 (at + 2) (at + 4) refl place l, e .is, rw place at (f .is));
+          is = omega (arith, marks-halves 2 (at + 2) (at + 4) refl (omega arith) l, e .is, rw place at (f .is));
           small = omega (arith, e .small, f .small);
         }
 
     pub eight-are : at + 8 ≤ length s → (a b : ℕ) → Marked s wanted at 4 16 a → Marked s wanted (at + 4) 4 16 b → Marked s wanted at 8 256 (a + 16 * b)
-    unfolding doubled
     eight-are l a b e f =
         let place : at + 4 + 4 ≡ at + 8 = omega arith in
         record {
-          is = omega (arith, marks-halves 4 (at + 4) (at + 8) refl place l, e .is, rw place at (f .is));
+          is = omega (arith, marks-halves 4 (at + 4) (at + 8) refl (omega arith) l, e .is, rw place at (f .is));
           small = omega (arith, e .small, f .small);
         }
 
     pub sixteen-are : at + 16 ≤ length s → (a b : ℕ) → Marked s wanted at 8 256 a → Marked s wanted (at + 8) 8 256 b → Marked s wanted at 16 65536 (a + 256 * b)
-    unfolding doubled
     sixteen-are l a b e f =
         let place : at + 8 + 8 ≡ at + 16 = omega arith in
         record {
-          is = omega (arith, marks-halves 8 (at + 8) (at + 16) refl place l, e .is, rw place at (f .is));
+          is = omega (arith, marks-halves 8 (at + 8) (at + 16) refl (omega arith) l, e .is, rw place at (f .is));
           small = omega (arith, e .small, f .small);
         }
 

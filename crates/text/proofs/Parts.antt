@@ -1,12 +1,12 @@
 -- Parts of a byte string: one byte more, and what stands from a place on.
 use mathlib.Core.Path.{_≡_, sym, _∙_, ap}
-use mathlib.Core.Bool.{true}
+use mathlib.Core.Bool.{Bool, true}
 use mathlib.Core.List.{[], _∷_, _++_}
 use Prim.Native.Nat.{ℕ, suc, _+_, _-_, _≤_, _<_}
 use native.Mathlib.Numerals.{add-one}
 use native.Mathlib.Omega.{arith}
 use lib.ListN.{length, getD, take, drop, length-drop, take-append-drop, drop-of-length-le}
-use lib.Seq.{take-suc, take-all, drop-cons, drop-drop, getD-drop}
+use lib.Seq.{length-take-le, take-suc, take-all, drop-cons, drop-drop, getD-take, getD-drop}
 use Rattle.integers.proofs.Truth.{eqb-different}
 use Rattle.theory.specs.Lists.{every}
 use Rattle.theory.specs.Text.{Bytes}
@@ -29,6 +29,12 @@ module _ (s : Bytes) where
       ∙ take-suc (drop a s) (e - a) 0 (simp length-drop (omega arith))
       ∙ ap (λ (b : ℕ). part s a e ++ (b ∷ [])) (getD-drop a s (e - a) 0 ∙ ap (λ (n : ℕ). getD s n 0) place)
 
+  pub part-length : (a n e : ℕ) → e - a ≡ n → e ≤ length s → length (part s a e) ≡ n
+  part-length a n e width l = rw width (length-take-le n (drop a s) (simp length-drop (omega arith)))
+
+  pub part-at : (a e i : ℕ) → i < e - a → getD (part s a e) i 0 ≡ getD s (a + i) 0
+  part-at a e i h = getD-take (e - a) (drop a s) i 0 h ∙ getD-drop a s i 0
+
   -- the part up to the end
   pub part-rest : (a : ℕ) → part s a (length s) ≡ drop a s
   part-rest a = take-all (length s - a) (drop a s) (simp length-drop (omega arith))
@@ -43,13 +49,21 @@ module _ (s : Bytes) where
   pub drop-more : (a : ℕ) → a < length s → drop a s ≡ getD s a 0 ∷ drop (a + 1) s
   drop-more a h = rw (add-one, drop-cons s a 0)
 
+  -- ---- parts of which every byte passes a test
+
+  module _ (test : ℕ → Bool) where
+    pub every-none : (a : ℕ) → every test (part s a a) ≡ true
+    unfolding every
+    every-none a = ap (every test) (part-none a)
+
+    pub every-more : (a e : ℕ) → a ≤ e → e < length s → every test (part s a e) ≡ true → test (getD s e 0) ≡ true → every test (part s a (e + 1)) ≡ true
+    unfolding every
+    every-more a e h k passed here = ap (every test) (part-more a e h k) ∙ every-append _ (part s a e) (getD s e 0 ∷ []) passed (simp here)
+
   -- ---- parts in which a byte does not stand
 
   pub free-none : (wanted a : ℕ) → isFree wanted (part s a a) ≡ true
-  unfolding every
-  free-none wanted a = ap (isFree wanted) (part-none a)
+  free-none wanted a = every-none _ a
 
   pub free-more : (wanted a e : ℕ) → a ≤ e → e < length s → isFree wanted (part s a e) ≡ true → (getD s e 0 ≡ wanted → ⊥) → isFree wanted (part s a (e + 1)) ≡ true
-  unfolding every
-  free-more wanted a e h k free other =
-      ap (isFree wanted) (part-more a e h k) ∙ every-append _ (part s a e) (getD s e 0 ∷ []) free (simp (eqb-different (getD s e 0) wanted other))
+  free-more wanted a e h k free other = every-more _ a e h k free (simp (eqb-different (getD s e 0) wanted other))

@@ -1,8 +1,8 @@
--- What the word reader's answer tells: whether the bytes are a name, and whether they are a variable.
+-- What the word reader's answer tells: whether the bytes are a name.
 use mathlib.Core.Path.{_≡_, refl}
 use mathlib.Core.Bool.{Bool, true, false}
 use Rattle.integers.proofs.Truth.{by-truth, never-both}
-use Rattle.theory.specs.Text.{Bytes, isName, isVariable}
+use Rattle.theory.specs.Text.{Bytes, isName}
 use Rattle.text.specs.declared.Word.{Word}
 use Rattle.text.specs.declared.Word.the-variants.{Name, Variable, Neither}
 use Rattle.text.specs.Words.{WordRead, name, variable, neither}
@@ -13,17 +13,7 @@ isNameWord (Name words) = true
 isNameWord (Variable words) = false
 isNameWord Neither = false
 
-abbrev pub isVariableWord : Word → Bool
-isVariableWord (Name words) = false
-isVariableWord (Variable words) = true
-isVariableWord Neither = false
-
 pub name-told : {s : Bytes} {r : Word} → WordRead s r → isName s ≡ isNameWord r
 name-told (name h) = h
 name-told {s} (variable h) = by-truth (λ (c : Bool). c ≡ false) (isName s) (λ k. never-both h (name-not-variable s k)) (λ _. refl)
 name-told (neither h k) = h
-
-pub variable-told : {s : Bytes} {r : Word} → WordRead s r → isVariable s ≡ isVariableWord r
-variable-told {s} (name h) = name-not-variable s h
-variable-told (variable h) = h
-variable-told (neither h k) = k

@@ -13,13 +13,11 @@ use Rattle.theory.specs.Lists.{every}
 use Rattle.theory.specs.Text.{Bytes, isLower, isUpper, isNameByte, isWord, isName, isVariable}
 use Rattle.text.specs.declared.Words.{Words}
 use Rattle.text.specs.declared.Packed.{Packed}
-use Rattle.text.specs.declared.Word.{Word}
 use Rattle.text.specs.declared.Word.the-variants.{Name, Variable, Neither}
 use Rattle.text.specs.Scans.{part}
-use Rattle.text.specs.Words.{number, wordsOf, PacksInto, WordRead, name, variable, neither, VariableRead, found, named, nothing}
+use Rattle.text.specs.Words.{number, wordsOf, PacksInto, WordRead, name, variable, neither}
 use Rattle.text.proofs.Parts.{empty-is, part-rest}
 use Rattle.text.proofs.Classes.{every-cut, lower-in-name, upper-in-name}
-use Rattle.text.proofs.WordLaws.{name-not-variable}
 
 -- a place past the end, cut back to the end
 cut-short : (n m : ℕ) (s : Bytes) → m ≡ min n (length s) → (take m s ≡ take n s) × (drop m s ≡ drop n s)
@@ -38,7 +36,7 @@ word-none : (isFirst : ℕ → Bool) (s : Bytes) → length s ≡ 0 → isWord i
 unfolding isWord
 word-none isFirst s h = ap (isWord isFirst) (empty-is s h)
 
-word-is : (isFirst : ℕ → Bool) → ((b : ℕ) → isFirst b ≡ true → isNameByte b ≡ true) → (s : Bytes) → 0 < length s → isWord isFirst s ≡ (isFirst (getD s 0 0) && every isNameByte s && leb (length s) 16)
+pub word-is : (isFirst : ℕ → Bool) → ((b : ℕ) → isFirst b ≡ true → isNameByte b ≡ true) → (s : Bytes) → 0 < length s → isWord isFirst s ≡ (isFirst (getD s 0 0) && every isNameByte s && leb (length s) 16)
 unfolding isWord every
 word-is isFirst within [] h = absurd (omega arith)
 word-is isFirst within (b ∷ bs) h = by-truth (λ (c : Bool). (c && every isNameByte bs && leb (length bs) 15) ≡ (c && every isNameByte (b ∷ bs) && leb (suc (length bs)) 16)) (isFirst b) (λ e. rw (within b e, leb·suc-suc (length bs) 15)) (λ _. refl)
@@ -58,8 +56,18 @@ module _ (s : Bytes) (any : length s ≡ 0 → ⊥) where
       let long : leb (length s) 16 ≡ false = gt-leb (length s) 16 h in
       neither (name-is ∙ simp (long, and-false)) (variable-is ∙ simp (long, and-false))
 
-  read-refused : every isNameByte s ≡ false → WordRead s Neither
+  pub read-refused : every isNameByte s ≡ false → WordRead s Neither
   read-refused h = neither (name-is ∙ simp (h, and-false)) (variable-is ∙ simp (h, and-false))
+
+  module _ (fine : every isNameByte s ≡ true) (short : length s ≤ 16) (w : Words) (words : wordsOf s ≡ w) where
+    pub read-lower : isLower (getD s 0 0) ≡ true → WordRead s (Name w)
+    read-lower h = subst (λ (x : Words). WordRead s (Name x)) words (name (name-is ∙ simp (h, fine, le-leb (length s) 16 short)))
+
+    pub read-upper : isUpper (getD s 0 0) ≡ true → WordRead s (Variable w)
+    read-upper h = subst (λ (x : Words). WordRead s (Variable x)) words (variable (variable-is ∙ simp (h, fine, le-leb (length s) 16 short)))
+
+  pub read-neither : isLower (getD s 0 0) ≡ false → isUpper (getD s 0 0) ≡ false → WordRead s Neither
+  read-neither h k = neither (name-is ∙ rw h) (variable-is ∙ rw k)
 
   -- the two parts, packed
   module _ (middle : ℕ) (place : middle ≡ min 8 (length s)) (front : Packed) (packsFront : PacksInto (take middle s) front) where
@@ -85,23 +93,10 @@ module _ (s : Bytes) (any : length s ≡ 0 → ⊥) where
         words = ap₂ (λ (first second : ℕ). record { first = first; second = second }) (ap number (sym (cut .0)) ∙ sym (packsFront .word fineFront)) (ap number (sym (cut .1) ∙ sym (part-rest s middle)) ∙ sym (packsBack .word fineBack))
 
         pub read-name : (lower : Bool) → lower ≡ isLower (getD s 0 0) → lower ≡ true → WordRead s (Name record { first = front .word; second = back .word })
-        read-name lower e h = subst (λ (w : Words). WordRead s (Name w)) words (name (name-is ∙ simp (sym e ∙ h, all-fine, le-leb (length s) 16 short)))
+        read-name lower e h = read-lower all-fine short _ words (sym e ∙ h)
 
         pub read-variable : (upper : Bool) → upper ≡ isUpper (getD s 0 0) → upper ≡ true → WordRead s (Variable record { first = front .word; second = back .word })
-        read-variable upper e h = subst (λ (w : Words). WordRead s (Variable w)) words (variable (variable-is ∙ simp (sym e ∙ h, all-fine, le-leb (length s) 16 short)))
+        read-variable upper e h = read-upper all-fine short _ words (sym e ∙ h)
 
   pub read-other : (lower upper : Bool) → lower ≡ isLower (getD s 0 0) → lower ≡ false → upper ≡ isUpper (getD s 0 0) → upper ≡ false → WordRead s Neither
-  read-other lower upper e h f k = neither (name-is ∙ rw (sym e ∙ h)) (variable-is ∙ rw (sym f ∙ k))
-
-  -- ---- what is read where variables are looked for
-
-  pub other-first : (upper : Bool) → upper ≡ isUpper (getD s 0 0) → upper ≡ false → VariableRead s Neither
-  other-first upper e h = nothing (variable-is ∙ rw (sym e ∙ h))
-
-pub none-read : (s : Bytes) → length s ≡ 0 → VariableRead s Neither
-none-read s h = nothing (word-none isUpper s h)
-
-pub word-read : (s : Bytes) (r : Word) → WordRead s r → VariableRead s r
-word-read s r (name h) = named (name-not-variable s h) _
-word-read s r (variable h) = found h
-word-read s r (neither h k) = nothing k
+  read-other lower upper e h f k = read-neither (sym e ∙ h) (sym f ∙ k)

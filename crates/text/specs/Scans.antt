@@ -1,29 +1,37 @@
 -- Parts of a byte string by their places, and where a byte stands.
 use mathlib.Core.Path.{_≡_}
-use mathlib.Core.Bool.{true, cond}
+use mathlib.Core.Bool.{true, false, cond}
 use mathlib.Core.List.{List, [], _∷_}
 use Prim.Native.Nat.{ℕ, _+_, _-_, _*_, _≤_, _<_}
 use lib.Dec.{leb, eqb}
 use lib.ListN.{length, getD, take, drop}
-use Rattle.theory.specs.Text.{Bytes, partsAt}
+use Rattle.theory.specs.Lists.{every}
+use Rattle.theory.specs.Text.{Bytes, partsAt, isNameByte}
 use Rattle.theory.proofs.Reading.Separators.{isFree}
 
 -- the bytes from place a up to place e
 abbrev pub part : Bytes → ℕ → ℕ → Bytes
 part s a e = take (e - a) (drop a s)
 
--- r is the first place at or behind `from` where the byte stands, or the end
+-- r is the first place at or after `from` where the byte stands, or the end
 pub record Finds (s : Bytes) (wanted from r : ℕ) : Type 0 where
   pub low : from ≤ r
   pub high : r ≤ length s
   pub free : isFree wanted (part s from r) ≡ true
   pub found : r < length s → getD s r 0 ≡ wanted
 
+-- r is the first place at or after `from` whose byte no name has, or the end
+pub record EndsWord (s : Bytes) (from r : ℕ) : Type 0 where
+  pub low : from ≤ r
+  pub high : r ≤ length s
+  pub named : every isNameByte (part s from r) ≡ true
+  pub ended : r < length s → isNameByte (getD s r 0) ≡ false
+
 -- the parts from a place on; none where the place is past the end
 unfoldable pub partsFrom : ℕ → Bytes → ℕ → List Bytes
 partsFrom separator s from = cond (leb from (length s)) (partsAt separator (drop from s)) []
 
--- r is the first of n places behind `at` where the byte stands, or n
+-- r is the first of n places after `at` where the byte stands, or n
 pub record Nearest (s : Bytes) (wanted at n r : ℕ) : Type 0 where
   pub high : r ≤ n
   pub free : isFree wanted (part s at (at + r)) ≡ true

@@ -6,6 +6,7 @@ use Prim.Native.Nat.{ℕ, _+_, _*_, _≤_, _<_}
 use lib.ListN.{getD, take, drop}
 use Rattle.theory.specs.Lists.{every}
 use Rattle.theory.specs.Text.{Bytes, isNameByte, isName, isVariable}
+use Rattle.text.specs.Scans.{part}
 use Rattle.text.specs.declared.Words.{Words}
 use Rattle.text.specs.declared.Packed.{Packed}
 use Rattle.text.specs.declared.Word.{Word}
@@ -15,6 +16,11 @@ use Rattle.text.specs.declared.Word.the-variants.{Name, Variable, Neithe
 unfoldable pub number : Bytes → ℕ
 number [] = 0
 number (b ∷ bs) = b + 256 * number bs
+
+-- r is the number of n bytes, and is below a bound
+pub record Numbered (s : Bytes) (at n bound r : ℕ) : Type 0 where
+  pub is : r ≡ number (part s at (at + n))
+  pub small : r < bound
 
 -- the first eight bytes and the others
 unfoldable pub wordsOf : Bytes → Words
@@ -29,12 +35,6 @@ pub data WordRead (bs : Bytes) : Word → Type 0 where
   name : isName bs ≡ true → WordRead bs (Name (wordsOf bs))
   variable : isVariable bs ≡ true → WordRead bs (Variable (wordsOf bs))
   neither : isName bs ≡ false → isVariable bs ≡ false → WordRead bs Neither
-
--- what the reader found that looks for variables
-pub data VariableRead (bs : Bytes) : Word → Type 0 where
-  found : isVariable bs ≡ true → VariableRead bs (Variable (wordsOf bs))
-  named : isVariable bs ≡ false → (words : Words) → VariableRead bs (Name words)
-  nothing : isVariable bs ≡ false → VariableRead bs Neither
 
 -- a table of words, two numbers for each: the words at a place
 abbrev pub wordsAt : List ℕ → ℕ → Words

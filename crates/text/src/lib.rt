@@ -8,12 +8,18 @@ ghost use lib.IntN.{negsuc};
 ghost use Rattle.theory.specs.Text.{partsAt, isLower, isUpper, isNameByte, natural, integer};
 ghost use Rattle.theory.specs.Faults.{isUnfit};
 ghost use Rattle.text.specs.Scans.{Finds, CountsParts};
-ghost use Rattle.text.specs.Words.{PacksInto, WordRead, VariableRead, PlaceOf};
+ghost use Rattle.text.specs.Words.{PacksInto, WordRead, PlaceOf};
 ghost use Rattle.text.specs.Numbers.{naturalOf, integerOf};
 
 mod block;
+mod eights;
+mod table;
 
-/// The first place at or behind `from` where `wanted` stands, or the length.
+pub use eights::words_at;
+pub use table::class_table;
+pub use table::word_end;
+
+/// The first place at or after `from` where `wanted` stands, or the length.
 pub fn find(bytes: &[u8], wanted: u8, from: usize) -> usize
     requires { ⌜ from ≤ length (now bytes) ⌝ }
     ensures { λ r. ⌜ Finds (now (bytes .entry)) wanted from r ⌝ }
@@ -120,20 +126,20 @@ pub fn is_unfit(line: &[u8]) -> bool
     unfit
 }
 
-fn is_lower(b: u8) -> bool
+pub fn is_lower(b: u8) -> bool
     ensures { λ r. ⌜ r ≡ isLower b ⌝ }
 {
     if 97 <= b { b <= 122 } else { false }
 }
 
-fn is_upper(b: u8) -> bool
+pub fn is_upper(b: u8) -> bool
     ensures { λ r. ⌜ r ≡ isUpper b ⌝ }
 {
     if 65 <= b { b <= 90 } else { false }
 }
 
 /// A letter, a digit or an underscore.
-fn is_name_byte(b: u8) -> bool
+pub fn is_name_byte(b: u8) -> bool
     ensures { λ r. ⌜ r ≡ isNameByte b ⌝ }
 {
     if is_lower(b) {
@@ -235,19 +241,6 @@ pub fn read_word(bytes: &[u8]) -> Word
         });
     }
     Word::Neither
-}
-
-/// As `read_word`, where only variables are looked for: no other first letter is read on.
-pub fn read_variable(bytes: &[u8]) -> Word
-    ensures { λ r. ⌜ VariableRead (now (bytes .entry)) r ⌝ }
-{
-    if bytes.len() == 0 {
-        return Word::Neither;
-    }
-    if !is_upper(bytes[0]) {
-        return Word::Neither;
-    }
-    read_word(bytes)
 }
 
 /// Where the words of a name stand among the first of a table, or how many those are.

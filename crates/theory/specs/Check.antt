@@ -34,7 +34,7 @@ unfoldable pub multiplierLines : List Rule → ℕ
 multiplierLines [] = 0
 multiplierLines (r ∷ rs) = length (r .multipliers) + multiplierLines rs
 
--- Of line k, with fault n, behind lines that write w.
+-- Of line k, with fault n, after lines that write w.
 unfoldable pub refused : Written → ℕ → Bytes → ℕ → Judgement
 refused w k l n = cond (eqb n 13)
     (record { returned = numbers 13 k (length (w .pack .rules)) (length (lastRule (w .pack) .multipliers) + 1); residue = residualDue (w .pack) (multipliersFrom (fieldsOf l)) })
@@ -69,7 +69,7 @@ pub record Checked : Type 0 where
 abbrev pub checked : Numbers → List ℤ → Checked
 checked n area = record { returned = n; area = area }
 
--- what is left behind lies over the area's first numbers; the rest is unchanged
+-- what is left after lies over the area's first numbers; the rest is unchanged
 unfoldable pub checkOf : Bytes → List ℤ → Checked
 checkOf text area = cond (ltb (length area) areaNeeded) (checked (numbers 1 0 0 0) area)
     (checked (verdictOf text .returned) (verdictOf text .residue ++ drop (length (verdictOf text .residue)) area))

@@ -160,7 +160,7 @@ tests M fields p = multiplierTests fields p
 tests E fields p = test 9 (not (eqb (length fields) 1)) ∷ []
 tests noLetter fields p = []
 
--- The number of the fault of a line, behind lines that write w.
+-- The number of the fault of a line, after lines that write w.
 unfoldable pub fault : Written → Bytes → ℕ
 fault w l =
     firstOf

@@ -51,7 +51,7 @@ abbrev mutual
   AllWellFormed nil = Unit {0}
   AllWellFormed (cons t ts) = WellFormed t × AllWellFormed ts
 
--- ## How a field is read: its tokens from the last to the first, where a symbol of arity k takes the k terms behind it
+-- ## How a field is read: its tokens from the last to the first, where a symbol of arity k takes the k terms after it
 
 pub data Token : Type 0 where
   variableNamed : Bytes → Token
@@ -78,7 +78,7 @@ firstTerms zero ts = some (nil, ts)
 firstTerms (suc k) nil = none
 firstTerms (suc k) (cons t ts) = Option·map (λ (p : Terms × Terms). (cons t (p .0), p .1)) (firstTerms k ts)
 
--- the terms that a token and the terms behind it make
+-- the terms that a token and the terms after it make
 unfoldable pub behind : Token → Terms → Option Terms
 behind (variableNamed x) ts = some (cons (variable x) ts)
 behind (symbolOf f k) ts = Option·map (λ (p : Terms × Terms). cons (symbol f (p .0)) (p .1)) (firstTerms k ts)

@@ -81,7 +81,7 @@ isName bs = isWord isLower bs
 abbrev pub isVariable : Bytes → Bool
 isVariable bs = isWord isUpper bs
 
--- the number that digits write, behind digits that write n
+-- the number that digits write, after digits that write n
 unfoldable pub valueBehind : ℕ → Bytes → ℕ
 valueBehind n [] = n
 valueBehind n (b ∷ bs) = valueBehind (n * 10 + (b - code "0")) bs

@@ -9,7 +9,7 @@ use Rattle.queries.proofs.SizeFields.{size-unknown, size-known, size-ma
 use Rattle.queries.proofs.read_size.Statement.{statement}
 use Rattle.queries.proofs.read_size.Tie as tie
 
--- behind the tests the field is no `-`
+-- after the tests the field is no `-`
 no-dash : (c : tie.Joined1) → length (now (c .before .before .args .field)) ≡ 1 → getD (now (c .before .before .args .field)) 0 0 ≡ 45 → ⊥
 no-dash c one is = ⊎-elim (λ w. w .2 .left is) (λ w. omega arith) (c .if1 .came)
 

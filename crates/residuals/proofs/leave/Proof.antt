@@ -1,4 +1,4 @@
--- `residuals::leave` meets its contract. The loop's invariant: the coefficients passed stand behind the constant, and all else is as it was.
+-- `residuals::leave` meets its contract. The loop's invariant: the coefficients passed stand after the constant, and all else is as it was.
 use mathlib.Core.Path.{_≡_}
 use Prim.Native.Nat.{_-_, _≤_}
 use native.Mathlib.Omega.{arith}

@@ -1,7 +1,7 @@
 -- `terms::measure` meets its contract. Assumes nothing.
-use borrow.Author.Needs.{needs}
 use Rattle.integers.proofs.Truth.{not-true, not-false}
-use Rattle.terms.proofs.Measures.{measure-unfit, measure-short, measure-no-term, measure-term, measure-variable, measure-fits, measure-size}
+use Rattle.terms.proofs.Measures.{measure-unfit, measure-short, measure-no-term, measure-few, measure-variable, measure-fits, measure-size}
+use borrow.Author.Needs.{needs}
 use Rattle.terms.proofs.measure.Statement.{statement}
 use Rattle.terms.proofs.measure.Tie as tie
 
@@ -11,20 +11,20 @@ is-unfit-requires c κs = search needs
 returns : tie.Need-returns
 returns c = search (needs, measure-unfit)
 
-is-term-requires : tie.Need-is-term-requires
-is-term-requires c κs = search (needs, measure-short)
+class-table-requires : tie.Need-class-table-requires
+class-table-requires c κs = search needs
+
+read-tokens-requires : tie.Need-read-tokens-requires
+read-tokens-requires c κs = search (needs, measure-short)
 
 returns-2 : tie.Need-returns-2
 returns-2 c = search (needs, measure-no-term, not-true)
 
-has-variable-requires : tie.Need-has-variable-requires
-has-variable-requires c κs = search (needs, measure-term, not-false)
-
 returns-3 : tie.Need-returns-3
 returns-3 c = search (needs, measure-variable, not-false)
 
-constant-requires : tie.Need-constant-requires
-constant-requires c κs = search (needs, measure-term, measure-short, not-false)
+sum-of-arities-requires : tie.Need-sum-of-arities-requires
+sum-of-arities-requires c κs = search (needs, measure-few, not-false)
 
 sized-requires : tie.Need-sized-requires
 sized-requires c κs = search (needs, measure-fits, not-false)
@@ -38,10 +38,10 @@ measure-spec =
     (tie.spec
     is-unfit-requires
     returns
-    is-term-requires
+    class-table-requires
+    read-tokens-requires
     returns-2
-    has-variable-requires
     returns-3
-    constant-requires
+    sum-of-arities-requires
     sized-requires
     returns-4)

@@ -1,7 +1,7 @@
 -- `text::pack` meets its contract: from the end, the word is the number of the bytes passed. Assumes nothing.
 use borrow.Author.Needs.{needs}
 use Rattle.integers.proofs.Truth.{not-true, not-false}
-use Rattle.text.proofs.Packing.{Packing, packing-none, packing-more, packing-refused, packing-times, packing-plus, packing-all}
+use Rattle.text.proofs.Packing.{summed-times, summed-plus, Packing, packing-none, packing-more, packing-refused, packing-all}
 use Rattle.text.proofs.pack.Statement.{statement}
 use Rattle.text.proofs.pack.Tie as tie
 
@@ -27,13 +27,13 @@ returns : tie.Need-returns Inv-loop μ-loop
 returns c = search (needs, packing-refused, not-true)
 
 mul-word : tie.Need-mul-word Inv-loop μ-loop
-mul-word c = search (needs, packing-times)
+mul-word c = search (needs, summed-times)
 
 wide-requires : tie.Need-wide-requires Inv-loop μ-loop
 wide-requires c κs = search needs
 
 add-word : tie.Need-add-word Inv-loop μ-loop
-add-word c = search (needs, packing-plus)
+add-word c = search (needs, summed-plus)
 
 loop-less : tie.Need-loop-less Inv-loop μ-loop
 loop-less c = search needs

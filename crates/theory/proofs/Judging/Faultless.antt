@@ -11,7 +11,7 @@ use Rattle.theory.proofs.Reading.Letters.{letterField}
 use Rattle.theory.proofs.Reading.PlainFields.{Plain}
 use Rattle.theory.proofs.Judging.Tests.{Clear}
 
--- behind lines that write p, fields with this letter have no fault
+-- after lines that write p, fields with this letter have no fault
 pub record Faultless (letter : Letter) (p : Pack) (fields : List Bytes) : Type 0 where
   pub first : field 0 fields ≡ letterField letter
   pub stands : mayStand p letter ≡ true

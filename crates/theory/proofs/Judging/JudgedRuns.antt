@@ -57,7 +57,7 @@ refused-number w k l n = go (eqb n 13) refl
     go true e = sym (eqb-equal n 13 e)
     go false e = refl
 
--- the verdict's number is 0 only if the line has no fault, and then it is that of the lines behind
+-- the verdict's number is 0 only if the line has no fault, and then it is that of the lines after
 judge-step : (w : Written) (k : ℕ) (l : Bytes) (ls : List Bytes) → judge w k (l ∷ ls) .returned .number ≡ 0 → (fault w l ≡ 0) × (judge (write w l) (k + 1) ls .returned .number ≡ 0)
 unfolding judge
 judge-step w k l ls e = go (eqb (fault w l) 0) refl e
@@ -104,7 +104,7 @@ accepted-from-judge p k (l ∷ ls) few e =
 abbrev pub counted : ℕ → Pack → Judgement
 counted k p = plain (numbers 0 k (length (p .rules)) (multiplierLines (p .rules)))
 
--- behind k lines that write w, the verdict on these lines and on q, which they write
+-- after k lines that write w, the verdict on these lines and on q, which they write
 abbrev Judged : Written → ℕ → List Bytes → Pack → Type 0
 Judged w k ls q = judge w k ls ≡ counted (k + length ls) q
 

@@ -104,7 +104,7 @@ pub short-from-fault : (w : Written) (l : Bytes) → fault w l ≡ 0 → length 
 unfolding isUnfit
 short-from-fault w l e = ltb-ge lineLimit (length l) (or-not-left _ (not (every (between 32 126) l)) (passed w l e .fit))
 
--- behind `E` nothing may come
+-- after `E` nothing may come
 pub fault-behind-end : (p : Pack) (l : Bytes) → fault (behind p) l ≡ 0 → ⊥
 fault-behind-end p l e = never-both refl (passed (behind p) l e .unended)
 

@@ -59,7 +59,7 @@ fits-spelled p fits = record {
 
 -- ---- what lines write
 
--- behind lines that write w, lines with these fields write v; and no byte 10 is in them, so the text is cut into them again
+-- after lines that write w, lines with these fields write v; and no byte 10 is in them, so the text is cut into them again
 record Lead (w : Written) (lines : List (List Bytes)) (v : Written) : Type 0 where
   writes : writeAll w (map line lines) ≡ v
   free : AllFree 10 (map line lines)

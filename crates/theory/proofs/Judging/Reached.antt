@@ -68,7 +68,7 @@ after-claim c p reached later fits room = record {
   fewRules = reached .fewRules;
 }
 
--- with a begun rule behind rules that are whole
+-- with a begun rule after rules that are whole
 after-last : (p : Pack) (earlier : List Rule) (r : Rule) → Reached p → ((s : Rule) → s ∈ earlier → s ∈ p .rules) → ((s : Rule) → s ∈ earlier → IsWhole (p .claims) s)
     → Begun (opening p) r → length (earlier ++ (r ∷ [])) ≤ ruleLimit
     → Reached (onRules (λ (rs : List Rule). ending r earlier) p)

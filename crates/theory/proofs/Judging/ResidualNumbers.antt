@@ -16,7 +16,7 @@ use Rattle.theory.specs.Limits.{NonNegative}
 use Rattle.integers.proofs.Order.{nonneg-test, test-nonneg}
 use Rattle.theory.proofs.Reading.Every.{every-first, every-cons, every-member, members-every, every-append, every-taken, every-take, every-replicate}
 
--- the numbers that are not zeros put behind
+-- the numbers that are not zeros put after
 abbrev own : List Bytes → Form → List ℤ
 own xs f = f .constant ∷ map (f .coefficient) xs
 

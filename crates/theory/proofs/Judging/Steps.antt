@@ -16,7 +16,7 @@ use Rattle.theory.specs.Limits.{PredicateFits, ClaimFits, AtomFits, Mult
 abbrev pub parts : List Predicate → List Claim → List Rule → Pack
 parts ps cs rs = record { predicates = ps; claims = cs; rules = rs }
 
--- behind lines that write p, the line with these fields may come next, and then they write the other pack
+-- after lines that write p, the line with these fields may come next, and then they write the other pack
 pub data Step (p : Pack) : List Bytes → Pack → Type 0 where
   predicateStep : (x : Predicate) → fromClaims p ≡ [] → PredicateFits x → declaredAs (keyOf x) (p .predicates) ≡ none
       → length (p .predicates) < predicateLimit → Step p (predicateLine x) (onPredicates (ending x) p)

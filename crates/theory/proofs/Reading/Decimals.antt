@@ -86,7 +86,7 @@ writes-one : (d : ℕ) → d < 10 → Writes d (digit d ∷ [])
 unfolding isDecimal valueBehind
 writes-one d h = record { value = omega arith; formed = digit-is d h }
 
--- one digit more behind a number that is not 0
+-- one digit more after a number that is not 0
 formed-snoc : (bs : Bytes) (b : ℕ) → isDecimal bs ≡ true → 0 < valueBehind 0 bs → isDigit b ≡ true → isDecimal (bs ++ (b ∷ [])) ≡ true
 unfolding isDecimal valueBehind every
 formed-snoc [] b h k d = absurd (false≢true h)
@@ -123,7 +123,7 @@ decimal-more n d h k =
     let last : m % 10 ≡ d = omega arith in
     digits-more m m (omega arith) ∙ ap₂ (λ (bs : Bytes) (b : ℕ). bs ++ (b ∷ [])) (ap (lastDigits m) tenth ∙ digits-enough m (suc n) n (omega arith) (omega arith)) (ap digit last)
 
--- digits behind a number's own digits
+-- digits after a number's own digits
 decimal-behind : (n : ℕ) (bs : Bytes) → 0 < n → every isDigit bs ≡ true → decimal (valueBehind n bs) ≡ decimal n ++ bs
 unfolding valueBehind every
 decimal-behind n [] h k = sym (append-nil (decimal n))

@@ -39,7 +39,7 @@ onFirst-cons : (b : ℕ) (parts : List Bytes) → Cons (onFirst b parts)
 onFirst-cons b [] = (b ∷ [], [], refl)
 onFirst-cons b (part ∷ parts) = (b ∷ part, parts, refl)
 
--- Parts and lines alike: a separator ends a part, and any other byte goes in front of the first part behind it.
+-- Parts and lines alike: a separator ends a part, and any other byte goes in front of the first part after it.
 abbrev pub Cuts : ℕ → (Bytes → List Bytes) → Type 0
 Cuts separator cut = (b : ℕ) (bs : Bytes) → cut (b ∷ bs) ≡ cond (eqb b separator) ([] ∷ cut bs) (onFirst b (cut bs))
 
@@ -67,7 +67,7 @@ module _ (separator : ℕ) (cut : Bytes → List Bytes) (cuts : Cuts separator c
   cut-off (b ∷ part) bs h =
       cut-other b (part ++ separator ∷ bs) (free-first separator b part h) ∙ ap (onFirst b) (cut-off part bs (every-rest _ b part h))
 
-  -- there is always a first part behind a byte
+  -- there is always a first part after a byte
   cut-cons : (b : ℕ) (bs : Bytes) → Cons (cut (b ∷ bs))
   cut-cons b bs = cut-cases Cons b bs (λ _. ([], cut bs, refl)) (λ _. onFirst-cons b (cut bs))
 

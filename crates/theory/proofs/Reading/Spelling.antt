@@ -94,7 +94,7 @@ or-cases : {X : Type 0} (a b : Bool) → (a || b) ≡ true → (a ≡ true → X
 or-cases true b e f g = f refl
 or-cases false b e f g = g e
 
--- a class of bytes behind the comma
+-- a class of bytes after the comma
 between-token : (low high : ℕ) → 45 ≤ low → high ≤ 126 → (b : ℕ) → between low high b ≡ true → isTokenByte b ≡ true
 between-token low high h k b e =
     let l : low ≤ b = between-low low high b e in

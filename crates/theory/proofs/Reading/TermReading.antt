@@ -14,7 +14,7 @@ use Rattle.theory.proofs.Reading.Spelling.{variable-bytes}
 use Rattle.theory.proofs.Reading.Tokens.{ReadAs, as-variable, as-symbol, as-none, token-of-variable, token-of-symbol, read-as, symbol-bytes}
 use Rattle.integers.proofs.Lists.{all-cons, all-append}
 
--- ---- terms behind terms
+-- ---- terms after terms
 
 appended : Terms → Terms → Terms
 appended nil us = us
@@ -35,7 +35,7 @@ unfolding appended arity firstTerms
 first-of-appended nil us = refl
 first-of-appended (cons t ts) us = rw (first-of-appended ts us)
 
--- some terms, cut behind the first k
+-- some terms, cut after the first k
 data Cut : ℕ → Terms → Option (Terms × Terms) → Type 0 where
   cut : (ts us : Terms) → Cut (arity ts) (appended ts us) (some (ts, us))
   too-few : {k : ℕ} {ts : Terms} → Cut k ts none

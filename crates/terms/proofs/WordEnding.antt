@@ -1,0 +1,44 @@
+-- Where the first word from a place on ends: there is only one such place.
+use mathlib.Core.Path.{_≡_, sym, _∙_, ap}
+use mathlib.Core.Bool.{Bool, true}
+use Prim.Native.Nat.{ℕ, _+_, _-_, _≤_, _<_}
+use native.Mathlib.Decide.{decLt}
+use native.Mathlib.Omega.{arith}
+use lib.ListN.{length, getD}
+use Rattle.integers.proofs.Truth.{never-both}
+use Rattle.integers.proofs.Lists.{getD-member}
+use Rattle.theory.specs.Lists.{every}
+use Rattle.theory.specs.Text.{Bytes, isNameByte}
+use Rattle.theory.proofs.Reading.Every.{every-member}
+use Rattle.text.specs.Scans.{part, EndsWord}
+use Rattle.text.proofs.Parts.{part-length, part-at}
+
+-- a test that every byte of a part passes, at a place of it
+every-place : (s : Bytes) (a e : ℕ) → e ≤ length s → (test : ℕ → Bool) → every test (part s a e) ≡ true → (i : ℕ) → a ≤ i → i < e → test (getD s i 0) ≡ true
+every-place s a e high test all i h k =
+    let place : a + (i - a) ≡ i = omega arith in
+    let size = part-length s a (e - a) e (omega arith) high in
+    ap test (ap (λ (n : ℕ). getD s n 0) (sym place) ∙ sym (part-at s a e (i - a) (omega arith)))
+    ∙ every-member test all (getD-member (part s a e) (i - a) 0 (omega arith))
+
+-- ---- there is only one
+
+module _ {s : Bytes} {from : ℕ} where
+  not-before : {e f : ℕ} → EndsWord s from e → EndsWord s from f → e < f → ⊥
+  not-before {e} {f} w v h = never-both (every-place s from f (v .high) isNameByte (v .named) e (w .low) h) (w .ended (omega (arith, v .high)))
+
+  pub word-end-once : {e f : ℕ} → EndsWord s from e → EndsWord s from f → e ≡ f
+  word-end-once {e} {f} w v = by (decLt e f) (decLt f e)
+    where
+      by : Dec (e < f) → Dec (f < e) → e ≡ f
+      by (yes h) k = absurd (not-before w v h)
+      by (no h) (yes k) = absurd (not-before v w k)
+      by (no h) (no k) = omega arith
+
+  -- where a word begins, its end comes after
+  pub word-some : {e : ℕ} → EndsWord s from e → from < length s → isNameByte (getD s from 0) ≡ true → from < e
+  word-some {e} w inside named = by (decLt from e)
+    where
+      by : Dec (from < e) → from < e
+      by (yes h) = h
+      by (no h) = let here : e ≡ from = omega (arith, w .low) in never-both named (ap (λ (n : ℕ). isNameByte (getD s n 0)) (sym here) ∙ w .ended (omega arith))

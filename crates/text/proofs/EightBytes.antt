@@ -1,0 +1,139 @@
+-- Bytes as one number: two, four and eight of them by halves, and the first and the last of eight.
+use mathlib.Core.Path.{_≡_, refl, sym, _∙_, ap, ap₂}
+use mathlib.Core.List.{[], _∷_}
+use Prim.Native.Nat.{ℕ, zero, suc, _+_, _-_, _*_, _/_, _%_, _^_, _≤_, _<_}
+use native.Mathlib.Nat.{pow-zero, pow-succ', one-le-pow, mod-eq-of-lt, div-eq-of-lt, add-mul-mod-self-left, add-mul-div-left}
+use native.Mathlib.Omega.{arith}
+use lib.Bits.{bitAnd, and-mask}
+use lib.ListN.{length, getD, take, drop, drop-of-length-le}
+use lib.Pow.{pow-pos, pow-add, shl-exact, shr-shr}
+use lib.Seq.{take-all, take-at, drop-at}
+use mir.Syntax.{w8}
+use mir.Val.{Fits}
+use Rattle.theory.specs.Text.{Bytes}
+use Rattle.text.specs.Scans.{part}
+use Rattle.text.specs.Words.{number, wordsOf, Numbered}
+use Rattle.text.proofs.Parts.{part-length, part-at}
+use Rattle.text.proofs.Blocks.{part-join}
+use Rattle.text.proofs.Halves.{value-join, value-one}
+
+number-none : number [] ≡ 0
+unfolding number
+number-none = refl
+
+number-more : (b : ℕ) (bs : Bytes) → number (b ∷ bs) ≡ b + 256 * number bs
+unfolding number
+number-more b bs = refl
+
+module _ (s : Bytes) where
+  number-join : (a n m e : ℕ) → a + n ≡ m → m ≤ e → e ≤ length s → number (part s a e) ≡ number (part s a m) + 256 ^ n * number (part s m e)
+  number-join = value-join 256 (λ (b : ℕ). b) number number-none number-more s
+
+  number-one : (i e : ℕ) → i + 1 ≡ e → e ≤ length s → number (part s i e) ≡ getD s i 0
+  number-one = value-one 256 (λ (b : ℕ). b) number number-none number-more s
+
+  -- ---- halves
+
+  module _ (at : ℕ) where
+    pub two-numbered : at + 2 ≤ length s → (a b : ℕ) → (a ≡ getD s at 0) × (a < 256) → (b ≡ getD s (at + 1) 0) × (b < 256) → Numbered s at 2 65536 (a + 256 * b)
+    two-numbered l a b e f = record {
+      is = omega (arith, number-join at 1 (at + 1) (at + 2) refl (omega arith) l, number-one at (at + 1) refl (omega arith), number-one (at + 1) (at + 2) (omega arith) l);
+      small = omega arith;
+    }
+
+    pub four-numbered : at + 4 ≤ length s → (a b : ℕ) → Numbered s at 2 65536 a → Numbered s (at + 2) 2 65536 b → Numbered s at 4 4294967296 (a + 65536 * b)
+    four-numbered l a b e f =
+        let place : at + 2 + 2 ≡ at + 4 = omega arith in
+        record {
+          is = omega (arith, number-join at 2 (at + 2) (at + 4) refl (omega arith) l, e .is, rw place at (f .is));
+          small = omega (arith, e .small, f .small);
+        }
+
+    pub eight-numbered : at + 8 ≤ length s → (a b : ℕ) → Numbered s at 4 4294967296 a → Numbered s (at + 4) 4 4294967296 b → a + 4294967296 * b ≡ number (part s at (at + 8))
+    eight-numbered l a b e f =
+        let place : at + 4 + 4 ≡ at + 8 = omega arith in
+        omega (arith, number-join at 4 (at + 4) (at + 8) refl (omega arith) l, e .is, rw place at (f .is))
+
+-- ---- the first and the last bytes of eight
+
+pub bits-of : (count : ℕ) → 2 ^ (8 * count) ≡ 256 ^ count
+bits-of zero = refl
+bits-of (suc count) =
+    let more : 8 * suc count ≡ 8 + 8 * count = omega arith in
+    ap (λ (n : ℕ). 2 ^ n) more ∙ pow-add 2 8 (8 * count) ∙ ap (λ (n : ℕ). 256 * n) (bits-of count) ∙ sym (pow-succ' 256 count)
+
+module _ (count : ℕ) (h : count < 8) where
+  mask-is : 1 * 2 ^ (8 * count) % 18446744073709551616 ≡ 2 ^ (8 * count)
+  mask-is = shl-exact {a = 1} 1 (8 * count) 64 (omega arith) (omega arith) ∙ omega arith
+
+  pub mask-above : 1 ≤ 1 * 2 ^ (8 * count) % 18446744073709551616
+  mask-above = omega (arith, mask-is, pow-pos (8 * count))
+
+  pub masked : (word : ℕ) → bitAnd word (1 * 2 ^ (8 * count) % 18446744073709551616 - 1) ≡ word % 256 ^ count
+  masked word = ap (λ (n : ℕ). bitAnd word (n - 1)) mask-is ∙ and-mask word (8 * count) ∙ ap (λ (n : ℕ). word % n) (bits-of count)
+
+pub shifted : (word count : ℕ) → count < 8 → word / 2 ^ (8 * (7 - count)) / 256 ≡ word / 256 ^ (8 - count)
+shifted word count h =
+    let bits : 8 * (7 - count) + 8 ≡ 8 * (8 - count) = omega arith in
+    shr-shr word (8 * (7 - count)) 8 ∙ ap (λ (n : ℕ). word / 2 ^ n) bits ∙ ap (λ (n : ℕ). word / n) (bits-of (8 - count))
+
+abbrev pub AreBytes : Bytes → Type 0
+AreBytes xs = (k : ℕ) → k < length xs → getD xs k 0 < 256
+
+-- the number of some bytes has room in as many places
+number-small : (xs : Bytes) → AreBytes xs → number xs < 256 ^ length xs
+unfolding number
+number-small [] small = omega (arith, pow-zero 256)
+number-small (b ∷ xs) small =
+    let more = pow-succ' 256 (length xs) in
+    let rest = number-small xs λ k l. small (suc k) (omega arith) in
+    let first : b < 256 = small 0 (omega arith) in
+    omega arith
+
+module _ (s : Bytes) (small : (k : ℕ) → Fits w8 (getD s k 0)) (from count end : ℕ) (place : from + count ≡ end) where
+  pub bytes-part : end ≤ length s → AreBytes (part s from end)
+  bytes-part l k h =
+      let wide = part-length s from count end (omega arith) l in
+      rw (part-at s from end k (omega arith)) (omega (arith, small (from + k)))
+
+  pub first-bytes : count < 8 → from + 8 ≤ length s → (word r : ℕ) → word ≡ number (part s from (from + 8)) → r ≡ word % 256 ^ count → r ≡ number (part s from end)
+  first-bytes few l word r e f =
+      let room = rw (part-length s from count end (omega arith) (omega arith)) at (number-small (part s from end) (bytes-part (omega arith))) in
+      f
+      ∙ ap (λ (n : ℕ). n % 256 ^ count) (e ∙ number-join s from count end (from + 8) place (omega arith) l)
+      ∙ add-mul-mod-self-left (number (part s from end)) (256 ^ count) (number (part s end (from + 8)))
+      ∙ mod-eq-of-lt room
+
+pub last-bytes : (s : Bytes) → ((k : ℕ) → Fits w8 (getD s k 0)) → (start count from end : ℕ) → start + (8 - count) ≡ from → from + count ≡ end → end ≤ length s → count < 8 → (word r : ℕ) → word ≡ number (part s start (start + 8)) → r ≡ word / 256 ^ (8 - count) → r ≡ number (part s from end)
+last-bytes s small start count from end f g l few word r e h =
+    let eight : start + 8 ≡ end = omega arith in
+    let room = rw (part-length s start (8 - count) from (omega arith) (omega arith)) at (number-small (part s start from) (bytes-part s small start (8 - count) from f (omega arith))) in
+    let some : 0 < 256 ^ (8 - count) = one-le-pow (8 - count) 256 (omega arith) in
+    h
+    ∙ ap (λ (n : ℕ). n / 256 ^ (8 - count)) (e ∙ ap (λ (n : ℕ). number (part s start n)) eight ∙ number-join s start (8 - count) from end f (omega arith) l)
+    ∙ add-mul-div-left (number (part s start from)) (number (part s from end)) some
+    ∙ omega (arith, div-eq-of-lt room)
+
+-- ---- a word, and two
+
+module _ (s : Bytes) (from end : ℕ) where
+  pub all-eight : end ≤ from + 8 → 8 ≤ end - from → (word : ℕ) → word ≡ number (part s from (from + 8)) → word ≡ number (part s from end)
+  all-eight high low word e = let eight : end ≡ from + 8 = omega arith in rw eight e
+
+  module _ (high : end ≤ length s) where
+    pub words-short : from ≤ end → end - from ≤ 8 → (word : ℕ) → word ≡ number (part s from end) → record { first = word; second = 0 } ≡ wordsOf (part s from end)
+    unfolding wordsOf
+    words-short low short word e =
+        let wide = part-length s from (end - from) end refl high in
+        ap₂ (λ (first second : ℕ). record { first = first; second = second })
+        (e ∙ ap number (sym (take-all 8 (part s from end) (omega arith))))
+        (sym number-none ∙ ap number (sym (drop-of-length-le (part s from end) {i = 8} (omega arith))))
+
+    pub words-long : 8 < end - from → (first second : ℕ) → first ≡ number (part s from (from + 8)) → second ≡ number (part s (from + 8) end) → record { first = first; second = second } ≡ wordsOf (part s from end)
+    unfolding wordsOf
+    words-long long first second e f =
+        let wide = part-length s from 8 (from + 8) (omega arith) (omega arith) in
+        let both = part-join s from (from + 8) end (omega arith) (omega arith) in
+        ap₂ (λ (first second : ℕ). record { first = first; second = second })
+        (e ∙ ap number (sym (ap (take 8) both ∙ take-at (part s from (from + 8)) (part s (from + 8) end) 8 wide)))
+        (f ∙ ap number (sym (ap (drop 8) both ∙ drop-at (part s from (from + 8)) (part s (from + 8) end) 8 wide)))

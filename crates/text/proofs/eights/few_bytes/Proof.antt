@@ -1,0 +1,54 @@
+-- `text::eights::few_bytes` meets its contract: from the end, the word is the number of the bytes passed. Assumes nothing.
+use borrow.Author.Needs.{needs}
+use Rattle.text.proofs.Packing.{Summed, summed-none, summed-more, summed-times, summed-plus, summed-all}
+use Rattle.text.proofs.eights.few_bytes.Statement.{statement}
+use Rattle.text.proofs.eights.few_bytes.Tie as tie
+
+abbrev Inv-loop : tie.InvT-loop
+Inv-loop bytes word₀ i₀ word i = Summed bytes i word
+
+abbrev μ-loop : tie.MeasureT-loop
+μ-loop bytes word₀ i₀ word i = i
+
+loop-holds : tie.Need-loop-holds Inv-loop μ-loop
+loop-holds c = search (needs, summed-none)
+
+sub-i : tie.Need-sub-i Inv-loop μ-loop
+sub-i c = search needs
+
+mul-word : tie.Need-mul-word Inv-loop μ-loop
+mul-word c = search (needs, summed-times)
+
+shared-slice-read-wide : tie.Need-shared-slice-read-wide Inv-loop μ-loop
+shared-slice-read-wide c = search needs
+
+wide-requires : tie.Need-wide-requires Inv-loop μ-loop
+wide-requires c κs = search needs
+
+add-word : tie.Need-add-word Inv-loop μ-loop
+add-word c = search (needs, summed-plus)
+
+loop-less : tie.Need-loop-less Inv-loop μ-loop
+loop-less c = search needs
+
+loop-again : tie.Need-loop-again Inv-loop μ-loop
+loop-again c = search (needs, summed-more)
+
+returns : tie.Need-returns Inv-loop μ-loop
+returns c = search (needs, summed-all)
+
+pub few-bytes-spec : {M : Type 1} → statement M
+few-bytes-spec =
+    tie.close
+    (tie.spec
+    Inv-loop
+    μ-loop
+    loop-holds
+    sub-i
+    mul-word
+    shared-slice-read-wide
+    wide-requires
+    add-word
+    loop-less
+    loop-again
+    returns)
