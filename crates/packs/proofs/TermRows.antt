@@ -20,11 +20,11 @@ use Rattle.theory.specs.Written.{termsFrom}
 use Rattle.theory.specs.Residuals.{numbered}
 use Rattle.theory.specs.Faults.{isTerm}
 use Rattle.theory.proofs.Reading.FieldValues.{value-read}
-use Rattle.theory.proofs.Judging.RuleVariables.{numbered-append}
+use Rattle.theory.proofs.Judging.RuleVariables.{numbered-append, numbered-length}
 use Rattle.theory.proofs.Reading.TermFields.{terms-arity}
 use Rattle.theory.proofs.Judging.Variables.{Once, member-numbered}
 use Rattle.theory.proofs.Soundness.StructuralSizes.{structural-counted}
-use Rattle.terms.proofs.Numbering.{place-once, numbered-length, numbered-place}
+use Rattle.terms.proofs.Numbering.{place-once, numbered-place}
 use Rattle.terms.proofs.Counting.{occurrences-absent}
 use Rattle.tables.specs.Tables.{argument, RowStands, AtomStands}
 use Rattle.tables.specs.declared.Fielded.{Fielded}

@@ -4,12 +4,13 @@ use mathlib.Core.Bool.{true, false, cond}
 use mathlib.Core.List.{List, [], _∷_, _++_, append-assoc, append-nil}
 use Prim.Native.Nat.{ℕ, zero, suc, _≤_, _<_}
 use native.Mathlib.Omega.{arith}
-use lib.ListN.{length, getD, length-append, List·getD-append}
+use lib.ListN.{length, getD, List·getD-append}
 use Rattle.integers.proofs.Truth.{by-truth}
 use Rattle.integers.proofs.Lists.{getD-member, member-getD}
 use Rattle.theory.specs.Lists.{_∈_}
 use Rattle.theory.specs.Text.{Bytes, among}
 use Rattle.theory.specs.Residuals.{numbered}
+use Rattle.theory.proofs.Judging.RuleVariables.{numbered-length}
 use Rattle.theory.proofs.Judging.Variables.{among-member, not-among, Once, once-none, once-more}
 
 -- ---- among, by places
@@ -67,9 +68,6 @@ numbered-extends seen (x ∷ xs) =
     by-truth (λ b. (new : List Bytes) × (numbered (cond b seen (seen ++ (x ∷ []))) xs ≡ seen ++ new)) (among x seen)
     (λ h. numbered-extends seen xs)
     (λ h. let more = numbered-extends (seen ++ (x ∷ [])) xs in (x ∷ more .0, more .1 ∙ append-assoc seen (x ∷ []) (more .0)))
-
-pub numbered-length : (seen xs : List Bytes) → length seen ≤ length (numbered seen xs)
-numbered-length seen xs = let more = numbered-extends seen xs in omega (arith, ap length (more .1), length-append seen (more .0))
 
 -- one variable more, and there are as many or more
 pub numbered-grows : (seen xs : List Bytes) (x : Bytes) → length (numbered seen xs) ≤ length (numbered seen (xs ++ (x ∷ [])))

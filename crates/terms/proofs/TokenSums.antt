@@ -1,8 +1,7 @@
 -- The size and the variables of a term, token by token: its constant is the sum of its symbols' arities, and its variables are the tokens spelled as one.
 use mathlib.Core.Path.{_≡_, refl, _∙_, ap}
-use mathlib.Core.Logic.{inl, inr}
 use mathlib.Core.Bool.{true, false, cond}
-use mathlib.Core.List.{List, [], _∷_, append-nil, List·Memᴰ·not-nil}
+use mathlib.Core.List.{List, [], _∷_, append-nil}
 use mathlib.Core.Option.{Option, some, none, Option·map, Option·some-injective, Option·none-ne-some}
 use Prim.Native.Nat.{ℕ, _+_}
 use native.Mathlib.Omega.{arith}
@@ -12,7 +11,7 @@ use Rattle.theory.specs.Terms.{Term, variable, symbol, Terms, nil, cons, Token,
 use Rattle.theory.specs.Terms.{structural, size, argumentSizes, variables, allVariables}
 use Rattle.theory.proofs.Reading.Tokens.{ReadAs, as-variable, as-symbol, as-none, read-as}
 use Rattle.theory.proofs.Soundness.StructuralSizes.{sizesTogether, structural-size}
-use Rattle.terms.proofs.TokenKinds.{AllRead, one-more-read, symbol-token}
+use Rattle.terms.proofs.TokenKinds.{symbol-token}
 use Rattle.terms.proofs.FirstTerms.{FirstOf, enough, too-few, first-of}
 
 unfoldable pub constantOf : Token → ℕ
@@ -51,14 +50,14 @@ module _ (w : Bytes) (ws : List Bytes) where
 
 -- what tokens are read as, with the sums of their tokens
 data Summed (ws : List Bytes) : Option Terms → Type 0 where
-  summed : (ts : Terms) → constants ws ≡ sizesTogether ts → variableTokens ws ≡ allVariables ts → AllRead ws → Summed ws (some ts)
+  summed : (ts : Terms) → constants ws ≡ sizesTogether ts → variableTokens ws ≡ allVariables ts → Summed ws (some ts)
   unread : Summed ws none
 
-token-in-front : (w : Bytes) (ws : List Bytes) (us : Terms) → constants ws ≡ sizesTogether us → variableTokens ws ≡ allVariables us → AllRead ws → {token : Token} → ReadAs w token → tokenOf w ≡ token → Summed (w ∷ ws) (behind token us)
+token-in-front : (w : Bytes) (ws : List Bytes) (us : Terms) → constants ws ≡ sizesTogether us → variableTokens ws ≡ allVariables us → {token : Token} → ReadAs w token → tokenOf w ≡ token → Summed (w ∷ ws) (behind token us)
 unfolding behind total size variables
-token-in-front w ws us sum names all (as-variable h) e =
-    summed (cons (variable w) us) (omega (arith, constants-variable w ws e)) (variable-first w ws h ∙ ap (λ l. w ∷ l) names) (one-more-read w ws (inl e) all)
-token-in-front w ws us sum names all (as-symbol {f = f} {k = k} is named few) e = with-arguments (first-of k us)
+token-in-front w ws us sum names (as-variable h) e =
+    summed (cons (variable w) us) (omega (arith, constants-variable w ws e)) (variable-first w ws h ∙ ap (λ l. w ∷ l) names)
+token-in-front w ws us sum names (as-symbol {f = f} {k = k} is named few) e = with-arguments (first-of k us)
   where
     with-arguments : {o : Option (Terms × Terms)} → FirstOf k us o → Summed (w ∷ ws) (Option·map (λ (p : Terms × Terms). cons (symbol f (p .0)) (p .1)) o)
     with-arguments (enough first rest cut) =
@@ -66,17 +65,16 @@ token-in-front w ws us sum names all (as-symbol {f = f} {k = k} is named few) e 
         (cons (symbol f first) rest)
         (omega (arith, constants-symbol w ws f k e, structural-size f first, cut .taken))
         (other-first w ws (symbol-token w f k e) ∙ names ∙ cut .variablesJoin)
-        (one-more-read w ws (inr (f, k, e)) all)
     with-arguments (too-few h) = unread
-token-in-front w ws us sum names all as-none e = unread
+token-in-front w ws us sum names as-none e = unread
 
 terms-summed : (ws : List Bytes) → Summed ws (termsOf ws)
 unfolding termsOf behindAll constants variableTokens total argumentSizes allVariables
-terms-summed [] = summed nil refl refl (λ w m. absurd (List·Memᴰ·not-nil m))
+terms-summed [] = summed nil refl refl
 terms-summed (w ∷ ws) = in-front (terms-summed ws)
   where
     in-front : {o : Option Terms} → Summed ws o → Summed (w ∷ ws) (behindAll (tokenOf w) o)
-    in-front (summed us sum names all) = token-in-front w ws us sum names all (read-as w) refl
+    in-front (summed us sum names) = token-in-front w ws us sum names (read-as w) refl
     in-front unread = unread
 
 -- ---- a field that is a term
@@ -84,16 +82,15 @@ terms-summed (w ∷ ws) = in-front (terms-summed ws)
 pub record Sums (field : Bytes) (t : Term) : Type 0 where
   pub constant : constants (partsAt 32 field) ≡ size structural t
   pub names : variableTokens (partsAt 32 field) ≡ variables t
-  pub all : AllRead (partsAt 32 field)
 
 pub token-sums : (field : Bytes) (t : Term) → readTerm field ≡ some t → Sums field t
 unfolding readTerm theOnly total argumentSizes allVariables
 token-sums field t e = only (terms-summed (partsAt 32 field)) e
   where
     only : {o : Option Terms} → Summed (partsAt 32 field) o → theOnly o ≡ some t → Sums field t
-    only (summed nil sum names all) e = absurd (Option·none-ne-some t e)
-    only (summed (cons u nil) sum names all) e =
+    only (summed nil sum names) e = absurd (Option·none-ne-some t e)
+    only (summed (cons u nil) sum names) e =
         let same : u ≡ t = Option·some-injective u t e in
-        record { constant = omega (arith, ap (size structural) same); names = names ∙ append-nil (variables u) ∙ ap variables same; all = all }
-    only (summed (cons u (cons v ts)) sum names all) e = absurd (Option·none-ne-some t e)
+        record { constant = omega (arith, ap (size structural) same); names = names ∙ append-nil (variables u) ∙ ap variables same }
+    only (summed (cons u (cons v ts)) sum names) e = absurd (Option·none-ne-some t e)
     only unread e = absurd (Option·none-ne-some t e)

@@ -9,7 +9,7 @@ use lib.ListN.{length, drop, length-take, length-drop, drop-of-length-le}
 use Rattle.integers.proofs.Truth.{le-leb, gt-leb}
 use Rattle.theory.specs.Text.{Bytes, onFirst, partsAt, linesOf}
 use Rattle.theory.proofs.Reading.Every.{every-rest}
-use Rattle.theory.proofs.Reading.Separators.{isFree, free-first, Cuts, parts-cut, lines-cut, cut-other, cut-off}
+use Rattle.theory.proofs.Reading.Separators.{isFree, free-first, parts-of-free, Cuts, parts-cut, lines-cut, cut-other, cut-off}
 use Rattle.text.specs.Scans.{part, Finds, partsFrom}
 use Rattle.text.proofs.Parts.{part-rest, drop-cut, drop-more}
 
@@ -36,11 +36,6 @@ module _ (separator : ℕ) (cut : Bytes → List Bytes) (cuts : Cuts separator c
 
 -- ---- parts
 
-parts-one : (separator : ℕ) (bs : Bytes) → isFree separator bs ≡ true → partsAt separator bs ≡ bs ∷ []
-unfolding partsAt
-parts-one separator [] free = refl
-parts-one separator (b ∷ bs) free = cut-last separator (partsAt separator) (parts-cut separator) (λ c. refl) b bs free
-
 module _ (separator : ℕ) (s : Bytes) where
   pub parts-more : (from : ℕ) → from ≤ length s → partsFrom separator s from ≡ partsAt separator (drop from s)
   unfolding partsFrom
@@ -60,7 +55,7 @@ module _ (separator : ℕ) (s : Bytes) where
       by (yes more) =
           cut-found separator (partsAt separator) (parts-cut separator) s from r found more ∙ ap (λ (rest : List Bytes). part s from r ∷ rest) (sym (parts-more (r + 1) (omega arith)))
       by (no end) =
-          cut-end separator (partsAt separator) (parts-cut separator) s from r found (omega arith) (parts-one separator (part s from r) (found .free))
+          cut-end separator (partsAt separator) (parts-cut separator) s from r found (omega arith) (parts-of-free separator (part s from r) (found .free))
           ∙ ap (λ (rest : List Bytes). part s from r ∷ rest) (sym (parts-done (r + 1) (omega arith)))
 
 -- ---- lines

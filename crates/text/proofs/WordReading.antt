@@ -1,4 +1,4 @@
--- What `read_word` and `read_variable` answer: a word is a first letter, bytes that may stand in a name, and no more than 16 of them.
+-- What `read_word` answers: a word is a first letter, bytes that may stand in a name, and no more than 16 of them.
 use mathlib.Core.Path.{_≡_, refl, sym, _∙_, ap, ap₂, subst}
 use mathlib.Core.Bool.{Bool, true, false, _&&_, and-false}
 use mathlib.Core.List.{[], _∷_}

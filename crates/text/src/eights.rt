@@ -21,7 +21,7 @@ fn four_bytes(bytes: &[u8], at: usize) -> u64
 }
 
 /// Eight bytes as one number, the first byte the lowest. Summed by halves, which makes one load of it.
-pub fn eight_bytes(bytes: &[u8], at: usize) -> u64
+fn eight_bytes(bytes: &[u8], at: usize) -> u64
     requires { ⌜ at + 8 ≤ length (now bytes) ⌝ }
     ensures { λ r. ⌜ r ≡ number (part (now (bytes .entry)) at (at + 8)) ⌝ }
 {

@@ -273,7 +273,7 @@ pub fn class_table() -> [u8; 256]
 }
 
 /// The class of a byte, by the table.
-pub fn class_of(b: u8, classes: &[u8; 256]) -> u8
+fn class_of(b: u8, classes: &[u8; 256]) -> u8
     requires { ⌜ Classes (now classes) ⌝ }
     ensures { λ r. ⌜ Class b r ⌝ }
 {

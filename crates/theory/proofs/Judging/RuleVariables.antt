@@ -12,10 +12,10 @@ use Rattle.theory.specs.Packs.{Atom}
 use Rattle.theory.specs.Residuals.{numbered, atomsVariables, ruleVariables}
 use Rattle.integers.proofs.Lists.{length-end}
 
-seen-are-fewer : (seen xs : List Bytes) → length seen ≤ length (numbered seen xs)
+pub numbered-length : (seen xs : List Bytes) → length seen ≤ length (numbered seen xs)
 unfolding numbered
-seen-are-fewer seen [] = le-refl _
-seen-are-fewer seen (x ∷ xs) = le-trans (more (among x seen)) (seen-are-fewer (cond (among x seen) seen (seen ++ (x ∷ []))) xs)
+numbered-length seen [] = le-refl _
+numbered-length seen (x ∷ xs) = le-trans (more (among x seen)) (numbered-length (cond (among x seen) seen (seen ++ (x ∷ []))) xs)
   where
     more : (b : Bool) → length seen ≤ length (cond b seen (seen ++ (x ∷ [])))
     more true = le-refl _
@@ -37,4 +37,4 @@ variables-of-more head before behind = ap (numbered []) (atomsVariables-append (
 
 pub variables-of-fewer : (head : Atom) (before behind : List Atom) → length (ruleVariables head before) ≤ length (ruleVariables head (before ++ behind))
 variables-of-fewer head before behind =
-    subst (λ (l : List Bytes). length (ruleVariables head before) ≤ length l) (sym (variables-of-more head before behind)) (seen-are-fewer (ruleVariables head before) (atomsVariables behind))
+    subst (λ (l : List Bytes). length (ruleVariables head before) ≤ length l) (sym (variables-of-more head before behind)) (numbered-length (ruleVariables head before) (atomsVariables behind))

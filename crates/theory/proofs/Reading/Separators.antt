@@ -97,7 +97,7 @@ parts-free separator (b ∷ bs) =
 -- ---- joining
 
 -- what is free of the separator is one part
-parts-of-free : (separator : ℕ) (bs : Bytes) → isFree separator bs ≡ true → partsAt separator bs ≡ bs ∷ []
+pub parts-of-free : (separator : ℕ) (bs : Bytes) → isFree separator bs ≡ true → partsAt separator bs ≡ bs ∷ []
 unfolding partsAt
 parts-of-free separator [] h = refl
 parts-of-free separator (b ∷ bs) h =
