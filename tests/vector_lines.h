@@ -42,10 +42,10 @@ __attribute__((format(printf, 1, 2))) static void fail(const char *format, ...)
     printf("\n");
 }
 
-// A call that crashes or hangs fails its case, and ends the test: nothing can be said of the cases behind it.
+// A call that crashes or hangs fails its case, and ends the test: nothing can be said of the cases after it.
 static void end_at_signal(int number)
 {
-    fail("expected the call to return, got signal %d; the cases behind this one are not tried", number);
+    fail("expected the call to return, got signal %d; the cases after this one are not tried", number);
     _exit(1);
 }
 
@@ -179,7 +179,7 @@ static uint8_t read_hexadecimal(struct reader *reader)
     return (uint8_t)strtoul(digits, NULL, 16);
 }
 
-// What stands behind a backslash in a quoted string.
+// What stands after a backslash in a quoted string.
 static uint8_t read_escape(struct reader *reader)
 {
     if (skip(reader, 'n'))
@@ -190,7 +190,7 @@ static uint8_t read_escape(struct reader *reader)
         return '\\';
     if (skip(reader, 'x'))
         return read_hexadecimal(reader);
-    misread(reader, "behind a backslash stands n, a quote, a backslash or x with two digits");
+    misread(reader, "after a backslash stands n, a quote, a backslash or x with two digits");
     return 0;
 }
 

@@ -2,7 +2,7 @@
 use mathlib.Core.Path.{_≡_}
 use mathlib.Core.Bool.{true, false, not}
 use Prim.Native.Nat.{ℕ, _≤_, _<_}
-use Rattle.integers.proofs.Truth.{not-true, not-false, lt-ltb, ge-ltb, equal-eqb, eqb-different}
+use Rattle.groundwork.proofs.Truth.{not-true, not-false, lt-ltb, ge-ltb, equal-eqb, eqb-different}
 use Rattle.theory.specs.declared.Bound.{Bound}
 use Rattle.bounds.specs.Bounds.{boundOf, betterOf}
 use Rattle.bounds.specs.declared.Use.{Use}

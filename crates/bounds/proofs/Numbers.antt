@@ -9,8 +9,8 @@ use lib.Signed.{ltZ, nonNeg, ltZ-no, yes-nonNeg}
 use mir.Facts.{toZ-ofZ, fits-natAbs}
 use mir.Syntax.{w64}
 use mir.Val.{Fits, SFits}
-use Rattle.integers.proofs.Magnitude.{natAbs-neg, natAbs-sub, mag-le-natAbs}
-use Rattle.integers.proofs.Truth.{fails-from, never-both, ge-ltb, equal-eqb, eqb-different}
+use Rattle.groundwork.proofs.Magnitude.{natAbs-neg, natAbs-sub, mag-le-natAbs}
+use Rattle.groundwork.proofs.Truth.{fails-from, never-both, ge-ltb, equal-eqb, eqb-different}
 use Rattle.forms.proofs.Results.{kept, Exact, exact-product}
 use Rattle.bounds.specs.Bounds.{blocked, share}
 

@@ -9,7 +9,7 @@ use native.Mathlib.Omega.{arith}
 use lib.IntN.{ℤ}
 use lib.ListN.{length, getD, drop, drop-of-length-le}
 use lib.Seq.{drop-cons}
-use Rattle.integers.proofs.Truth.{by-truth, never-both, equal-eqb, eqb-different}
+use Rattle.groundwork.proofs.Truth.{by-truth, never-both, equal-eqb, eqb-different}
 use Rattle.theory.specs.Packs.{Claim, noClaim}
 use Rattle.theory.specs.Reserve.{Query, boundBy, fields}
 use Rattle.theory.specs.declared.Bound.{Bound}

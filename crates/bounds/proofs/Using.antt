@@ -9,9 +9,9 @@ use lib.ListN.{getD}
 use lib.Signed.{ltZ}
 use mir.Syntax.{w64}
 use mir.Val.{SFits}
-use Rattle.integers.proofs.Truth.{never-both, not-true, not-false, and-both, and-not-left, and-not-right}
+use Rattle.groundwork.proofs.Truth.{never-both, not-true, not-false, and-both, and-not-left, and-not-right}
 use Rattle.forms.proofs.Results.{kept}
-use Rattle.residuals.proofs.Fits.{small-kept}
+use Rattle.forms.proofs.Fits.{small-kept}
 use Rattle.theory.specs.Packs.{Claim}
 use Rattle.theory.specs.Reserve.{Query, unknownsAtMostZero, askedNumber, isUsable, numerator, boundBy}
 use Rattle.tables.specs.Tables.{SafeClaims}
@@ -45,7 +45,7 @@ module _ {claims : List ℤ} {place arity : ℕ} {sizes : List ℕ} where
     test-is = sym (Bool·not-not _) ∙ ap not (sym (weighs .tells q c stands .ruledOut))
 
     numerator-is : w .blocked ≡ false → kept (w .numerator) ≡ numerator q c
-    numerator-is clear = small-kept (w .numerator) (omega (arith, weighs .small)) ∙ weighs .tells q c stands .sum clear
+    numerator-is clear = small-kept w64 (w .numerator) (omega (arith, weighs .small)) ∙ weighs .tells q c stands .sum clear
 
 -- ---- claims that are not usable
 

@@ -9,8 +9,8 @@ use lib.Signed.{mag, ltZ, nonNeg}
 use mir.Facts.{toZ-ofZ, fits-natAbs}
 use mir.Syntax.{w64}
 use mir.Val.{Fits, SFits}
-use Rattle.integers.proofs.Truth.{ltb-lt}
-use Rattle.integers.proofs.Difference.{diff, pos-diff}
+use Rattle.groundwork.proofs.Truth.{ltb-lt}
+use Rattle.groundwork.proofs.Difference.{diff, pos-diff}
 use Rattle.forms.proofs.Results.{kept}
 
 not-negative : (z : ℤ) → ltZ z (pos 0) ≡ false → T (nonNeg z)

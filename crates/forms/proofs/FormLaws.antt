@@ -6,7 +6,7 @@ use native.Mathlib.Omega.{arith}
 use lib.IntN.{ℤ, natAbs, *ℤ-zero}
 use lib.ListN.{length, getD}
 use lib.Dec.{ltb}
-use Rattle.integers.proofs.Truth.{by-truth, ltb-lt, ltb-ge}
+use Rattle.groundwork.proofs.Truth.{by-truth, ltb-lt, ltb-ge}
 use Rattle.theory.specs.Text.{Bytes}
 use Rattle.theory.specs.Forms.{Form as NamedForm, zeroForm, plus as plusNamed, times as timesNamed}
 use Rattle.theory.proofs.Soundness.FormBounds.{Within as WithinNamed}

@@ -11,7 +11,7 @@ use lib.Seq.{getD-set-same, getD-set-other}
 use mir.Syntax.{w64}
 use mir.Val.{SFits, toZ, ofZ}
 use mir.Facts.{toZ-ofZ}
-use Rattle.integers.proofs.Magnitude.{natAbs-add, natAbs-mul, mag-le-natAbs}
+use Rattle.groundwork.proofs.Magnitude.{natAbs-add, natAbs-mul, mag-le-natAbs}
 use Rattle.forms.specs.declared.Form.{Form}
 use Rattle.forms.specs.Sums.{at, Within}
 

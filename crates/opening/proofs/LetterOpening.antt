@@ -1,25 +1,47 @@
--- What the opening of a line answers, by its letter: what `open_p`, `open_c`, `open_h`, `open_b`, `open_m` and `open_e` cite.
-use mathlib.Core.Path.{_≡_, refl, sym, _∙_, ap}
-use mathlib.Core.Bool.{true, false}
+-- What the opening of a line answers, by the way in which its letter opens: what `open_declaration`, `open_reference` and `open_bare` cite.
+use mathlib.Core.Path.{_≡_, refl, sym, _∙_, ap, subst⁻¹}
+use mathlib.Core.Bool.{Bool, true, false}
 use mathlib.Core.List.{List}
 use mathlib.Core.Option.{some, none}
 use Prim.Native.Nat.{ℕ, _+_, _≤_, _<_}
 use native.Mathlib.Omega.{arith}
 use lib.ListN.{length, getD}
-use Rattle.integers.proofs.Truth.{not-true}
+use Rattle.groundwork.proofs.Truth.{not-true}
+use Rattle.theory.specs.declared.Letter.{Letter}
+use Rattle.theory.specs.declared.Letter.the-variants.{P, C, H, B, M, E, NoLetter}
 use Rattle.theory.specs.Text.{Bytes, partsAt, fieldsOf}
-use Rattle.theory.specs.Written.{Letter, P, H, M, E, Written}
+use Rattle.theory.specs.Written.{Written}
 use Rattle.theory.specs.Faults.{isComplete, mayStand}
 use Rattle.theory.proofs.Judging.Completeness.{rule-from-incomplete}
 use Rattle.theory.proofs.Reading.Presence.{some-is, none-is}
+use Rattle.text.specs.declared.Words.{Words}
 use Rattle.tables.specs.declared.State.{State}
+use Rattle.tables.specs.declared.Fault.the-variants.{Name, Declaration, FieldCount}
 use Rattle.tables.specs.declared.Opened.{Opened}
-use Rattle.tables.specs.Tables.{SafeState, SafeFacts, predicateAt, Outline}
+use Rattle.tables.specs.declared.Opening.{Opening}
+use Rattle.tables.specs.declared.Opening.the-variants.{Line, Misopened}
+use Rattle.tables.specs.Tables.{SafeState, SafeSignatures, predicateAt, Outline}
+use Rattle.tables.specs.Lines.{skipped, opening, most, OldPredicate, NamedFor}
 use Rattle.opening.specs.declared.Named.{Named}
-use Rattle.opening.specs.Opening.{byteOf, skipped, opening, Begins, NameRead, OldPredicate, NamedFor, OpensLetter}
-use Rattle.opening.proofs.LetterTests.{Names, Refers, Nameless, refers-names, keyIn, foundIn, besides, findsEight, fieldsDue, undeclared-found, declared-eight, declared-fields, fault-seven, fault-eight, fault-nine, past-nine, fault-nine-alone, past-nine-alone}
-use Rattle.opening.proofs.NamedPredicate.{is-named, looked-up, looked-up-is, looked-up-none, Admits, unbarred, barred}
-use Rattle.opening.proofs.Outcomes.{Refused, most, Keeps, Clears, refuses, passes}
+use Rattle.opening.specs.declared.Naming.{Naming}
+use Rattle.opening.specs.declared.Naming.the-variants.{Found, NoName}
+use Rattle.opening.specs.Opening.{besides, bars, Refers, Nameless, Begins, NameStands, NameRead, OpensLetter, OpensDeclaration, OpensBare}
+use Rattle.opening.proofs.Standing.{other-than-m}
+use Rattle.opening.proofs.LetterTests.{Names, refers-names, keyIn, foundIn, findsEight, fieldsDue, undeclared-found, declared-eight, declared-fields, fault-seven, fault-eight, fault-nine, past-nine, fault-nine-alone, past-nine-alone}
+use Rattle.opening.proofs.NamedPredicate.{looked-up, looked-up-is, looked-up-none, barred-mark}
+use Rattle.opening.proofs.Outcomes.{opened, refuses, passes}
+
+-- ---- no name
+
+module _ (names : List ℕ) (s : State) (line : Bytes) (naming : Naming) (read : NameRead line names (s .predicates) naming) (other : naming ≡ NoName) where
+  unnamed : {l : Letter} → Names l → (signatures : List ℕ) → OpensLetter l line names signatures s (Misopened Name)
+  unnamed {l} names-it signatures = refuses l Name (omega arith) λ w outline stands. fault-seven (fieldsOf line) (w .pack) l names-it (read .none other)
+
+  pub declares-unnamed : OpensDeclaration line names s (Misopened Name)
+  declares-unnamed = record { opens = unnamed Names.predicate }
+
+  pub refers-unnamed : {l : Letter} → Refers l → (signatures : List ℕ) → OpensLetter l line names signatures s (Misopened Name)
+  refers-unnamed refers = unnamed (refers-names refers)
 
 -- ---- a line that refers to a declared predicate
 
@@ -27,121 +49,112 @@ record Shape (l : Letter) : Type 0 where
   skips : skipped l ≡ 2
   opens : opening l ≡ 3
   fits : (s : State) → 8 + besides l < skipped l + most l s
-  other : byteOf l ≡ 77 → ⊥
+  other : l ≡ M → ⊥
   named : (line : Bytes) (s : State) (w : Written) (o : Opened) → OldPredicate (keyIn l (fieldsOf line)) (besides l + 1) line w o → NamedFor l line s w o
 
 shape : {l : Letter} → Refers l → Shape l
-shape Refers.claim = record { skips = refl; opens = refl; fits = λ s. omega arith; other = λ e. omega arith; named = λ line s w o old. old }
-shape Refers.head = record { skips = refl; opens = refl; fits = λ s. omega arith; other = λ e. omega arith; named = λ line s w o old. old }
-shape Refers.subgoal = record { skips = refl; opens = refl; fits = λ s. omega arith; other = λ e. omega arith; named = λ line s w o old. old }
+shape Refers.claim = record { skips = refl; opens = refl; fits = λ s. omega arith; other = other-than-m; named = λ line s w o old. old }
+shape Refers.head = record { skips = refl; opens = refl; fits = λ s. omega arith; other = other-than-m; named = λ line s w o old. old }
+shape Refers.subgoal = record { skips = refl; opens = refl; fits = λ s. omega arith; other = other-than-m; named = λ line s w o old. old }
 
-module _ (l : Letter) (names facts : List ℕ) (s : State) (line : Bytes) (letter : ℕ) (is : letter ≡ byteOf l) (begins : Begins line letter) (name : Named) (read : NameRead line names (s .predicates) name) where
-  pub opens-unnamed : Names l → name .fine ≡ false → (o : Opened) → Refused 7 o → OpensLetter letter line names facts s o
-  opens-unnamed names-it other o refused = refuses begins l is (omega arith) refused λ w outline stands. fault-seven (fieldsOf line) (w .pack) l names-it (sym (read .fine) ∙ other)
+module _ (l : Letter) (refers : Refers l) (names signatures : List ℕ) (s : State) (line : Bytes) (naming : Naming) (read : NameRead line names (s .predicates) naming) (name : Named) (is : naming ≡ Found name) where
+  named : NameStands line names (s .predicates) name
+  named = read .found name is
 
-  module _ (fine : name .fine ≡ true) (refers : Refers l) where
-    pub opens-undeclared : s .predicates ≤ name .place → (o : Opened) → Refused 8 o → OpensLetter letter line names facts s o
-    opens-undeclared h o refused =
-        refuses begins l is (omega arith) refused λ w outline stands.
-        fault-eight (fieldsOf line) (w .pack) l (refers-names refers) (is-named read fine) (undeclared-found (fieldsOf line) (w .pack) refers (looked-up-none (refers-names refers) outline read fine h))
+  pub refers-undeclared : s .predicates ≤ name .place → OpensLetter l line names signatures s (Misopened Declaration)
+  refers-undeclared h =
+      refuses l Declaration (omega arith) λ w outline stands.
+      fault-eight (fieldsOf line) (w .pack) l (refers-names refers) (named .named) (undeclared-found (fieldsOf line) (w .pack) refers (looked-up-none (refers-names refers) outline named h))
 
-    module _ (below : name .place < s .predicates) (admits : Admits (getD facts (32 + name .place) 0) l) where
-      module _ (w : Written) (outline : Outline names facts s w) where
-        is-meant : foundIn l (fieldsOf line) (w .pack) ≡ some (predicateAt (w .pack .predicates) (name .place))
-        is-meant = looked-up (refers-names refers) outline read fine below
+  module _ (below : name .place < s .predicates) where
+    module _ (w : Written) (outline : Outline names signatures s w) where
+      is-meant : foundIn l (fieldsOf line) (w .pack) ≡ some (predicateAt (w .pack .predicates) (name .place))
+      is-meant = looked-up (refers-names refers) outline named below
 
-        eight-passed : findsEight l (fieldsOf line) (w .pack) ≡ false
-        eight-passed = declared-eight (fieldsOf line) (w .pack) _ refers is-meant ∙ unbarred _ _ (outline .declares .kind (name .place) below) admits
+      eight-found : findsEight l (fieldsOf line) (w .pack) ≡ bars l (getD signatures (32 + name .place) 0)
+      eight-found = declared-eight (fieldsOf line) (w .pack) _ refers is-meant ∙ barred-mark l _ (outline .declares .kind (name .place) below)
 
-        fields-due : fieldsDue l (fieldsOf line) (w .pack) ≡ getD facts (name .place) 0 + (besides l + 1)
-        fields-due = declared-fields (fieldsOf line) (w .pack) _ refers is-meant ∙ ap (λ (n : ℕ). n + (besides l + 1)) (sym (outline .declares .arity (name .place) below))
+      fields-due : fieldsDue l (fieldsOf line) (w .pack) ≡ getD signatures (name .place) 0 + (besides l + 1)
+      fields-due = declared-fields (fieldsOf line) (w .pack) _ refers is-meant ∙ ap (λ (n : ℕ). n + (besides l + 1)) (sym (outline .declares .arity (name .place) below))
 
-      -- n commas, and the arity a
-      module _ (n a : ℕ) (count : n + 1 ≡ length (partsAt 44 line)) (arity : a ≡ getD facts (name .place) 0) where
-        pub opens-miscounted : (n ≡ a + besides l → ⊥) → (o : Opened) → Refused 9 o → OpensLetter letter line names facts s o
-        opens-miscounted other o refused =
-            refuses begins l is (omega arith) refused λ w outline stands.
-            fault-nine (fieldsOf line) (w .pack) l (refers-names refers) (is-named read fine) (eight-passed w outline) (λ e. other (omega (arith, fields-due w outline)))
+    -- what `is_barred` answers
+    module _ (barred : Bool) (told : barred ≡ bars l (getD signatures (32 + name .place) 0)) where
+      pub refers-barred : barred ≡ true → OpensLetter l line names signatures s (Misopened Declaration)
+      refers-barred e =
+          refuses l Declaration (omega arith) λ w outline stands.
+          fault-eight (fieldsOf line) (w .pack) l (refers-names refers) (named .named) (eight-found w outline ∙ sym told ∙ e)
 
-        pub opens-reference : SafeState s → SafeFacts facts → n ≡ a + besides l
-            → OpensLetter letter line names facts s (record { fault = 0; letter = letter; predicate = name .place; first = name .first; second = name .second; from = name .stop + 1 })
-        opens-reference state safe right = passes begins l is keeps clears
-          where
-            o : Opened
-            o = record { fault = 0; letter = letter; predicate = name .place; first = name .first; second = name .second; from = name .stop + 1 }
+      -- n commas, the arity a, and the commas besides
+      module _ (admitted : barred ≡ false) (n a more : ℕ) (count : n + 1 ≡ length (partsAt 44 line)) (arity : a ≡ getD signatures (name .place) 0) (rest : more ≡ besides l) where
+        pub refers-miscounted : (n ≡ a + more → ⊥) → OpensLetter l line names signatures s (Misopened FieldCount)
+        refers-miscounted other =
+            refuses l FieldCount (omega arith) λ w outline stands.
+            fault-nine (fieldsOf line) (w .pack) l (refers-names refers) (named .named) (eight-found w outline ∙ sym told ∙ admitted) (λ e. other (omega (arith, fields-due w outline)))
 
-            keeps : Keeps l line s o
-            keeps = record {
-              byte = is;
-              faultless = refl;
-              rest = rw (shape refers .skips) (read .rest fine);
+        pub refers-passed : SafeState s → SafeSignatures signatures → length line ≤ 1024 → n ≡ a + more
+            → OpensLetter l line names signatures s (Line (record { letter = l; predicate = name .place; words = name .words; from = name .stop + 1 }))
+        refers-passed state safe short right =
+            passes l (name .place) (name .words) (name .stop + 1) short
+            (record {
+              rest = rw (shape refers .skips) (named .rest);
               few = omega (arith, shape refers .fits s, safe .arity (name .place) (omega arith));
-              below = omega arith;
               place = λ e. omega arith;
-              due = λ e. absurd (shape refers .other (sym is ∙ e));
-            }
-
-            clears : (w : Written) → Outline names facts s w → mayStand (w .pack) l ≡ true → Clears l line s w o
-            clears w outline stands = record {
-              left = rw (shape refers .opens) (past-nine (fieldsOf line) (w .pack) l (refers-names refers) (is-named read fine) (eight-passed w outline) (omega (arith, fields-due w outline)));
-              named = shape refers .named line s w o (record {
-                named = is-named read fine;
+              due = λ e. absurd (shape refers .other e);
+            })
+            λ w outline stands.
+            record {
+              left = rw (shape refers .opens) (past-nine (fieldsOf line) (w .pack) l (refers-names refers) (named .named) (eight-found w outline ∙ sym told ∙ admitted) (omega (arith, fields-due w outline)));
+              named = shape refers .named line s w (opened l (name .place) (name .words) (name .stop + 1)) (record {
+                named = named .named;
                 below = omega (arith, outline .declares .count);
                 declared = is-meant w outline;
-                is = looked-up-is (refers-names refers) outline read fine below;
+                is = looked-up-is (refers-names refers) outline named below;
                 full = omega (arith, outline .declares .arity (name .place) below);
               });
             }
 
--- a head's predicate that is given
-pub opens-given : (names facts : List ℕ) (s : State) (line : Bytes) (letter : ℕ) → letter ≡ 72 → Begins line letter → (name : Named) → NameRead line names (s .predicates) name → name .fine ≡ true
-    → name .place < s .predicates → (getD facts (32 + name .place) 0 ≡ 0 → ⊥) → (o : Opened) → Refused 8 o → OpensLetter letter line names facts s o
-opens-given names facts s line letter is begins name read fine below other o refused =
-    refuses begins H is (omega arith) refused λ w outline stands.
-    fault-eight (fieldsOf line) (w .pack) H Names.head (is-named read fine)
-    (declared-eight (fieldsOf line) (w .pack) _ Refers.head (looked-up Names.head outline read fine below) ∙ barred _ _ (outline .declares .kind (name .place) below) other)
+-- ---- a predicate that is to be new
 
--- ---- a new predicate
-
-module _ (names facts : List ℕ) (s : State) (line : Bytes) (letter : ℕ) (is : letter ≡ 80) (begins : Begins line letter) (name : Named) (read : NameRead line names (s .predicates) name) (fine : name .fine ≡ true) where
-  pub opens-declared : name .place < s .predicates → (o : Opened) → Refused 8 o → OpensLetter letter line names facts s o
-  opens-declared below o refused =
-      refuses begins P is (omega arith) refused λ w outline stands.
-      fault-eight (fieldsOf line) (w .pack) P Names.predicate (is-named read fine) (some-is _ _ (looked-up Names.predicate outline read fine below))
+module _ (names : List ℕ) (s : State) (line : Bytes) (naming : Naming) (read : NameRead line names (s .predicates) naming) (name : Named) (is : naming ≡ Found name) where
+  pub declares-again : name .place < s .predicates → OpensDeclaration line names s (Misopened Declaration)
+  declares-again below = record {
+    opens = λ signatures.
+        refuses P Declaration (omega arith) λ w outline stands.
+        fault-eight (fieldsOf line) (w .pack) P Names.predicate (read .found name is .named) (some-is _ _ (looked-up Names.predicate outline (read .found name is) below));
+  }
 
   module _ (above : s .predicates ≤ name .place) (n : ℕ) (count : n + 1 ≡ length (partsAt 44 line)) where
-    is-new : (w : Written) → Outline names facts s w → foundIn P (fieldsOf line) (w .pack) ≡ none
-    is-new w outline = looked-up-none Names.predicate outline read fine above
+    is-undeclared : (signatures : List ℕ) (w : Written) → Outline names signatures s w → foundIn P (fieldsOf line) (w .pack) ≡ none
+    is-undeclared signatures w outline = looked-up-none Names.predicate outline (read .found name is) above
 
-    pub opens-new-miscounted : (n ≡ 3 → ⊥) → (o : Opened) → Refused 9 o → OpensLetter letter line names facts s o
-    opens-new-miscounted other o refused =
-        refuses begins P is (omega arith) refused λ w outline stands.
-        fault-nine (fieldsOf line) (w .pack) P Names.predicate (is-named read fine) (none-is _ (is-new w outline)) (λ e. other (omega arith))
+    pub declares-miscounted : (n ≡ 3 → ⊥) → OpensDeclaration line names s (Misopened FieldCount)
+    declares-miscounted other = record {
+      opens = λ signatures.
+          refuses P FieldCount (omega arith) λ w outline stands.
+          fault-nine (fieldsOf line) (w .pack) P Names.predicate (read .found name is .named) (none-is _ (is-undeclared signatures w outline)) (λ e. other (omega arith));
+    }
 
-    pub opens-new : SafeState s → n ≡ 3
-        → OpensLetter letter line names facts s (record { fault = 0; letter = letter; predicate = s .predicates; first = name .first; second = name .second; from = name .stop + 1 })
-    opens-new state right =
-        passes begins P is
-        (record {
-          byte = is;
-          faultless = refl;
-          rest = read .rest fine;
-          few = omega arith;
-          below = omega arith;
-          place = λ e. absurd (e is);
-          due = λ e. absurd (omega arith);
-        })
-        λ w outline stands.
-        record {
-          left = past-nine (fieldsOf line) (w .pack) P Names.predicate (is-named read fine) (none-is _ (is-new w outline)) (omega arith);
-          named = record {
-            named = is-named read fine;
-            isNew = is-new w outline;
-            four = omega arith;
-            first = read .first fine;
-            second = read .second fine;
+    pub declares-passed : length line ≤ 1024 → n ≡ 3 → OpensDeclaration line names s (Line (record { letter = P; predicate = s .predicates; words = name .words; from = name .stop + 1 }))
+    declares-passed short right = record {
+      opens = λ signatures.
+          passes P (s .predicates) (name .words) (name .stop + 1) short
+          (record {
+            rest = read .found name is .rest;
+            few = omega arith;
+            place = λ e. absurd (e refl);
+            due = λ e. absurd (other-than-m e);
+          })
+          λ w outline stands.
+          record {
+            left = past-nine (fieldsOf line) (w .pack) P Names.predicate (read .found name is .named) (none-is _ (is-undeclared signatures w outline)) (omega arith);
+            named = record {
+              named = read .found name is .named;
+              isNew = is-undeclared signatures w outline;
+              four = omega arith;
+              words = read .found name is .words;
+            };
           };
-        }
+    }
 
 -- ---- a line with no name
 
@@ -149,7 +162,7 @@ module _ (names facts : List ℕ) (s : State) (line : Bytes) (letter : ℕ) (is 
 record Bare (l : Letter) : Type 0 where
   skips : skipped l ≡ 1
   opens : opening l ≡ 1
-  due : (names facts : List ℕ) (s : State) (fields : List Bytes) (w : Written) → Outline names facts s w → mayStand (w .pack) l ≡ true → fieldsDue l fields (w .pack) ≡ most l s + 1
+  due : (names signatures : List ℕ) (s : State) (fields : List Bytes) (w : Written) → Outline names signatures s w → mayStand (w .pack) l ≡ true → fieldsDue l fields (w .pack) ≡ most l s + 1
   named : (line : Bytes) (s : State) (w : Written) (o : Opened) → length (fieldsOf line) ≡ most l s + 1 → NamedFor l line s w o
 
 bare : {l : Letter} → Nameless l → Bare l
@@ -157,42 +170,67 @@ unfolding mayStand
 bare Nameless.multipliers = record {
   skips = refl;
   opens = refl;
-  due = λ names facts s fields w outline stands.
+  due = λ names signatures s fields w outline stands.
       ap (λ (n : ℕ). n + 1) (sym (outline .slots (rule-from-incomplete (w .pack) (not-true (isComplete (w .pack)) stands))));
   named = λ line s w o e. e;
 }
-bare Nameless.end = record { skips = refl; opens = refl; due = λ names facts s fields w outline stands. refl; named = λ line s w o e. e }
+bare Nameless.end = record { skips = refl; opens = refl; due = λ names signatures s fields w outline stands. refl; named = λ line s w o e. e }
 
--- an `M` line is due only where a rule has fewer than 16 of them
-pub data Room (s : State) : Letter → Type 0 where
-  multipliers : s .multipliers < 16 → Room s M
-  end : Room s E
+module _ (l : Letter) (nameless : Nameless l) (s : State) (line : Bytes) (commas : ℕ) (all : commas ≡ most l s) (n : ℕ) (count : n + 1 ≡ length (partsAt 44 line)) where
+  pub bare-miscounted : (n ≡ commas → ⊥) → OpensBare l line s (Misopened FieldCount)
+  bare-miscounted other = record {
+    opens = λ names signatures.
+        refuses l FieldCount (omega arith) λ w outline stands.
+        fault-nine-alone (fieldsOf line) (w .pack) l nameless (λ e. other (omega (arith, bare nameless .due names signatures s (fieldsOf line) w outline stands)));
+  }
 
-room-due : {l : Letter} (s : State) → Room s l → byteOf l ≡ 77 → s .multipliers < 16
-room-due s (Room.multipliers h) e = h
-room-due s Room.end e = absurd (omega arith)
+  pub bare-passed : Begins line → (l ≡ M → s .multipliers < 16) → length line ≤ 1024 → n ≡ commas → (words : Words) → OpensBare l line s (Line (record { letter = l; predicate = 0; words = words; from = 2 }))
+  bare-passed begins due short right words = record {
+    opens = λ names signatures.
+        passes l 0 words 2 short
+        (record {
+          rest = rw (bare nameless .skips) (begins .rest);
+          few = omega (arith, bare nameless .skips);
+          place = λ e. omega arith;
+          due = due;
+        })
+        λ w outline stands.
+        let full : length (fieldsOf line) ≡ most l s + 1 = omega arith in
+        record {
+          left = rw (bare nameless .opens) (past-nine-alone (fieldsOf line) (w .pack) l nameless (full ∙ sym (bare nameless .due names signatures s (fieldsOf line) w outline stands)));
+          named = bare nameless .named line s w _ full;
+        };
+  }
 
-module _ (l : Letter) (nameless : Nameless l) (names facts : List ℕ) (s : State) (line : Bytes) (letter : ℕ) (is : letter ≡ byteOf l) (begins : Begins line letter) (n : ℕ) (count : n + 1 ≡ length (partsAt 44 line)) where
-  pub opens-bare-miscounted : (n ≡ most l s → ⊥) → (o : Opened) → Refused 9 o → OpensLetter letter line names facts s o
-  opens-bare-miscounted other o refused =
-      refuses begins l is (omega arith) refused λ w outline stands.
-      fault-nine-alone (fieldsOf line) (w .pack) l nameless (λ e. other (omega (arith, bare nameless .due names facts s (fieldsOf line) w outline stands)))
+-- ---- by letter: what `open_letter` cites
 
-  pub opens-bare : Room s l → n ≡ most l s → OpensLetter letter line names facts s (record { fault = 0; letter = letter; predicate = 0; first = 0; second = 0; from = 2 })
-  opens-bare room right =
-      passes begins l is
-      (record {
-        byte = is;
-        faultless = refl;
-        rest = rw (bare nameless .skips) (begins .rest);
-        few = omega (arith, bare nameless .skips);
-        below = omega arith;
-        place = λ e. omega arith;
-        due = λ e. room-due s room (sym is ∙ e);
-      })
-      λ w outline stands.
-      let full : length (fieldsOf line) ≡ most l s + 1 = omega arith in
-      record {
-        left = rw (bare nameless .opens) (past-nine-alone (fieldsOf line) (w .pack) l nameless (full ∙ sym (bare nameless .due names facts s (fieldsOf line) w outline stands)));
-        named = bare nameless .named line s w _ full;
-      }
+pub refers-claim : {l : Letter} → l ≡ C → Refers l
+refers-claim is = subst⁻¹ Refers is Refers.claim
+
+pub refers-head : {l : Letter} → l ≡ H → Refers l
+refers-head is = subst⁻¹ Refers is Refers.head
+
+pub refers-subgoal : {l : Letter} → l ≡ B → Refers l
+refers-subgoal is = subst⁻¹ Refers is Refers.subgoal
+
+pub nameless-multipliers : {l : Letter} → l ≡ M → Nameless l
+nameless-multipliers is = subst⁻¹ Nameless is Nameless.multipliers
+
+pub nameless-end : {l : Letter} → l ≡ E → Nameless l
+nameless-end is = subst⁻¹ Nameless is Nameless.end
+
+pub commas-multipliers : {l : Letter} (s : State) → l ≡ M → s .slots ≡ most l s
+commas-multipliers s is = ap (λ (k : Letter). most k s) (sym is)
+
+pub commas-end : {l : Letter} (s : State) → l ≡ E → 0 ≡ most l s
+commas-end s is = ap (λ (k : Letter). most k s) (sym is)
+
+pub opens-declaration : {l : Letter} {line : Bytes} {names : List ℕ} {s : State} {r : Opening} → l ≡ P → OpensDeclaration line names s r → {signatures : List ℕ} → OpensLetter l line names signatures s r
+opens-declaration {line = line} {names} {s} {r} is opens {signatures} = subst⁻¹ (λ (k : Letter). OpensLetter k line names signatures s r) is (opens .opens signatures)
+
+pub opens-bare : {l : Letter} {line : Bytes} {s : State} {r : Opening} → OpensBare l line s r → {names signatures : List ℕ} → OpensLetter l line names signatures s r
+opens-bare opens {names} {signatures} = opens .opens names signatures
+
+-- no line of no letter is opened
+pub opens-none : {l : Letter} → (l ≡ NoLetter → ⊥) → l ≡ NoLetter → {line : Bytes} {names signatures : List ℕ} {s : State} {r : Opening} → OpensLetter l line names signatures s r
+opens-none other is = absurd (other is)

@@ -6,22 +6,16 @@ use mathlib.Core.Option.{Option, some, none}
 use Prim.Native.Nat.{ℕ, _+_}
 use lib.Dec.{eqb}
 use lib.ListN.{length, drop}
-use Rattle.integers.proofs.Truth.{equal-eqb, eqb-different}
+use Rattle.groundwork.proofs.Truth.{equal-eqb, eqb-different}
 use Rattle.theory.specs.Lists.{isSome}
 use Rattle.theory.specs.Text.{Bytes, isName}
 use Rattle.theory.specs.Packs.{Predicate, Key, Pack, key, keyOf, claimKey, atomKey, declaredAs, claimsOnAll}
-use Rattle.theory.specs.Written.{Letter, P, C, H, B, M, E, noLetter, field, predicateFrom, claimFrom, atomFrom}
-use Rattle.theory.specs.Faults.{Test, test, firstOf, arityIn, givenIn, lastRule, predicateTests, claimTests, atomTests, headTests, subgoalTests, multiplierTests, tests}
-
--- ---- one test
-
-pub first-passed : (n : ℕ) (finds : Bool) (ts : List Test) → finds ≡ false → firstOf (test n finds ∷ ts) ≡ firstOf ts
-unfolding firstOf
-first-passed n finds ts e = rw e
-
-pub first-found : (n : ℕ) (finds : Bool) (ts : List Test) → finds ≡ true → firstOf (test n finds ∷ ts) ≡ n
-unfolding firstOf
-first-found n finds ts e = rw e
+use Rattle.theory.specs.declared.Letter.{Letter}
+use Rattle.theory.specs.declared.Letter.the-variants.{P, C, H, B, M, E, NoLetter}
+use Rattle.theory.specs.Written.{field, predicateFrom, claimFrom, atomFrom}
+use Rattle.opening.specs.Opening.{Refers, Nameless, besides}
+use Rattle.theory.proofs.Judging.Tests.{first-passed, first-found}
+use Rattle.theory.specs.Faults.{test, firstOf, arityIn, givenIn, lastRule, predicateTests, claimTests, atomTests, headTests, subgoalTests, multiplierTests, tests}
 
 -- ---- by letter
 
@@ -31,17 +25,6 @@ pub data Names : Letter → Type 0 where
   claim : Names C
   head : Names H
   subgoal : Names B
-
--- lines whose predicate is declared before
-pub data Refers : Letter → Type 0 where
-  claim : Refers C
-  head : Refers H
-  subgoal : Refers B
-
--- lines without a name
-pub data Nameless : Letter → Type 0 where
-  multipliers : Nameless M
-  end : Nameless E
 
 pub refers-names : {l : Letter} → Refers l → Names l
 refers-names Refers.claim = Names.claim
@@ -56,7 +39,7 @@ keyIn H fields = atomKey (atomFrom fields)
 keyIn B fields = atomKey (atomFrom fields)
 keyIn M fields = []
 keyIn E fields = []
-keyIn noLetter fields = []
+keyIn NoLetter fields = []
 
 abbrev pub foundIn : Letter → List Bytes → Pack → Option Predicate
 foundIn l fields p = declaredAs (keyIn l fields) (p .predicates)
@@ -69,17 +52,7 @@ isBarred H found = givenIn found
 isBarred B found = false
 isBarred M found = false
 isBarred E found = false
-isBarred noLetter found = false
-
--- the commas besides the arguments
-abbrev pub besides : Letter → ℕ
-besides P = 0
-besides C = 2
-besides H = 1
-besides B = 1
-besides M = 0
-besides E = 0
-besides noLetter = 0
+isBarred NoLetter found = false
 
 pub name-key : {l : Letter} → Names l → (fields : List Bytes) → (n : ℕ) × (keyIn l fields ≡ key (field 1 fields) n)
 unfolding predicateFrom claimFrom atomFrom
@@ -96,7 +69,7 @@ findsEight H fields p = not (isSome (foundIn H fields p)) || givenIn (foundIn H 
 findsEight B fields p = not (isSome (foundIn B fields p)) || false
 findsEight M fields p = false
 findsEight E fields p = false
-findsEight noLetter fields p = false
+findsEight NoLetter fields p = false
 
 -- the number of fields that test 9 asks for
 abbrev pub fieldsDue : Letter → List Bytes → Pack → ℕ
@@ -106,7 +79,7 @@ fieldsDue H fields p = arityIn (foundIn H fields p) + 2
 fieldsDue B fields p = arityIn (foundIn B fields p) + 2
 fieldsDue M fields p = length (claimsOnAll (p .claims) (lastRule p .subgoals)) + 1
 fieldsDue E fields p = 1
-fieldsDue noLetter fields p = 0
+fieldsDue NoLetter fields p = 0
 
 -- whether the count of fields is wrong
 abbrev isMiscounted : Letter → List Bytes → Pack → Bool

@@ -1,5 +1,4 @@
 -- The predicate that a name means.
-pub mod Lookup
 -- A line's first field and its letter, and the letters that may stand here.
 pub mod FirstField
 pub mod Standing

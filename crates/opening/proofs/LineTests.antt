@@ -4,11 +4,11 @@ use mathlib.Core.Bool.{Bool, true, false, not, _&&_, _||_}
 use mathlib.Core.List.{_∷_}
 use Prim.Native.Nat.{_≤_}
 use lib.ListN.{length}
-use Rattle.integers.proofs.Truth.{or-neither, or-not-left, ltb-ge}
+use Rattle.groundwork.proofs.Truth.{or-neither, or-not-left, ltb-ge}
 use Rattle.theory.specs.Text.{Bytes, fieldsOf}
 use Rattle.theory.specs.Written.{lineLetter, Written}
 use Rattle.theory.specs.Faults.{test, firstOf, isUnfit, mayStand, tests, fault}
-use Rattle.opening.proofs.LetterTests.{first-passed, first-found}
+use Rattle.theory.proofs.Judging.Tests.{first-passed, first-found}
 
 pub fit-short : (line : Bytes) → isUnfit line ≡ false → length line ≤ 1024
 unfolding isUnfit

@@ -1,67 +1,58 @@
 -- The predicate that a line's second field names: whether it is declared, and whether it is given.
-use mathlib.Core.Path.{_≡_, refl, sym, _∙_}
-use mathlib.Core.Bool.{true, false}
+use mathlib.Core.Path.{_≡_, refl, sym, _∙_, ap}
+use mathlib.Core.Bool.{not}
 use mathlib.Core.List.{List}
 use mathlib.Core.Option.{some, none}
 use Prim.Native.Nat.{ℕ, _≤_, _<_}
-use native.Mathlib.Omega.{arith}
-use Rattle.theory.specs.Text.{Bytes, isName, fieldsOf}
+use lib.Dec.{eqb}
+use Rattle.theory.specs.declared.Letter.{Letter}
+use Rattle.theory.specs.declared.Letter.the-variants.{P, C, H, B, M, E, NoLetter}
+use Rattle.theory.specs.Text.{Bytes, fieldsOf}
 use Rattle.theory.specs.Packs.{Kind, given, ruled, Predicate, keyOf}
-use Rattle.theory.specs.Written.{Letter, C, H, B, field, Written}
+use Rattle.theory.specs.Written.{field, Written}
 use Rattle.theory.specs.Faults.{isGiven, givenIn}
 use Rattle.tables.specs.declared.State.{State}
 use Rattle.tables.specs.Tables.{predicateAt, flag, Outline}
+use Rattle.tables.proofs.Lookup.{name-is, name-declared, name-absent}
 use Rattle.opening.specs.declared.Named.{Named}
-use Rattle.opening.specs.Opening.{NameRead}
-use Rattle.opening.proofs.Lookup.{name-is, name-declared, name-new}
+use Rattle.opening.specs.Opening.{bars, NameStands}
 use Rattle.opening.proofs.LetterTests.{Names, keyIn, foundIn, isBarred, name-key}
-
-pub is-named : {line : Bytes} {names : List ℕ} {known : ℕ} {name : Named} → NameRead line names known name → name .fine ≡ true → isName (field 1 (fieldsOf line)) ≡ true
-is-named read fine = sym (read .fine) ∙ fine
 
 -- ---- looking it up
 
-module _ {l : Letter} (names-it : Names l) {names facts : List ℕ} {s : State} {w : Written} (outline : Outline names facts s w) {line : Bytes} {name : Named} (read : NameRead line names (s .predicates) name) (fine : name .fine ≡ true) where
+module _ {l : Letter} (names-it : Names l) {names signatures : List ℕ} {s : State} {w : Written} (outline : Outline names signatures s w) {line : Bytes} {name : Named} (stands : NameStands line names (s .predicates) name) where
   pub looked-up : name .place < s .predicates → foundIn l (fieldsOf line) (w .pack) ≡ some (predicateAt (w .pack .predicates) (name .place))
   looked-up h =
       let k = name-key names-it (fieldsOf line) in
-      name-declared (outline .declares) (field 1 (fieldsOf line)) (is-named read fine) (read .place fine) (k .0) (k .1) h
+      name-declared (outline .declares) (field 1 (fieldsOf line)) (stands .named) (stands .place) (k .0) (k .1) h
 
   pub looked-up-is : name .place < s .predicates → keyOf (predicateAt (w .pack .predicates) (name .place)) ≡ keyIn l (fieldsOf line)
   looked-up-is h =
       let k = name-key names-it (fieldsOf line) in
-      name-is (outline .declares) (field 1 (fieldsOf line)) (is-named read fine) (read .place fine) (k .0) (k .1) h
+      name-is (outline .declares) (field 1 (fieldsOf line)) (stands .named) (stands .place) (k .0) (k .1) h
 
   pub looked-up-none : s .predicates ≤ name .place → foundIn l (fieldsOf line) (w .pack) ≡ none
   looked-up-none h =
       let k = name-key names-it (fieldsOf line) in
-      name-new (outline .declares) (field 1 (fieldsOf line)) (is-named read fine) (read .place fine) (k .0) (k .1) h
+      name-absent (outline .declares) (field 1 (fieldsOf line)) (stands .named) (stands .place) (k .0) (k .1) h
 
 -- ---- given or ruled
 
--- what test 8 asks besides of a declared predicate with this mark
-pub data Admits (mark : ℕ) : Letter → Type 0 where
-  claim : Admits mark C
-  head : mark ≡ 0 → Admits mark H
-  subgoal : Admits mark B
-
-ruled-by-mark : (k : Kind) → flag k ≡ 0 → isGiven k ≡ false
+given-mark : (k : Kind) → isGiven k ≡ not (eqb (flag k) 0)
 unfolding isGiven
-ruled-by-mark given e = absurd (omega arith)
-ruled-by-mark ruled e = refl
+given-mark given = refl
+given-mark ruled = refl
 
-given-by-mark : (k : Kind) → (flag k ≡ 0 → ⊥) → isGiven k ≡ true
-unfolding isGiven
-given-by-mark given e = refl
-given-by-mark ruled e = absurd (e refl)
+-- what test 8 asks besides of a declared predicate is told by its mark
+pub barred-mark : (l : Letter) (q : Predicate) {mark : ℕ} → mark ≡ flag (q .kind) → isBarred l (some q) ≡ bars l mark
+unfolding givenIn
+barred-mark P q is = refl
+barred-mark C q is = refl
+barred-mark H q is = given-mark (q .kind) ∙ ap (λ (n : ℕ). not (eqb n 0)) (sym is)
+barred-mark B q is = refl
+barred-mark M q is = refl
+barred-mark E q is = refl
+barred-mark NoLetter q is = refl
 
-module _ (q : Predicate) (mark : ℕ) (is : mark ≡ flag (q .kind)) where
-  pub unbarred : {l : Letter} → Admits mark l → isBarred l (some q) ≡ false
-  unfolding givenIn
-  unbarred Admits.claim = refl
-  unbarred (Admits.head zero-mark) = ruled-by-mark (q .kind) (sym is ∙ zero-mark)
-  unbarred Admits.subgoal = refl
-
-  pub barred : (mark ≡ 0 → ⊥) → isBarred H (some q) ≡ true
-  unfolding givenIn
-  barred other = given-by-mark (q .kind) (λ e. other (is ∙ e))
+pub head-barred : {l : Letter} (mark : ℕ) → l ≡ H → not (eqb mark 0) ≡ bars l mark
+head-barred mark is = ap (λ (k : Letter). bars k mark) (sym is)

@@ -1,289 +1,289 @@
-// A line's tests up to the count of its fields, one function for each letter, all with one contract.
+// A line's tests up to the count of its fields. Lines open in three ways, whatever else they say: with the name of a
+// predicate that is new, with that of a declared one, or with no name.
 ghost use mathlib.Core.Path.{_≡_};
-ghost use mathlib.Core.Bool.{true, false};
-ghost use Prim.Native.Nat.{ℕ, _+_, _≤_, _<_};
-ghost use Rattle.tables.specs.Tables.{SafeState, SafeFacts};
-ghost use Rattle.opening.specs.Opening.{Begins, KnownLetter, NameRead, Completes, Stands, OpensLetter, Opens};
+ghost use Prim.Native.Nat.{_≤_, _<_};
+ghost use lib.ListN.{length};
+ghost use Rattle.theory.specs.declared.Letter.the-variants.{M, NoLetter};
+ghost use Rattle.text.specs.Classes.{Classes};
+ghost use Rattle.tables.specs.Tables.{SafeState, SafeSignatures};
+ghost use Rattle.tables.specs.Lines.{most};
+ghost use Rattle.opening.specs.Opening.{besides, bars, Refers, Nameless, Begins, LetterRead, NameRead, Completes, Stands, OpensLetter, OpensDeclaration, OpensBare, Opens};
+use tables::Fault;
+use tables::Hints;
+use tables::Names;
 use tables::Opened;
+use tables::Opening;
+use tables::Signatures;
 use tables::State;
 use text::Word;
+use text::Words;
+use theory::Letter;
 
-fn refused(fault: u8) -> Opened
-    ensures { λ r. ⌜ (r .fault ≡ fault) × (r .predicate ≡ 0) × (r .letter ≡ 0) ⌝ }
+/// The letter that a line begins with.
+fn letter_of(line: &[u8]) -> Letter
+    ensures { λ r. ⌜ LetterRead (now (line .entry)) r ⌝ }
 {
-    Opened {
-        fault,
-        letter: 0,
-        predicate: 0,
-        first: 0,
-        second: 0,
-        from: 0,
+    let n = line.len();
+    if n == 0 {
+        return Letter::NoLetter;
+    }
+    if 1 < n {
+        if line[1] != b',' {
+            return Letter::NoLetter;
+        }
+    }
+    let first = line[0];
+    match first {
+        b'P' => Letter::P,
+        b'C' => Letter::C,
+        b'H' => Letter::H,
+        b'B' => Letter::B,
+        b'M' => Letter::M,
+        b'E' => Letter::E,
+        _ => Letter::NoLetter,
     }
 }
 
 /// All `M` lines of the rules so far are there.
-fn is_complete(state: State, facts: &[u8; 96]) -> bool
-    requires { ⌜ (SafeFacts (now facts)) × (state .head < 32) ⌝ }
-    ensures { λ r. ⌜ Completes (now (facts .entry)) state r ⌝ }
+fn is_complete(state: State, signatures: &Signatures) -> bool
+    requires { ⌜ (SafeSignatures (now signatures)) × (state .head < 32) ⌝ }
+    ensures { λ r. ⌜ Completes (now (signatures .entry)) state r ⌝ }
 {
     let head = state.head;
     if state.rules == 0 {
         return true;
     }
-    widths::wide(facts[64 + head]) <= state.multipliers
+    widths::wide(signatures[64 + head]) <= state.multipliers
 }
 
 /// Whether a line of this letter may stand at this point.
-fn may_stand(letter: u8, state: State, facts: &[u8; 96]) -> bool
-    requires { ⌜ (SafeFacts (now facts)) × (state .head < 32) ⌝ }
-    ensures { λ r. ⌜ Stands letter (now (facts .entry)) state r ⌝ }
+fn may_stand(letter: Letter, state: State, signatures: &Signatures) -> bool
+    requires { ⌜ (SafeSignatures (now signatures)) × (state .head < 32) ⌝ }
+    ensures { λ r. ⌜ Stands letter (now (signatures .entry)) state r ⌝ }
 {
     if state.ended {
         return false;
     }
     match letter {
-        b'P' => {
+        Letter::P => {
             if state.claimed {
                 false
             } else {
                 state.rules == 0
             }
         }
-        b'C' => state.rules == 0,
-        b'H' => is_complete(state, facts),
-        b'B' => {
+        Letter::C => state.rules == 0,
+        Letter::H => is_complete(state, signatures),
+        Letter::B => {
             if state.rules == 0 {
                 false
             } else {
                 state.multipliers == 0
             }
         }
-        b'M' => !is_complete(state, facts),
-        b'E' => is_complete(state, facts),
-        _ => false,
+        Letter::M => !is_complete(state, signatures),
+        Letter::E => is_complete(state, signatures),
+        Letter::NoLetter => false,
     }
 }
 
 /// The name in a line's second field: its words, its place among the predicates, and where the field ends.
 pub struct Named {
-    pub fine: bool,
-    pub first: u64,
-    pub second: u64,
+    pub words: Words,
     pub place: usize,
     pub stop: usize,
 }
 
-fn no_name() -> Named
-    ensures { λ r. ⌜ r .fine ≡ false ⌝ }
-{
-    Named {
-        fine: false,
-        first: 0,
-        second: 0,
-        place: 0,
-        stop: 0,
-    }
+pub enum Naming {
+    Found(Named),
+    NoName,
 }
 
-fn name_of(line: &[u8], names: &[u64; 64], known: usize) -> Named
-    requires { ⌜ ((letter : ℕ) × Begins (now line) letter) × (known ≤ 32) ⌝ }
+fn name_of(
+    line: &[u8],
+    names: &Names,
+    known: usize,
+    hints: &mut Hints,
+    classes: &[u8; 256],
+) -> Naming
+    requires { ⌜ (Begins (now line)) × (known ≤ 32) × Classes (now classes) ⌝ }
     ensures { λ r. ⌜ NameRead (now (line .entry)) (now (names .entry)) known r ⌝ }
 {
     if line.len() < 2 {
-        return no_name();
+        return Naming::NoName;
     }
-    let stop = text::find(line, 44, 2);
-    let word = text::read_word(&line[2..stop]);
+    let stop = reader::field_end(line, 2);
+    let word = text::word_between(line, 2, stop, classes);
     match word {
         Word::Name(words) => {
-            let place = text::place(names, known, words);
-            Named {
-                fine: true,
-                first: words.first,
-                second: words.second,
-                place,
-                stop,
-            }
+            let place = text::place_by(names, known, words, hints);
+            Naming::Found(Named { words, place, stop })
         }
-        Word::Variable(_) => no_name(),
-        Word::Neither => no_name(),
+        Word::Variable(_) => Naming::NoName,
+        Word::Neither => Naming::NoName,
     }
 }
 
-fn open_p(letter: u8, line: &[u8], state: State, names: &[u64; 64], facts: &[u8; 96]) -> Opened
-    requires { ⌜ (letter ≡ 80) × (Begins (now line) letter) × (SafeFacts (now facts)) × (SafeState state) ⌝ }
-    ensures { λ r. ⌜ OpensLetter letter (now (line .entry)) (now (names .entry)) (now (facts .entry)) state r ⌝ }
+/// A line of a letter that names a predicate which is not declared yet.
+fn open_declaration(
+    line: &[u8],
+    state: State,
+    names: &Names,
+    hints: &mut Hints,
+    classes: &[u8; 256],
+) -> Opening
+    requires { ⌜ (Begins (now line)) × (length (now line) ≤ 1024) × (SafeState state) × Classes (now classes) ⌝ }
+    ensures { λ r. ⌜ OpensDeclaration (now (line .entry)) (now (names .entry)) state r ⌝ }
 {
     let known = state.predicates;
-    let name = name_of(line, names, known);
-    if !name.fine {
-        return refused(7);
-    }
+    let naming = name_of(line, names, known, hints, classes);
+    let Naming::Found(name) = naming else {
+        return Opening::Misopened(Fault::Name);
+    };
     if name.place < known {
-        return refused(8);
+        return Opening::Misopened(Fault::Declaration);
     }
-    if text::count(line, 44) != 3 {
-        return refused(9);
+    if text::count(line, b',') != 3 {
+        return Opening::Misopened(Fault::FieldCount);
     }
-    Opened {
-        fault: 0,
-        letter,
+    let words = name.words;
+    Opening::Line(Opened {
+        letter: Letter::P,
         predicate: known,
-        first: name.first,
-        second: name.second,
+        words,
         from: name.stop + 1,
-    }
+    })
 }
 
-fn open_c(letter: u8, line: &[u8], state: State, names: &[u64; 64], facts: &[u8; 96]) -> Opened
-    requires { ⌜ (letter ≡ 67) × (Begins (now line) letter) × (SafeFacts (now facts)) × (SafeState state) ⌝ }
-    ensures { λ r. ⌜ OpensLetter letter (now (line .entry)) (now (names .entry)) (now (facts .entry)) state r ⌝ }
-{
-    let known = state.predicates;
-    let name = name_of(line, names, known);
-    if !name.fine {
-        return refused(7);
-    }
-    let p = name.place;
-    if known <= p {
-        return refused(8);
-    }
-    if text::count(line, 44) != widths::wide(facts[p]) + 2 {
-        return refused(9);
-    }
-    Opened {
-        fault: 0,
-        letter,
-        predicate: p,
-        first: name.first,
-        second: name.second,
-        from: name.stop + 1,
-    }
-}
-
-fn open_h(letter: u8, line: &[u8], state: State, names: &[u64; 64], facts: &[u8; 96]) -> Opened
-    requires { ⌜ (letter ≡ 72) × (Begins (now line) letter) × (SafeFacts (now facts)) × (SafeState state) ⌝ }
-    ensures { λ r. ⌜ OpensLetter letter (now (line .entry)) (now (names .entry)) (now (facts .entry)) state r ⌝ }
-{
-    let known = state.predicates;
-    let name = name_of(line, names, known);
-    if !name.fine {
-        return refused(7);
-    }
-    let p = name.place;
-    if known <= p {
-        return refused(8);
-    }
-    if facts[32 + p] != 0 {
-        return refused(8);
-    }
-    if text::count(line, 44) != widths::wide(facts[p]) + 1 {
-        return refused(9);
-    }
-    Opened {
-        fault: 0,
-        letter,
-        predicate: p,
-        first: name.first,
-        second: name.second,
-        from: name.stop + 1,
-    }
-}
-
-fn open_b(letter: u8, line: &[u8], state: State, names: &[u64; 64], facts: &[u8; 96]) -> Opened
-    requires { ⌜ (letter ≡ 66) × (Begins (now line) letter) × (SafeFacts (now facts)) × (SafeState state) ⌝ }
-    ensures { λ r. ⌜ OpensLetter letter (now (line .entry)) (now (names .entry)) (now (facts .entry)) state r ⌝ }
-{
-    let known = state.predicates;
-    let name = name_of(line, names, known);
-    if !name.fine {
-        return refused(7);
-    }
-    let p = name.place;
-    if known <= p {
-        return refused(8);
-    }
-    if text::count(line, 44) != widths::wide(facts[p]) + 1 {
-        return refused(9);
-    }
-    Opened {
-        fault: 0,
-        letter,
-        predicate: p,
-        first: name.first,
-        second: name.second,
-        from: name.stop + 1,
-    }
-}
-
-fn open_m(letter: u8, line: &[u8], state: State, names: &[u64; 64], facts: &[u8; 96]) -> Opened
-    requires { ⌜ (letter ≡ 77) × (Begins (now line) letter) × (SafeFacts (now facts)) × (SafeState state) × (state .multipliers < 16) ⌝ }
-    ensures { λ r. ⌜ OpensLetter letter (now (line .entry)) (now (names .entry)) (now (facts .entry)) state r ⌝ }
-{
-    if text::count(line, 44) != state.slots {
-        return refused(9);
-    }
-    Opened {
-        fault: 0,
-        letter,
-        predicate: 0,
-        first: 0,
-        second: 0,
-        from: 2,
-    }
-}
-
-fn open_e(letter: u8, line: &[u8], state: State, names: &[u64; 64], facts: &[u8; 96]) -> Opened
-    requires { ⌜ (letter ≡ 69) × (Begins (now line) letter) × (SafeFacts (now facts)) × (SafeState state) ⌝ }
-    ensures { λ r. ⌜ OpensLetter letter (now (line .entry)) (now (names .entry)) (now (facts .entry)) state r ⌝ }
-{
-    if text::count(line, 44) != 0 {
-        return refused(9);
-    }
-    Opened {
-        fault: 0,
-        letter,
-        predicate: 0,
-        first: 0,
-        second: 0,
-        from: 2,
-    }
-}
-
-fn open_line(letter: u8, line: &[u8], state: State, names: &[u64; 64], facts: &[u8; 96]) -> Opened
-    requires { ⌜ (KnownLetter letter) × (Begins (now line) letter) × (SafeFacts (now facts)) × (SafeState state) × (letter ≡ 77 → state .multipliers < 16) ⌝ }
-    ensures { λ r. ⌜ OpensLetter letter (now (line .entry)) (now (names .entry)) (now (facts .entry)) state r ⌝ }
+/// The commas of a line that are not in front of an argument.
+fn commas_besides(letter: Letter) -> usize
+    ensures { λ r. ⌜ r ≡ besides letter ⌝ }
 {
     match letter {
-        b'P' => open_p(letter, line, state, names, facts),
-        b'C' => open_c(letter, line, state, names, facts),
-        b'H' => open_h(letter, line, state, names, facts),
-        b'B' => open_b(letter, line, state, names, facts),
-        b'M' => open_m(letter, line, state, names, facts),
-        _ => open_e(letter, line, state, names, facts),
+        Letter::P => 0,
+        Letter::C => 2,
+        Letter::H => 1,
+        Letter::B => 1,
+        Letter::M => 0,
+        Letter::E => 0,
+        Letter::NoLetter => 0,
+    }
+}
+
+/// Whether a line of this letter may not name a declared predicate with this mark, 1 if it is given.
+fn is_barred(letter: Letter, mark: u8) -> bool
+    ensures { λ r. ⌜ r ≡ bars letter mark ⌝ }
+{
+    match letter {
+        Letter::P => false,
+        Letter::C => false,
+        Letter::H => mark != 0,
+        Letter::B => false,
+        Letter::M => false,
+        Letter::E => false,
+        Letter::NoLetter => false,
+    }
+}
+
+/// A line of a letter that names a declared predicate, with a field for each of its arguments.
+fn open_reference(
+    letter: Letter,
+    line: &[u8],
+    state: State,
+    names: &Names,
+    signatures: &Signatures,
+    hints: &mut Hints,
+    classes: &[u8; 256],
+) -> Opening
+    requires { ⌜ (Refers letter) × (Begins (now line)) × (length (now line) ≤ 1024) × (SafeState state) × (SafeSignatures (now signatures)) × Classes (now classes) ⌝ }
+    ensures { λ r. ⌜ OpensLetter letter (now (line .entry)) (now (names .entry)) (now (signatures .entry)) state r ⌝ }
+{
+    let known = state.predicates;
+    let naming = name_of(line, names, known, hints, classes);
+    let Naming::Found(name) = naming else {
+        return Opening::Misopened(Fault::Name);
+    };
+    let place = name.place;
+    if known <= place {
+        return Opening::Misopened(Fault::Declaration);
+    }
+    if is_barred(letter, signatures[32 + place]) {
+        return Opening::Misopened(Fault::Declaration);
+    }
+    if text::count(line, b',') != widths::wide(signatures[place]) + commas_besides(letter) {
+        return Opening::Misopened(Fault::FieldCount);
+    }
+    let words = name.words;
+    Opening::Line(Opened {
+        letter,
+        predicate: place,
+        words,
+        from: name.stop + 1,
+    })
+}
+
+/// A line of a letter that names no predicate, with a number of commas.
+fn open_bare(letter: Letter, commas: usize, line: &[u8], state: State) -> Opening
+    requires { ⌜ (Nameless letter) × (commas ≡ most letter state) × (Begins (now line)) × (length (now line) ≤ 1024) × (letter ≡ M → state .multipliers < 16) ⌝ }
+    ensures { λ r. ⌜ OpensBare letter (now (line .entry)) state r ⌝ }
+{
+    if text::count(line, b',') != commas {
+        return Opening::Misopened(Fault::FieldCount);
+    }
+    let words = Words {
+        first: 0,
+        second: 0,
+    };
+    Opening::Line(Opened {
+        letter,
+        predicate: 0,
+        words,
+        from: 2,
+    })
+}
+
+/// A line of a letter that may stand here.
+fn open_letter(
+    letter: Letter,
+    line: &[u8],
+    state: State,
+    names: &Names,
+    signatures: &Signatures,
+    hints: &mut Hints,
+    classes: &[u8; 256],
+) -> Opening
+    requires { ⌜ (letter ≡ NoLetter → ⊥) × (Begins (now line)) × (length (now line) ≤ 1024) × (SafeState state) × (SafeSignatures (now signatures)) × (letter ≡ M → state .multipliers < 16) × Classes (now classes) ⌝ }
+    ensures { λ r. ⌜ OpensLetter letter (now (line .entry)) (now (names .entry)) (now (signatures .entry)) state r ⌝ }
+{
+    match letter {
+        Letter::P => open_declaration(line, state, names, hints, classes),
+        Letter::C => open_reference(letter, line, state, names, signatures, hints, classes),
+        Letter::H => open_reference(letter, line, state, names, signatures, hints, classes),
+        Letter::B => open_reference(letter, line, state, names, signatures, hints, classes),
+        Letter::M => open_bare(letter, state.slots, line, state),
+        Letter::E => open_bare(letter, 0, line, state),
+        Letter::NoLetter => Opening::Misopened(Fault::Letter),
     }
 }
 
 /// A line's tests up to the count of its fields.
-pub fn open(line: &[u8], state: State, names: &[u64; 64], facts: &[u8; 96]) -> Opened
-    requires { ⌜ (SafeFacts (now facts)) × (SafeState state) ⌝ }
-    ensures { λ r. ⌜ Opens (now (line .entry)) (now (names .entry)) (now (facts .entry)) state r ⌝ }
+pub fn open(
+    line: &[u8],
+    state: State,
+    names: &Names,
+    signatures: &Signatures,
+    hints: &mut Hints,
+    classes: &[u8; 256],
+) -> Opening
+    requires { ⌜ (SafeSignatures (now signatures)) × (SafeState state) × Classes (now classes) ⌝ }
+    ensures { λ r. ⌜ Opens (now (line .entry)) (now (names .entry)) (now (signatures .entry)) state r ⌝ }
 {
     if text::is_unfit(line) {
-        return refused(4);
+        return Opening::Misopened(Fault::UnfitLine);
     }
-    let n = line.len();
-    if n == 0 {
-        return refused(5);
+    let letter = letter_of(line);
+    if !may_stand(letter, state, signatures) {
+        return Opening::Misopened(Fault::Letter);
     }
-    if 1 < n {
-        if line[1] != 44 {
-            return refused(5);
-        }
-    }
-    let letter = line[0];
-    if !may_stand(letter, state, facts) {
-        return refused(5);
-    }
-    open_line(letter, line, state, names, facts)
+    open_letter(letter, line, state, names, signatures, hints, classes)
 }

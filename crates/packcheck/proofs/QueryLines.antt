@@ -23,27 +23,27 @@ use Rattle.reservation.specs.Answering.{PackHeld, Responds}
 use Rattle.packcheck.specs.Printing.{printedQueries, PutsQueries}
 use Rattle.packcheck.proofs.ReplyLengths.{line-fits}
 
-pub record QueriesPut (input : Bytes) (from : ℕ) (verdict : Verdict) (names facts : List ℕ) (claims : List ℤ) (known : ℕ) (page₀ : List ℕ) (written : ℕ) (page : List ℕ) (at r : ℕ) : Type 0 where
+pub record QueriesPut (input : Bytes) (from : ℕ) (verdict : Verdict) (names signatures : List ℕ) (claims : List ℤ) (known : ℕ) (page₀ : List ℕ) (written : ℕ) (page : List ℕ) (at r : ℕ) : Type 0 where
   pub size : length page ≡ length page₀
   pub small : r ≤ 24 + 9 * at
   pub past : at ≤ length input + 1
-  pub tells : (text : Bytes) → PackHeld text verdict names facts claims known → take r page ++ printedQueries text (linesOf (drop at input)) ≡ take written page₀ ++ printedQueries text (linesOf (drop from input))
+  pub tells : (text : Bytes) → PackHeld text verdict names signatures claims known → take r page ++ printedQueries text (linesOf (drop at input)) ≡ take written page₀ ++ printedQueries text (linesOf (drop from input))
 
 -- a line in front of the others
 line-first : (text query : Bytes) (queries : List Bytes) → printedQueries text (query ∷ queries) ≡ textOf (printedFields (reserveOf text query) ∷ []) ++ printedQueries text queries
 unfolding textOf
 line-first text query queries = sym (append-assoc (printedFields (reserveOf text query)) (10 ∷ []) (printedQueries text queries))
 
-module _ {input : Bytes} {from : ℕ} {verdict : Verdict} {names facts : List ℕ} {claims : List ℤ} {known : ℕ} {page₀ : List ℕ} {written : ℕ} where
-  pub queries-begin : written ≤ 24 → from ≤ length input → QueriesPut input from verdict names facts claims known page₀ written page₀ from written
+module _ {input : Bytes} {from : ℕ} {verdict : Verdict} {names signatures : List ℕ} {claims : List ℤ} {known : ℕ} {page₀ : List ℕ} {written : ℕ} where
+  pub queries-begin : written ≤ 24 → from ≤ length input → QueriesPut input from verdict names signatures claims known page₀ written page₀ from written
   queries-begin few within = record { size = refl; small = omega arith; past = omega arith; tells = λ text held. refl }
 
-  pub queries-more : {page behind : List ℕ} {at r end q : ℕ} (answer : Reservation) (three : Three) → QueriesPut input from verdict names facts claims known page₀ written page at r
-      → at < length input → length input ≤ 65536 → 589888 ≤ length page₀ → Finds input 10 at end → ((text : Bytes) × PackHeld text verdict names facts claims known)
-      → Responds verdict (part input at end) names facts claims known answer → fields (three .letter) (three .middle) (three .claim) ≡ reservedFields answer
-      → Puts (textOf (printedFields (fields (three .letter) (three .middle) (three .claim)) ∷ [])) (midOf r (length page - r) page) behind q → q ≤ 27
-      → QueriesPut input from verdict names facts claims known page₀ written (putMid r (length page - r) page behind) (end + 1) (r + q)
-  queries-more {page} {behind} {at} {r} {end} {q} answer three put inside short room found some responds is puts few =
+  pub queries-more : {page after : List ℕ} {at r end q : ℕ} (answer : Reservation) (three : Three) → QueriesPut input from verdict names signatures claims known page₀ written page at r
+      → at < length input → length input ≤ 65536 → 589888 ≤ length page₀ → Finds input 10 at end → ((text : Bytes) × PackHeld text verdict names signatures claims known)
+      → Responds verdict (part input at end) names signatures claims known answer → fields (three .letter) (three .middle) (three .claim) ≡ reservedFields answer
+      → Puts (textOf (printedFields (fields (three .letter) (three .middle) (three .claim)) ∷ [])) (midOf r (length page - r) page) after q → q ≤ 27
+      → QueriesPut input from verdict names signatures claims known page₀ written (putMid r (length page - r) page after) (end + 1) (r + q)
+  queries-more {page} {after} {at} {r} {end} {q} answer three put inside short room found some responds is puts few =
       let query = part input at end in
       let more = textOf (printedFields (fields (three .letter) (three .middle) (three .claim)) ∷ []) in
       let whole = puts-part {more = more} {page = page} {at = r} (omega (arith, put .size, put .small)) puts in
@@ -67,7 +67,7 @@ module _ {input : Bytes} {from : ℕ} {verdict : Verdict} {names facts : List �
       part-length : length (part input at end) ≡ end - at
       part-length = length-take-le (end - at) (drop at input) (omega (arith, length-drop at input, found .high))
 
-  pub queries-done : {page : List ℕ} {at r : ℕ} → QueriesPut input from verdict names facts claims known page₀ written page at r → length input ≤ at → length input ≤ 65536 → PutsQueries input from verdict names facts claims known page₀ written page r
+  pub queries-done : {page : List ℕ} {at r : ℕ} → QueriesPut input from verdict names signatures claims known page₀ written page at r → length input ≤ at → length input ≤ 65536 → PutsQueries input from verdict names signatures claims known page₀ written page r
   unfolding textOf
   queries-done {page} {at} {r} put all short = record {
     size = put .size;

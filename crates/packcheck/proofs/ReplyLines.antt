@@ -32,9 +32,9 @@ module _ (input : Bytes) where
   long-reply four long is puts few room = (numbers-line four is puts ∙ rw (lt-ltb _ _ long) refl, omega arith)
 
   -- the input is short enough, and its pack ends at a place
-  pub whole-reply : (four : Four) {end : ℕ} {verdict : Verdict} {names facts : List ℕ} {claims : List ℤ} {known : ℕ} {page₀ page₁ page : List ℕ} {written r : ℕ} → length input ≤ 65536 → PackEnds input end
-      → PackHeld (take end input) verdict names facts claims known → numbers (four .number) (four .line) (four .rule) (four .claim) ≡ numbersOf verdict
-      → Puts (numbersLine four) page₀ page₁ written → PutsQueries input end verdict names facts claims known page₁ written page r → 589888 ≤ length page
+  pub whole-reply : (four : Four) {end : ℕ} {verdict : Verdict} {names signatures : List ℕ} {claims : List ℤ} {known : ℕ} {page₀ page₁ page : List ℕ} {written r : ℕ} → length input ≤ 65536 → PackEnds input end
+      → PackHeld (take end input) verdict names signatures claims known → numbers (four .number) (four .line) (four .rule) (four .claim) ≡ numbersOf verdict
+      → Puts (numbersLine four) page₀ page₁ written → PutsQueries input end verdict names signatures claims known page₁ written page r → 589888 ≤ length page
       → (take r page ≡ reply input) × (r ≤ length page)
   unfolding reply textOf
   whole-reply four {end} {verdict} short ends held is puts more room =

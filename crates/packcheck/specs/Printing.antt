@@ -15,7 +15,7 @@ use Rattle.reservation.specs.Answering.{PackHeld}
 abbrev pub printedQueries : Bytes → List Bytes → Bytes
 printedQueries text queries = textOf (map (λ (q : Bytes). printedFields (reserveOf text q)) queries)
 
-pub record PutsQueries (input : Bytes) (from : ℕ) (verdict : Verdict) (names facts : List ℕ) (claims : List ℤ) (known : ℕ) (page₀ : List ℕ) (written : ℕ) (page : List ℕ) (r : ℕ) : Type 0 where
+pub record PutsQueries (input : Bytes) (from : ℕ) (verdict : Verdict) (names signatures : List ℕ) (claims : List ℤ) (known : ℕ) (page₀ : List ℕ) (written : ℕ) (page : List ℕ) (r : ℕ) : Type 0 where
   pub size : length page ≡ length page₀
   pub small : r ≤ 589888
-  pub tells : (text : Bytes) → PackHeld text verdict names facts claims known → take r page ≡ take written page₀ ++ printedQueries text (linesOf (drop from input))
+  pub tells : (text : Bytes) → PackHeld text verdict names signatures claims known → take r page ≡ take written page₀ ++ printedQueries text (linesOf (drop from input))

@@ -32,21 +32,28 @@ fn put_queries(
     from: usize,
     verdict: Verdict,
     names: &[u64; 64],
-    facts: &[u8; 96],
+    signatures: &[u8; 96],
     claims: &[i16; 4608],
     known: usize,
     page: &mut [u8],
     written: usize,
 ) -> usize
-    requires { ⌜ (length (now input) ≤ 65536) × (from ≤ length (now input)) × (written ≤ 24) × (589888 ≤ length (now page)) × (Ready verdict (now facts) (now claims) known) × ((text : Bytes) × PackHeld text verdict (now names) (now facts) (now claims) known) ⌝ }
-    ensures { λ r. ⌜ PutsQueries (now (input .entry)) from verdict (now (names .entry)) (now (facts .entry)) (now (claims .entry)) known (now (page .entry)) written (now (page .exit)) r ⌝ }
+    requires { ⌜ (length (now input) ≤ 65536) × (from ≤ length (now input)) × (written ≤ 24) × (589888 ≤ length (now page)) × (Ready verdict (now signatures) (now claims) known) × ((text : Bytes) × PackHeld text verdict (now names) (now signatures) (now claims) known) ⌝ }
+    ensures { λ r. ⌜ PutsQueries (now (input .entry)) from verdict (now (names .entry)) (now (signatures .entry)) (now (claims .entry)) known (now (page .entry)) written (now (page .exit)) r ⌝ }
 {
     let len = input.len();
     let mut at = from;
     let mut length = written;
     while at < len {
         let end = text::find(input, 10, at);
-        let answer = reservation::respond(verdict, &input[at..end], names, facts, claims, known);
+        let answer = reservation::respond(
+            verdict,
+            &input[at..end],
+            names,
+            signatures,
+            claims,
+            known,
+        );
         let fields = answers::fields_of(answer);
         length = length + replies::put_fields(&mut page[length..], fields);
         at = end + 1;
@@ -66,20 +73,9 @@ pub fn reply(input: &[u8]) -> Printed
     }
     let end = replies::pack_end(input);
     let mut names = [0u64; 64];
-    let mut facts = [0u8; 96];
+    let mut signatures = [0u8; 96];
     let mut claims = [0i16; 4608];
-    let mut variables = [0u64; 64];
-    let mut numbers = [0i64; 1305];
-    let mut slots = [0u16; 256];
-    let l = packs::load(
-        &input[..end],
-        &mut names,
-        &mut facts,
-        &mut claims,
-        &mut variables,
-        &mut numbers,
-        &mut slots,
-    );
+    let l = packs::load(&input[..end], &mut names, &mut signatures, &mut claims);
     let verdict = l.verdict;
     let state = l.state;
     let written = replies::put_numbers(&mut page[..], answers::numbers_of(verdict));
@@ -88,7 +84,7 @@ pub fn reply(input: &[u8]) -> Printed
         end,
         verdict,
         &names,
-        &facts,
+        &signatures,
         &claims,
         state.predicates,
         &mut page[..],

@@ -1,21 +1,22 @@
 -- `E` lines.
-use mathlib.Core.Path.{_≡_, sym}
+use mathlib.Core.Path.{_≡_, sym, _∙_, ap, subst}
 use mathlib.Core.Bool.{true, _||_, or-true}
+use Rattle.theory.specs.declared.Letter.the-variants.{E}
 use Rattle.theory.specs.Text.{Bytes, fieldsOf}
-use Rattle.theory.specs.Written.{E, Written, write, add}
+use Rattle.theory.specs.Written.{Written, write, add}
 use Rattle.theory.specs.Faults.{firstOf, tests, fault}
+use Rattle.theory.proofs.Judging.LineWriting.{write-as}
 use Rattle.tables.specs.declared.State.{State}
 use Rattle.tables.specs.declared.Opened.{Opened}
+use Rattle.tables.specs.declared.Closing.{Closing}
+use Rattle.tables.specs.declared.Closing.the-variants.{Done}
+use Rattle.tables.specs.Faults.{closingNumber}
 use Rattle.tables.specs.Tables.{Tables, Holds, Safe}
-use Rattle.closing.specs.Closing.{withEnd}
-use Rattle.packs.specs.Progress.{PassedAs}
-use Rattle.packs.proofs.Passing.{write-as}
+use Rattle.tables.specs.Lines.{Passed, ClosedFor}
+use Rattle.tables.proofs.Outcomes.{done-state}
+use Rattle.packs.specs.Steps.{withEnd}
 
-pub record ClosedE (line : Bytes) (w : Written) (t : Tables) (s : State) : Type 0 where
-  pub answer : fault w line ≡ 0
-  pub holds : Holds t (withEnd s) (write w line)
-
-e-left : (line : Bytes) (s : State) (w : Written) (o : Opened) → PassedAs E line s w o → fault w line ≡ 0
+e-left : (line : Bytes) (s : State) (w : Written) (o : Opened) → Passed E line s w o → fault w line ≡ 0
 unfolding firstOf tests
 e-left line s w o passed = passed .left
 
@@ -45,22 +46,22 @@ e-holds line t s w holds =
       ended = sym (or-true (w .ended));
     }
 
-pub e-close : (line : Bytes) (t : Tables) (s : State) (w : Written) (o : Opened) → Holds t s w → PassedAs E line s w o → ClosedE line w t s
-e-close line t s w o holds passed =
+pub e-close : (line : Bytes) (t : Tables) (s : State) (w : Written) (o : Opened) (r : Closing) → Holds t s w → Passed E line s w o → r ≡ Done (withEnd s) → ClosedFor line w r t
+e-close line t s w o r holds passed done =
     record {
-      answer = e-left line s w o passed;
-      holds = rw (write-as E w line (passed .first)) (e-holds line t s w holds);
+      answer = e-left line s w o passed ∙ ap closingNumber (sym done);
+      holds = λ next is. subst (λ (x : State). Holds t x (write w line)) (done-state (sym done ∙ is)) (rw (write-as E w line (passed .first)) (e-holds line t s w holds));
     }
 
 -- the ranges are kept
-pub e-safe : (t : Tables) (s : State) → Safe t s → Safe t (withEnd s)
-e-safe t s safe =
+pub e-safe : (t : Tables) (s next : State) → Safe t s → Done (withEnd s) ≡ Done next → Safe t next
+e-safe t s next safe is =
     let state = safe .state in
-    record {
+    subst (Safe t) (done-state is) (record {
       sizes = safe .sizes;
       state = record { predicates = state .predicates; rules = state .rules; head = state .head; subgoals = state .subgoals; variables = state .variables; slots = state .slots; multipliers = state .multipliers; lines = state .lines };
-      facts = safe .facts;
+      signatures = safe .signatures;
       claims = safe .claims;
-      numbers = safe .numbers;
+      rows = safe .rows;
       slots = safe .slots;
-    }
+    })

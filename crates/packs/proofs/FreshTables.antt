@@ -3,28 +3,30 @@ use mathlib.Core.Path.{_≡_, refl, subst⁻¹}
 use Prim.Native.Nat.{ℕ, _+_}
 use native.Mathlib.Omega.{arith}
 use lib.IntN.{pos}
-use lib.ListN.{length-replicate}
-use Rattle.integers.proofs.Lists.{same-everywhere}
+use lib.ListN.{replicate, length-replicate}
+use Rattle.groundwork.proofs.Lists.{same-everywhere}
 use Rattle.theory.specs.Lists.{isEmpty}
 use Rattle.theory.specs.Written.{nothing}
 use Rattle.theory.specs.Check.{multiplierLines}
 use Rattle.tables.specs.declared.State.{State}
-use Rattle.tables.specs.Tables.{Tables, Holds, NoWeights, Safe}
+use Rattle.tables.specs.Tables.{Tables, Holds, NoWeights, slotsOf, Safe}
 use Rattle.packs.specs.Loading.{begun, fresh}
 
 pub fresh-safe : Safe fresh begun
+unfolding slotsOf
 fresh-safe =
     record {
-      sizes = record { names = length-replicate {A = ℕ} 64 0; facts = length-replicate {A = ℕ} 96 0; claims = length-replicate 4608 (pos 0); variables = length-replicate {A = ℕ} 64 0; numbers = length-replicate 1305 (pos 0); slots = length-replicate {A = ℕ} 256 0 };
+      sizes = record { names = length-replicate {A = ℕ} 64 0; signatures = length-replicate {A = ℕ} 96 0; claims = length-replicate 4608 (pos 0); variables = length-replicate {A = ℕ} 64 0; rows = length-replicate {A = ℕ} 1224 0; slots = length-replicate {A = ℕ} 256 0 };
       state = record { predicates = omega arith; rules = omega arith; head = omega arith; subgoals = omega arith; variables = omega arith; slots = omega arith; multipliers = omega arith; lines = omega arith };
-      facts = record { arity = λ i below. rw (same-everywhere {A = ℕ} 0 96 i) (omega arith); count = λ i below. rw (same-everywhere {A = ℕ} 0 96 (64 + i)) (omega arith) };
+      signatures = record { arity = λ i below. rw (same-everywhere {A = ℕ} 0 96 i) (omega arith); count = λ i below. rw (same-everywhere {A = ℕ} 0 96 (64 + i)) (omega arith) };
       claims = record { small = λ i. rw (same-everywhere (pos 0) 4608 i) (omega arith) };
-      numbers = record { small = λ i. rw (same-everywhere (pos 0) 1305 i) (omega arith) };
-      slots = record { place = λ k below. absurd (omega arith); subgoal = λ k below. absurd (omega arith) };
+      rows = record { small = λ i. rw (same-everywhere {A = ℕ} 0 1224 i) (omega arith) };
+      slots = record { place = λ k below. absurd (omega arith); subgoal = λ k below. absurd (omega arith); few = λ subgoal. omega arith };
     }
 
-pub fresh-clear : NoWeights (fresh .numbers)
-fresh-clear = record { zero = λ i below. same-everywhere (pos 0) 1305 i }
+-- no weights stand in an array of zeros
+pub zeros-clear : NoWeights (replicate 81 (pos 0))
+zeros-clear = record { size = length-replicate 81 (pos 0); zero = λ i. same-everywhere (pos 0) 81 i }
 
 pub fresh-holds : Holds fresh begun nothing
 unfolding nothing multiplierLines isEmpty
@@ -40,8 +42,5 @@ fresh-holds =
     }
 
 -- tables of zeros and that state are ready for the lines
-pub fresh-ready : {t : Tables} {s : State} → t ≡ fresh → s ≡ begun → Safe t s × NoWeights (t .numbers)
-fresh-ready {t = t} {s = s} isFresh isBegun = (
-  subst⁻¹ (λ (x : State). Safe t x) isBegun (subst⁻¹ (λ (x : Tables). Safe x begun) isFresh fresh-safe),
-  subst⁻¹ (λ (x : Tables). NoWeights (x .numbers)) isFresh fresh-clear,
-)
+pub fresh-ready : {t : Tables} {s : State} → t ≡ fresh → s ≡ begun → Safe t s
+fresh-ready {t = t} isFresh isBegun = subst⁻¹ (λ (x : State). Safe t x) isBegun (subst⁻¹ (λ (x : Tables). Safe x begun) isFresh fresh-safe)

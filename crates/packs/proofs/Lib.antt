@@ -1,30 +1,13 @@
--- What each line does to the tables, against what it writes.
-pub mod Passing
-pub mod Places
-pub mod Declared
-pub mod ClaimTable
-pub mod FaultTests
-pub mod PredicateLines
-pub mod ClaimLines
-pub mod EndLines
-pub mod RuleCounts
-pub mod Slots
-pub mod TermRows
-pub mod AtomLines
-pub mod HeadLines
-pub mod SubgoalLines
-pub mod WeightedSums
-pub mod FormNumbers
-pub mod LineResiduals
-pub mod MultiplierTables
-pub mod MultiplierAnswers
-pub mod MultiplierLines
-pub mod AreaLaying
-pub mod Refusals
-pub mod FaultNumbers
+-- The steps of a line, by its letter.
+pub mod Steps
 pub mod FieldLoop
+pub mod EndLines
 pub mod LineEnds
-pub mod LineLoop
 pub mod JudgedLines
+-- The lines of a text.
+pub mod LineLoop
+pub mod Turns
+-- Loading and check.
 pub mod FreshTables
 pub mod LoadAnswers
+pub mod AreaLaying

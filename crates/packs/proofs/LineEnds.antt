@@ -1,195 +1,137 @@
 -- A line that is read whole: its last tests, whatever its letter.
 use mathlib.Core.Path.{_≡_, refl, sym, _∙_, ap, subst, subst⁻¹}
-use mathlib.Core.Logic.{_⊎_, inl, inr, ⊎-elim}
-use mathlib.Core.Bool.{Bool, true, false, cond, _||_}
 use mathlib.Core.List.{List}
-use Prim.Native.Nat.{ℕ, _+_}
+use Prim.Native.Nat.{ℕ, _≤_, _<_}
 use native.Mathlib.Omega.{arith}
-use lib.Dec.{leb, ltb}
 use lib.IntN.{ℤ}
-use lib.ListN.{length, getD, drop, length-drop}
+use lib.ListN.{length, drop, length-drop}
+use Rattle.theory.specs.declared.Letter.{Letter}
+use Rattle.theory.specs.declared.Letter.the-variants.{P, C, H, B, M, E, NoLetter}
 use Rattle.theory.specs.Text.{Bytes, fieldsOf}
-use Rattle.theory.specs.Written.{Letter, P, C, H, B, M, E, noLetter, Written, write}
-use Rattle.theory.specs.Faults.{fault}
+use Rattle.theory.specs.Written.{Written}
 use Rattle.tables.specs.declared.State.{State}
+use Rattle.tables.specs.declared.Fault.{Fault}
+use Rattle.tables.specs.declared.Fault.the-variants.{CountLimit, Unjustified}
 use Rattle.tables.specs.declared.Opened.{Opened}
-use Rattle.tables.specs.declared.Closed.{Closed}
-use Rattle.tables.specs.Tables.{Tables, tables, Holds, NoWeights, Safe}
-use Rattle.text.specs.Scans.{partsFrom}
-use Rattle.opening.specs.Opening.{skipped, KnownLetter, Opens}
-use Rattle.closing.specs.Closing.{CloseDone}
-use Rattle.packs.specs.Progress.{ProgressP, Progress, PassedAs}
-use Rattle.packs.specs.Between.{FieldsRead, ClosedFor, LineClosed}
-use Rattle.packs.proofs.Passing.{passed-as}
-use Rattle.packs.proofs.PredicateLines.{p-close, p-safe}
-use Rattle.packs.proofs.ClaimLines.{c-close, c-safe}
-use Rattle.packs.proofs.HeadLines.{h-close, h-safe}
-use Rattle.packs.proofs.SubgoalLines.{b-close, b-safe}
-use Rattle.packs.proofs.MultiplierLines.{m-close, m-cleared, m-safe}
+use Rattle.tables.specs.declared.Closing.{Closing}
+use Rattle.tables.specs.declared.Closing.the-variants.{Done, Misclosed}
+use Rattle.tables.specs.Tables.{Tables, tables, Holds, NoWeights, SafeRows, Safe}
+use Rattle.tables.specs.Lines.{skipped, most, Passed, ClosedFor}
+use Rattle.tables.proofs.Outcomes.{done-misclosed}
+use Rattle.certificates.specs.Sums.{Summable}
+use Rattle.certificates.specs.Multipliers.{ProgressM, ClosesM}
+use Rattle.declarations.specs.Fields.{ProgressP}
+use Rattle.declarations.proofs.PredicateLines.{p-limit, p-close, p-safe}
+use Rattle.declarations.proofs.ClaimLines.{c-limit, c-close, c-safe}
+use Rattle.atoms.proofs.HeadLines.{h-limit, h-close, h-safe}
+use Rattle.atoms.proofs.SubgoalLines.{b-limit, b-close, b-safe}
+use Rattle.certificates.proofs.MultiplierLines.{m-summable, m-close, m-left, m-left-summable, m-cleared, m-safe}
+use Rattle.packs.specs.Steps.{Stores, Tabled, tabled, CloseNeeds, CloseLeaves, Progress}
+use Rattle.packs.specs.Between.{FieldsRead, LineJudged}
+use Rattle.packs.proofs.FieldLoop.{fieldsFrom}
 use Rattle.packs.proofs.EndLines.{e-close, e-safe}
 
--- the one fault that a limit gives
-at-limit : (past : Bool) (n : ℕ) → n ≡ cond past 12 0 → (n ≡ 0 → ⊥) → n ≡ 12
-at-limit true n is bad = is
-at-limit false n is bad = absurd (bad is)
+claim-other : C ≡ P → ⊥
+claim-other e = let never : _≡_ {A = ℕ} 0 1 = cc in absurd (omega arith)
 
--- what holds after a line whatever the lines write
-record Kept (r : Closed) (t : Tables) : Type 0 where
-  number : (r .fault ≡ 0 → ⊥) → (r .fault ≡ 12) ⊎ (r .fault ≡ 13)
-  size : length (t .numbers) ≡ 1305
-  safe : r .fault ≡ 0 → Safe t (r .state)
-  clear : r .fault ≡ 0 → NoWeights (t .numbers)
+head-other : H ≡ P → ⊥
+head-other e = let never : _≡_ {A = ℕ} 0 1 = cc in absurd (omega arith)
 
-module _ {line : Bytes} {t : Tables} {s : State} {o : Opened} {many from index : ℕ} {small : List ℕ} {row : List ℤ} {variables : List ℕ} {numbers₀ : List ℤ} {r : Closed} {names facts : List ℕ} {claims numbers : List ℤ} {slots : List ℕ}
-    (before : Safe t s) (opens : Opens line (t .names) (t .facts) s o) (fine : o .fault ≡ 0) (read : FieldsRead line t s o many from index small row variables numbers₀) (all : index ≡ length (partsFrom 44 line (o .from)))
-    (done : CloseDone o s many small row (t .names) (t .facts) (t .claims) numbers₀ (t .slots) r names facts claims numbers slots) where
-  abbrev after : Tables
-  after = tables names facts claims variables numbers slots
+subgoal-other : B ≡ P → ⊥
+subgoal-other e = let never : _≡_ {A = ℕ} 0 1 = cc in absurd (omega arith)
 
-  -- ---- the tables after a line of each letter
+limit-justified : CountLimit ≡ Unjustified → ⊥
+limit-justified e = let never : _≡_ {A = ℕ} 0 1 = cc in absurd (omega arith)
 
-  after-p : o .letter ≡ 80 → after ≡ tables names facts (t .claims) (t .variables) (t .numbers) (t .slots)
-  after-p is =
-      let same = done .p is in
-      let variablesKept = read .variablesKept (λ e. omega arith) (λ e. omega arith) in
-      let numbersKept = same .2 ∙ read .numbersKept (λ e. omega arith) (λ e. omega arith) (λ e. omega arith) in
-      λ i. tables names facts (same .1 i) (variablesKept i) (numbersKept i) (same .3 i)
+-- no weights can be summed
+pub unweighed : {weights : List ℤ} {rows : List ℕ} → NoWeights weights → SafeRows rows → Summable weights rows
+unweighed clear rows = record { size = clear .size; weight = λ i. rw (clear .zero i) (omega arith); row = rows }
 
-  after-c : o .letter ≡ 67 → after ≡ tables (t .names) facts claims (t .variables) (t .numbers) (t .slots)
-  after-c is =
-      let same = done .c is in
-      let variablesKept = read .variablesKept (λ e. omega arith) (λ e. omega arith) in
-      let numbersKept = same .2 ∙ read .numbersKept (λ e. omega arith) (λ e. omega arith) (λ e. omega arith) in
-      λ i. tables (same .1 i) facts claims (variablesKept i) (numbersKept i) (same .3 i)
+-- a line whose end only a limit can refuse, with the tables x after it
+limited : {line : Bytes} {s : State} {t t₁ : Tables} {r : Closing} {weights₀ weights : List ℤ} (x : Tables) → t₁ ≡ x → weights ≡ weights₀ → NoWeights weights₀ → SafeRows (t₁ .rows) → ((f : Fault) → r ≡ Misclosed f → f ≡ CountLimit)
+    → ((next : State) → r ≡ Done next → Safe x next) → ((w : Written) → Holds t s w → ClosedFor line w r x) → LineJudged line s t r t₁ weights
+limited {line} {t₁ = t₁} {r = r} x after same clear rows limit safe tells = record {
+  safe = λ next done. (subst⁻¹ (λ (y : Tables). Safe y next) after (safe next done), subst⁻¹ NoWeights same clear);
+  summable = subst⁻¹ (λ (ws : List ℤ). Summable ws (t₁ .rows)) same (unweighed clear rows);
+  tells = λ w holds. subst⁻¹ (ClosedFor line w r) after (tells w holds);
+  left = λ w holds bad. absurd (limit-justified (sym (limit Unjustified bad)));
+}
 
-  after-h : o .letter ≡ 72 → after ≡ tables (t .names) (t .facts) (t .claims) variables numbers₀ (t .slots)
-  after-h is =
-      let same = done .h is in
-      λ i. tables (same .1 i) (same .2 i) (same .3 i) variables (same .4 i) (same .5 i)
+-- the weights after an `M` line: none where it passes, those of its claim where it does not
+weighed-closing : {t : Tables} {s : State} → Safe t s → {weights₀ weights : List ℤ} {fs : List Bytes} {n : ℕ} (r : Closing) {r₁ : Closing} → r₁ ≡ r → ClosesM s (t .claims) weights₀ (t .rows) r₁ weights → n ≤ s .slots → ProgressM fs n (t .claims) (t .slots) weights₀ → Summable weights (t .rows)
+weighed-closing safe (Done next) is closes few progress = unweighed (m-cleared closes is) (safe .rows)
+weighed-closing safe (Misclosed f) is closes few progress = m-left-summable safe few progress closes is
 
-  after-b : o .letter ≡ 66 → after ≡ tables (t .names) (t .facts) (t .claims) variables numbers₀ slots
-  after-b is =
-      let same = done .b is in
-      λ i. tables (same .1 i) (same .2 i) (same .3 i) variables (same .4 i) slots
+-- what the end of a line writes to, before it, and the tables after it
+abbrev pub unclosed : Tables → Stores → Tabled
+unclosed t x = tabled (t .names) (t .signatures) (t .claims) (t .slots) (x .weights)
 
-  after-m : o .letter ≡ 77 → after ≡ tables (t .names) (t .facts) (t .claims) (t .variables) numbers (t .slots)
-  after-m is =
-      let same = done .m is in
-      let variablesKept = read .variablesKept (λ e. omega arith) (λ e. omega arith) in
-      λ i. tables (same .1 i) (same .2 i) (same .3 i) (variablesKept i) numbers (same .4 i)
+abbrev pub closedTables : Stores → Tabled → Tables
+closedTables x y = tables (y .names) (y .signatures) (y .claims) (x .variables) (x .rows) (y .slots)
 
-  after-e : o .letter ≡ 69 → after ≡ t
-  after-e is =
-      let same = done .e is in
-      let variablesKept = read .variablesKept (λ e. omega arith) (λ e. omega arith) in
-      let numbersKept = same .5 ∙ read .numbersKept (λ e. omega arith) (λ e. omega arith) (λ e. omega arith) in
-      λ i. tables (same .2 i) (same .3 i) (same .4 i) (variablesKept i) (numbersKept i) (same .6 i)
+module _ {line : Bytes} {t : Tables} {s : State} {o : Opened} (safe : Safe t s) {many from index : ℕ} {x : Stores} where
+  pub closable : (letter : Letter) → FieldsRead letter line t s o many from index x → length (fieldsFrom line o) ≤ most letter s → ((letter ≡ P → ⊥) → o .predicate < 32) → (letter ≡ M → s .multipliers < 16) → index ≡ length (fieldsFrom line o)
+      → CloseNeeds letter o s (x .rows) (unclosed t x)
+  closable P read few place due past = tt
+  closable C read few place due past = (place claim-other, safe .signatures, safe .sizes .claims)
+  closable H read few place due past = safe .state .rules
+  closable B read few place due past = (place subgoal-other, safe .signatures, safe .state .slots, safe .sizes .slots)
+  closable M read few place due past =
+      (safe .state .head, due refl, safe .state .subgoals, safe .claims, rw (read .untouched .1) (m-summable safe (omega arith) (read .weighed)), omega (arith, safe .state .lines, safe .state .rules, safe .state .multipliers))
+  closable E read few place due past = tt
+  closable NoLetter read few place due past = tt
 
-  -- ---- whatever the lines write
+  -- all fields are read
+  whole : (letter : Letter) → FieldsRead letter line t s o many from index x → index ≡ length (fieldsFrom line o) → (w : Written) → Holds t s w → (passed : Passed letter line s w o)
+      → Progress letter line w s t (length (drop (skipped letter) (fieldsOf line))) many x
+  whole letter read past w holds passed = subst (λ (n : ℕ). Progress letter line w s t n many x) (past ∙ ap length (passed .rest)) (read .tells w holds passed)
 
-  -- only a limit refuses a line that is not of multipliers
-  only-limit : {byte : ℕ} → KnownLetter byte → o .letter ≡ byte → (o .letter ≡ 77 → ⊥) → (r .fault ≡ 0 → ⊥) → r .fault ≡ 12
-  only-limit KnownLetter.p is other = at-limit (leb 32 (s .predicates)) (r .fault) (done .p is .0 .answer)
-  only-limit KnownLetter.c is other = at-limit (leb 16 (getD (t .facts) (64 + o .predicate) 0)) (r .fault) (done .c is .0 .answer)
-  only-limit KnownLetter.h is other = at-limit (leb 64 (s .rules) || ltb 16 many) (r .fault) (done .h is .0 .answer)
-  only-limit KnownLetter.b is other = at-limit (leb 8 (s .subgoals) || ltb 16 many) (r .fault) (done .b is .0 .answer)
-  only-limit KnownLetter.m is other = absurd (other is)
-  only-limit KnownLetter.e is other = at-limit false (r .fault) (done .e is .0)
-
-  limit-kept : (x : Tables) → (o .letter ≡ 77 → ⊥) → after ≡ x → numbers ≡ numbers₀ → (r .fault ≡ 0 → Safe x (r .state)) → Kept r after
-  limit-kept x other is same kept = record {
-    number = λ bad. inl (only-limit (opens .known fine) refl other bad);
-    size = ap length same ∙ read .numbersSize;
-    safe = λ good. subst⁻¹ (λ y. Safe y (r .state)) is (kept good);
-    clear = λ good. subst⁻¹ NoWeights same (read .rows other .1);
-  }
-
-  residual-kept : o .letter ≡ 77 → Kept r after
-  residual-kept is =
-      let closes = done .m is .0 in
-      let weighed = closes .head .size ∙ read .numbersSize in
-      record {
-        number = λ bad. ⊎-elim (λ good. absurd (bad good)) inr (closes .answer);
-        size = ⊎-elim (λ good. closes .cleared good .size) (λ bad. closes .left bad .size) (closes .answer) ∙ weighed;
-        safe = λ good. subst⁻¹ (λ y. Safe y (r .state)) (after-m is) (m-safe t s _ index numbers₀ numbers r before (opens .safe .due fine is) (read .weights is) (read .numbersSize) closes good);
-        clear = m-cleared s (t .claims) numbers₀ numbers r closes;
-      }
-
-  kept : {byte : ℕ} → KnownLetter byte → o .letter ≡ byte → Kept r after
-  kept KnownLetter.p is =
-      let closes = done .p is .0 in
-      limit-kept _ (λ e. omega arith) (after-p is) (done .p is .2) (p-safe t s o small names facts r before (read .stores .arity) closes)
-  kept KnownLetter.c is =
-      let closes = done .c is .0 in
-      limit-kept _ (λ e. omega arith) (after-c is) (done .c is .2) (c-safe t s o row facts claims r before (opens .safe .place (λ e. omega arith)) (read .stores .rowSmall) closes)
-  kept KnownLetter.h is =
-      let closes = done .h is .0 in
-      limit-kept _ (λ e. omega arith) (after-h is) (done .h is .4)
-      (h-safe t s o many variables numbers₀ r before (opens .safe .place (λ e. omega arith)) (read .variablesSize) (read .numbersSize) (read .rows (λ e. omega arith) .0) closes)
-  kept KnownLetter.b is =
-      let closes = done .b is .0 in
-      limit-kept _ (λ e. omega arith) (after-b is) (done .b is .4)
-      (b-safe t s o many variables numbers₀ slots r before (opens .safe .place (λ e. omega arith)) (read .variablesSize) (read .numbersSize) (read .rows (λ e. omega arith) .0) closes)
-  kept KnownLetter.m is = residual-kept is
-  kept KnownLetter.e is =
-      limit-kept t (λ e. omega arith) (after-e is) (done .e is .5) (λ good. subst⁻¹ (Safe t) (done .e is .1) (e-safe t s before))
-
-  -- ---- after lines that write w
-
-  module _ (w : Written) (holds : Holds t s w) where
-    limit-told : (x : Tables) → (o .letter ≡ 77 → ⊥) → after ≡ x → fault w line ≡ r .fault → (r .fault ≡ 0 → Holds x (r .state) (write w line)) → ClosedFor line w r after
-    limit-told x other is found kept = record {
-      answer = found;
-      ruled = λ unjustified. absurd (omega (arith, only-limit (opens .known fine) refl other (λ zero. omega arith)));
-      left = λ unjustified. absurd (omega (arith, only-limit (opens .known fine) refl other (λ zero. omega arith)));
-      holds = λ good. subst⁻¹ (λ y. Holds y (r .state) (write w line)) is (kept good);
-    }
-
-    -- all fields are read
-    whole : (letter : Letter) → PassedAs letter line s w o → Progress letter line w s t index many small row variables numbers₀ → Progress letter line w s t (length (drop (skipped letter) (fieldsOf line))) many small row variables numbers₀
-    whole letter passed = subst (λ n. Progress letter line w s t n many small row variables numbers₀) (all ∙ ap length (passed .rest))
-
-    told : (letter : Letter) → PassedAs letter line s w o → Progress letter line w s t (length (drop (skipped letter) (fieldsOf line))) many small row variables numbers₀ → ClosedFor line w r after
-    told P passed progress =
-        let closes = done .p (passed .byte) .0 in
-        let two : length (drop 2 (fieldsOf line)) ≡ 2 = omega (arith, length-drop 2 (fieldsOf line), passed .named .four) in
-        let closed = p-close line t s w o small names facts r holds before passed (subst (λ n. ProgressP (drop 2 (fieldsOf line)) n small) two progress) closes in
-        limit-told _ (λ e. omega (arith, passed .byte)) (after-p (passed .byte)) (closed .answer) (closed .holds)
-    told C passed progress =
-        let closes = done .c (passed .byte) .0 in
-        let closed = c-close line t s w o row facts claims r holds before passed progress closes in
-        limit-told _ (λ e. omega (arith, passed .byte)) (after-c (passed .byte)) (closed .answer) (closed .holds)
-    told H passed progress =
-        let closes = done .h (passed .byte) .0 in
-        let closed = h-close line t s w o many variables numbers₀ r holds before passed progress closes in
-        limit-told _ (λ e. omega (arith, passed .byte)) (after-h (passed .byte)) (closed .answer) (closed .holds)
-    told B passed progress =
-        let closes = done .b (passed .byte) .0 in
-        let closed = b-close line t s w o many small row variables numbers₀ slots r holds before passed progress closes in
-        limit-told _ (λ e. omega (arith, passed .byte)) (after-b (passed .byte)) (closed .answer) (closed .holds)
-    told M passed progress =
-        let closes = done .m (passed .byte) .0 in
-        let closed = m-close line t s w o numbers₀ numbers r holds before passed progress (read .numbersSize) closes in
-        record { answer = closed .answer; ruled = λ unjustified. closed .ruled; left = closed .left; holds = λ good. subst⁻¹ (λ y. Holds y (r .state) (write w line)) (after-m (passed .byte)) (closed .holds good) }
-    told E passed progress =
-        let is = passed .byte in
-        let closed = e-close line t s w o holds passed in
-        limit-told t (λ e. omega (arith, passed .byte)) (after-e is) (closed .answer ∙ sym (done .e is .0)) (λ good. subst⁻¹ (λ x. Holds t x (write w line)) (done .e is .1) (closed .holds))
-    told noLetter passed progress = absurd progress
-
-pub line-closed : {line : Bytes} {t : Tables} {s : State} {o : Opened} {many from index : ℕ} {small : List ℕ} {row : List ℤ} {variables : List ℕ} {numbers₀ : List ℤ} {r : Closed} {names facts : List ℕ} {claims numbers : List ℤ} {slots : List ℕ}
-    → Safe t s → Opens line (t .names) (t .facts) s o → o .fault ≡ 0 → FieldsRead line t s o many from index small row variables numbers₀ → index ≡ length (partsFrom 44 line (o .from))
-    → CloseDone o s many small row (t .names) (t .facts) (t .claims) numbers₀ (t .slots) r names facts claims numbers slots
-    → LineClosed line t s o r (tables names facts claims variables numbers slots)
-line-closed safe opens fine read all done =
-    let ranges = kept safe opens fine read all done (opens .known fine) refl in
-    record {
-      number = ranges .number;
-      size = ranges .size;
-      safe = ranges .safe;
-      clear = ranges .clear;
-      tells = λ w holds passed.
-          let letter = passed .letter in
-          let named = passed-as passed in
-          told safe opens fine read all done w holds letter named (whole safe opens fine read all done w holds letter named (read .tells w holds passed));
+  module _ {r : Closing} {y : Tabled} where
+    pub closed : (letter : Letter) → FieldsRead letter line t s o many from index x → length (fieldsFrom line o) ≤ most letter s → ((letter ≡ P → ⊥) → o .predicate < 32) → (letter ≡ M → s .multipliers < 16) → index ≡ length (fieldsFrom line o)
+        → ((w : Written) → Holds t s w → Passed letter line s w o) → CloseLeaves letter o s many (x .small) (x .row) (x .rows) (unclosed t x) r y → LineJudged line s t r (closedTables x y) (y .weights)
+    closed P read few place due past passed done =
+        let (variables, rows, clear) = read .untouched in
+        limited (tables (y .names) (y .signatures) (t .claims) (t .variables) (t .rows) (t .slots)) (λ i. tables (y .names) (y .signatures) (done .1 i .claims) (variables i) (rows i) (done .1 i .slots))
+        (ap (λ (z : Tabled). z .weights) (done .1)) clear (read .stores .rows) (p-limit (done .0)) (p-safe t s o (x .small) (y .names) (y .signatures) r safe (read .stores .arity) (done .0))
+        λ w holds.
+        let p = passed w holds in
+        let two : index ≡ 2 = omega (arith, ap length (p .rest), length-drop 2 (fieldsOf line), p .named .four) in
+        p-close line t s w o (x .small) (y .names) (y .signatures) r holds safe p (subst (λ (n : ℕ). ProgressP (drop 2 (fieldsOf line)) n (x .small)) two (read .tells w holds p)) (done .0)
+    closed C read few place due past passed done =
+        let (variables, rows, clear) = read .untouched in
+        limited (tables (t .names) (y .signatures) (y .claims) (t .variables) (t .rows) (t .slots)) (λ i. tables (done .1 i .names) (y .signatures) (y .claims) (variables i) (rows i) (done .1 i .slots))
+        (ap (λ (z : Tabled). z .weights) (done .1)) clear (read .stores .rows) (c-limit (done .0)) (c-safe t s o (x .row) (y .signatures) (y .claims) r safe (place claim-other) (read .stores .rowSmall) (done .0))
+        λ w holds. let p = passed w holds in c-close line t s w o (x .row) (y .signatures) (y .claims) r holds safe p (whole C read past w holds p) (done .0)
+    closed H read few place due past passed done =
+        limited (tables (t .names) (t .signatures) (t .claims) (x .variables) (x .rows) (t .slots)) (λ i. tables (done .1 i .names) (done .1 i .signatures) (done .1 i .claims) (x .variables) (x .rows) (done .1 i .slots))
+        (ap (λ (z : Tabled). z .weights) (done .1)) (read .untouched) (read .stores .rows) (h-limit (done .0)) (h-safe safe (place head-other) (read .stores .variablesSize) (read .stores .rowsSize) (read .stores .rows) (done .0))
+        λ w holds. let p = passed w holds in h-close holds safe p (whole H read past w holds p) (done .0)
+    closed B read few place due past passed done =
+        limited (tables (t .names) (t .signatures) (t .claims) (x .variables) (x .rows) (y .slots)) (λ i. tables (done .1 i .names) (done .1 i .signatures) (done .1 i .claims) (x .variables) (x .rows) (y .slots))
+        (ap (λ (z : Tabled). z .weights) (done .1)) (read .untouched) (read .stores .rows) (b-limit (done .0)) (b-safe safe (place subgoal-other) (read .stores .variablesSize) (read .stores .rowsSize) (read .stores .rows) (done .0))
+        λ w holds. let p = passed w holds in b-close holds safe p (whole B read past w holds p) (done .0)
+    closed M read few place due past passed done =
+        let (variables, rows) = read .untouched in
+        let closes = rw rows at (done .0) in
+        let same : closedTables x y ≡ t = λ i. tables (done .1 i .names) (done .1 i .signatures) (done .1 i .claims) (variables i) (rows i) (done .1 i .slots) in
+        let slots : index ≤ s .slots = omega arith in
+        record {
+          safe = λ next good. (subst⁻¹ (λ (z : Tables). Safe z next) same (m-safe safe (due refl) closes good), m-cleared closes good);
+          summable = rw rows (weighed-closing safe r refl closes slots (read .weighed));
+          tells = λ w holds. let p = passed w holds in subst⁻¹ (ClosedFor line w r) same (m-close holds safe p (whole M read past w holds p) closes);
+          left = λ w holds bad.
+              let p = passed w holds in
+              let left = m-left holds safe p (whole M read past w holds p) closes Unjustified bad in
+              record { ruled = left .1; sum = rw rows (left .2) };
+        }
+    closed E read few place due past passed done =
+        let (variables, rows, clear) = read .untouched in
+        limited t (λ i. tables (done .1 i .names) (done .1 i .signatures) (done .1 i .claims) (variables i) (rows i) (done .1 i .slots))
+        (ap (λ (z : Tabled). z .weights) (done .1)) clear (read .stores .rows) (λ f bad. absurd (done-misclosed (sym (done .0) ∙ bad))) (λ next good. e-safe t s next safe (sym (done .0) ∙ good))
+        λ w holds. e-close line t s w o r holds (passed w holds) (done .0)
+    closed NoLetter read few place due past passed done = record {
+      safe = λ next good. absurd (done-misclosed (sym good ∙ done .0));
+      summable = subst⁻¹ (λ (ws : List ℤ). Summable ws (x .rows)) (ap (λ (z : Tabled). z .weights) (done .1)) (unweighed (read .untouched) (read .stores .rows));
+      tells = λ w holds. absurd (passed w holds .named);
+      left = λ w holds bad. absurd (passed w holds .named);
     }

@@ -4,20 +4,57 @@ use mathlib.Core.List.{List, [], _∷_}
 use Prim.Native.Nat.{ℕ, _+_, _≤_, _<_}
 use native.Mathlib.Omega.{arith}
 use lib.Dec.{eqb}
-use Rattle.integers.proofs.Truth.{by-truth, eqb-equal, eqb-different}
-use lib.ListN.{length, take, drop}
+use lib.IntN.{ℤ}
+use lib.ListN.{length, drop}
+use Rattle.groundwork.proofs.Truth.{by-truth, eqb-equal, eqb-different}
 use Rattle.theory.specs.Text.{Bytes, fieldsOf, linesOf}
 use Rattle.theory.specs.Written.{Written, write, writeAll, multipliersFrom}
 use Rattle.theory.specs.Faults.{fault, lastRule, residualDue}
-use Rattle.theory.specs.Check.{numbers, refused, judge}
+use Rattle.theory.specs.Check.{Judgement, refused, judge}
 use Rattle.text.specs.Scans.{part, Finds}
 use Rattle.text.proofs.Cuts.{lines-done, lines-step}
+use Rattle.forms.specs.declared.Form.{Form}
 use Rattle.tables.specs.declared.State.{State}
-use Rattle.tables.specs.declared.Closed.{Closed}
+use Rattle.tables.specs.declared.Fault.{Fault}
+use Rattle.tables.specs.declared.Fault.the-variants.{UnfitLine, Letter, Name, Declaration, FieldCount, Number, NoTerm, CountLimit, Unjustified}
+use Rattle.tables.specs.declared.Closing.{Closing}
+use Rattle.tables.specs.declared.Closing.the-variants.{Done, Misclosed}
+use Rattle.tables.specs.Faults.{numberOf, closingNumber}
 use Rattle.tables.specs.Tables.{Tables, NoWeights, Safe}
-use Rattle.packs.specs.Between.{ClosedFor, LineJudged, Reached, LinesRead}
-use Rattle.packs.specs.Loading.{LoadsLines, LinesLoadedFor, OfLine, faultVerdict}
-use Rattle.packs.proofs.FaultNumbers.{fault-number}
+use Rattle.certificates.specs.Sums.{SumsTo, formNumbers}
+use Rattle.packs.specs.declared.Ending.the-variants.{AllPass, Stopped}
+use Rattle.packs.specs.Between.{LineJudged, Reached, LinesRead}
+use Rattle.packs.specs.Loading.{faultNumbers, faultResidue, LinesLoadedFor, LoadsLines}
+
+-- ---- how the lines end
+
+all-stopped : {f : Fault} → AllPass ≡ Stopped f → ⊥
+all-stopped e = let never : _≡_ {A = ℕ} 0 1 = cc in absurd (omega arith)
+
+stopped-fault : {f g : Fault} → Stopped f ≡ Stopped g → f ≡ g
+stopped-fault e = cc
+
+thirteen : (f : Fault) → numberOf f ≡ 13 → f ≡ Unjustified
+thirteen UnfitLine e = absurd (omega arith)
+thirteen Letter e = absurd (omega arith)
+thirteen Name e = absurd (omega arith)
+thirteen Declaration e = absurd (omega arith)
+thirteen FieldCount e = absurd (omega arith)
+thirteen Number e = absurd (omega arith)
+thirteen NoTerm e = absurd (omega arith)
+thirteen CountLimit e = absurd (omega arith)
+thirteen Unjustified e = refl
+
+pub number-some : (f : Fault) → numberOf f ≡ 0 → ⊥
+number-some UnfitLine e = omega arith
+number-some Letter e = omega arith
+number-some Name e = omega arith
+number-some Declaration e = omega arith
+number-some FieldCount e = omega arith
+number-some Number e = omega arith
+number-some NoTerm e = omega arith
+number-some CountLimit e = omega arith
+number-some Unjustified e = omega arith
 
 -- ---- verdicts
 
@@ -29,14 +66,21 @@ judge-refused : (w : Written) (k : ℕ) (l : Bytes) (ls : List Bytes) (n : ℕ) 
 unfolding judge
 judge-refused w k l ls n e some = rw (e, eqb-different n 0 some) refl
 
--- the verdict of a line with a fault, by what the state counts and the numbers hold
-refused-as : (w : Written) (k : ℕ) (l : Bytes) (s : State) (n : ℕ) (t : Tables) → s .rules ≡ length (w .pack .rules) → (n ≡ 13 → s .multipliers ≡ length (lastRule (w .pack) .multipliers))
-    → (n ≡ 13 → take 17 (t .numbers) ≡ residualDue (w .pack) (multipliersFrom (fieldsOf l))) → refused w k l n ≡ faultVerdict (record { fault = n; line = k; state = s }) t
-unfolding refused
-refused-as w k l s n t rules multipliers left =
-    by-truth (λ b. refused w k l n ≡ faultVerdict (record { fault = n; line = k; state = s }) t) (eqb n 13)
-    (λ e. let thirteen = eqb-equal n 13 e in rw (e, rules, multipliers thirteen, left thirteen) refl)
-    (λ e. rw e refl)
+-- the answer of a line with a fault, by what the state counts, and its residual
+module _ (w : Written) (k : ℕ) (l : Bytes) (f : Fault) where
+  returned-as : (s : State) → s .rules ≡ length (w .pack .rules) → (f ≡ Unjustified → s .multipliers ≡ length (lastRule (w .pack) .multipliers)) → refused w k l (numberOf f) .returned ≡ faultNumbers f k (s .rules) (s .multipliers + 1)
+  unfolding refused
+  returned-as s rules multipliers =
+      by-truth (λ b. refused w k l (numberOf f) .returned ≡ faultNumbers f k (s .rules) (s .multipliers + 1)) (eqb (numberOf f) 13)
+      (λ e. rw (e, rules, multipliers (thirteen f (eqb-equal (numberOf f) 13 e))) refl)
+      (λ e. rw e refl)
+
+  residue-as : (form : Form) → (f ≡ Unjustified → formNumbers form ≡ residualDue (w .pack) (multipliersFrom (fieldsOf l))) → refused w k l (numberOf f) .residue ≡ faultResidue f form
+  unfolding refused
+  residue-as form left =
+      by-truth (λ b. refused w k l (numberOf f) .residue ≡ faultResidue f form) (eqb (numberOf f) 13)
+      (λ e. rw (e, left (thirteen f (eqb-equal (numberOf f) 13 e))) refl)
+      (λ e. rw e refl)
 
 writeAll-more : (w : Written) (l : Bytes) (ls : List Bytes) → writeAll w (l ∷ ls) ≡ writeAll (write w l) ls
 unfolding writeAll
@@ -48,7 +92,7 @@ writeAll-none w = refl
 
 -- ---- the loop
 
-pub lines-begin : {text : Bytes} {start : State} {t : Tables} → Safe t start → NoWeights (t .numbers) → LinesRead text start t start t 0 0
+pub lines-begin : {text : Bytes} {start : State} {t : Tables} {weights : List ℤ} → Safe t start → NoWeights weights → LinesRead text start t start t weights 0 0
 lines-begin safe clear =
     record {
       within = omega arith;
@@ -59,13 +103,11 @@ lines-begin safe clear =
       tells = λ w₀ holds. record { w = w₀; holds = holds; judged = refl; written = refl; counted = omega arith };
     }
 
-module _ {text : Bytes} {start : State} {t₀ : Tables} {s : State} {t : Tables} {line at : ℕ} (read : LinesRead text start t₀ s t line at) where
+module _ {text : Bytes} {start : State} {t₀ : Tables} {s : State} {t : Tables} {weights : List ℤ} {line at : ℕ} (read : LinesRead text start t₀ s t weights line at) where
   -- past the end of the text
-  pub lines-end : length text ≤ at → LoadsLines text start t₀ (record { fault = 0; line = line; state = s }) t
-  lines-end past =
+  pub lines-end : length text ≤ at → {form : Form} → LoadsLines text start t₀ (record { ending = AllPass; line = line; state = s; residual = form }) (t .names) (t .signatures) (t .claims)
+  lines-end past {form} =
       record {
-        safe = λ e. read .safe;
-        size = read .safe .sizes .numbers;
         state = read .safe .state;
         few = read .all;
         tells = λ w₀ holds. reached w₀ (read .tells w₀ holds);
@@ -74,74 +116,67 @@ module _ {text : Bytes} {start : State} {t₀ : Tables} {s : State} {t : Tables}
       none : linesOf (drop at text) ≡ []
       none = lines-done text at past
 
-      reached : (w₀ : Written) → Reached text w₀ s t line at → LinesLoadedFor text w₀ (record { fault = 0; line = line; state = s }) t
+      reached : (w₀ : Written) → Reached text w₀ s t line at → LinesLoadedFor text w₀ (record { ending = AllPass; line = line; state = s; residual = form }) (t .names) (t .signatures) (t .claims)
       reached w₀ there =
           let written : writeAll w₀ (linesOf text) ≡ there .w = there .written ∙ ap (writeAll (there .w)) none ∙ writeAll-none (there .w) in
           record {
-            fault = λ some other. absurd (some refl);
-            refused = λ some. absurd (some refl);
+            refused = λ f e. absurd (all-stopped e);
+            residue = λ f e. absurd (all-stopped e);
             lines = λ e. let count = rw none at (there .counted) in omega arith;
             passed = λ e. there .judged ∙ rw (none, written) refl;
-            holds = λ e. rw written (there .holds);
+            holds = λ e. record { variables = t .variables; rows = t .rows; slots = t .slots; safe = read .safe; holds = rw written (there .holds) };
           }
 
-  module _ {end : ℕ} (inside : at < length text) (finds : Finds text 10 at end) {r : Closed} {t₁ : Tables} (judged : LineJudged (part text at end) s t r t₁) where
+  module _ {end : ℕ} (inside : at < length text) (finds : Finds text 10 at end) {r : Closing} {t₁ : Tables} {weights₁ : List ℤ} (judged : LineJudged (part text at end) s t r t₁ weights₁) where
     lines : linesOf (drop at text) ≡ part text at end ∷ linesOf (drop (end + 1) text)
     lines = lines-step text at end inside finds
 
     -- the next line passes
-    pub lines-more : r .fault ≡ 0 → LinesRead text start t₀ (r .state) t₁ (line + 1) (end + 1)
-    lines-more good =
+    pub lines-more : {next : State} → r ≡ Done next → LinesRead text start t₀ next t₁ weights₁ (line + 1) (end + 1)
+    lines-more {next} good =
         record {
           within = omega (arith, finds .high);
           few = omega (arith, read .few, finds .low);
           all = omega (arith, read .few);
-          safe = judged .safe good;
-          clear = judged .clear good;
+          safe = judged .safe next good .0;
+          clear = judged .safe next good .1;
           tells = λ w₀ holds. reached w₀ (read .tells w₀ holds);
         }
       where
-        reached : (w₀ : Written) → Reached text w₀ s t line at → Reached text w₀ (r .state) t₁ (line + 1) (end + 1)
+        reached : (w₀ : Written) → Reached text w₀ s t line at → Reached text w₀ next t₁ (line + 1) (end + 1)
         reached w₀ there =
             let w = there .w in
-            let behind = judged .tells w (there .holds) in
+            let after = judged .tells w (there .holds) in
             record {
               w = write w (part text at end);
-              holds = behind .holds good;
-              judged = there .judged ∙ ap (judge w line) lines ∙ judge-passed w line (part text at end) _ (behind .answer ∙ good);
+              holds = after .holds next good;
+              judged = there .judged ∙ ap (judge w line) lines ∙ judge-passed w line (part text at end) _ (after .answer ∙ ap closingNumber good);
               written = there .written ∙ ap (writeAll w) lines ∙ writeAll-more w (part text at end) _;
               counted = let count = rw lines at (there .counted) in omega arith;
             }
 
-    module _ (bad : r .fault ≡ 0 → ⊥) (w₀ : Written) (there : Reached text w₀ s t line at) where
-      behind : ClosedFor (part text at end) (there .w) r t₁
-      behind = judged .tells (there .w) (there .holds)
-
-      number : (r .fault ≡ 13 → ⊥) → OfLine (r .fault)
-      number other = rw (behind .answer) at (fault-number (there .w) (part text at end) (λ e. bad (sym (behind .answer) ∙ e)) (λ e. other (sym (behind .answer) ∙ e)))
-
-      verdict : judge w₀ 0 (linesOf text) ≡ refused (there .w) (line + 1) (part text at end) (r .fault)
-      verdict = there .judged ∙ ap (judge (there .w) line) lines ∙ judge-refused (there .w) line (part text at end) _ (r .fault) (behind .answer) bad
-
-      refused-for : LinesLoadedFor text w₀ (record { fault = r .fault; line = line + 1; state = s }) t₁
-      refused-for =
-          record {
-            fault = λ some other. number other;
-            refused = λ some.
-                verdict
-                ∙ refused-as (there .w) (line + 1) (part text at end) s (r .fault) t₁ (there .holds .rules) (λ e. there .holds .last (behind .ruled e) .multipliers) (behind .left);
-            lines = λ e. absurd (bad e);
-            passed = λ e. absurd (bad e);
-            holds = λ e. absurd (bad e);
-          }
-
     -- the next line is refused
-    pub lines-refused : (r .fault ≡ 0 → ⊥) → LoadsLines text start t₀ (record { fault = r .fault; line = line + 1; state = s }) t₁
-    lines-refused bad =
+    pub lines-refused : {f : Fault} → r ≡ Misclosed f → {form : Form} → (f ≡ Unjustified → SumsTo weights₁ (t₁ .rows) (s .subgoals + 1) form) → {names signatures : List ℕ} {claims : List ℤ}
+        → LoadsLines text start t₀ (record { ending = Stopped f; line = line + 1; state = s; residual = form }) names signatures claims
+    lines-refused {f} bad {form} taken {names} {signatures} {claims} =
         record {
-          safe = λ e. absurd (bad e);
-          size = judged .size;
           state = read .safe .state;
           few = omega (arith, read .few);
-          tells = λ w₀ holds. refused-for bad w₀ (read .tells w₀ holds);
+          tells = λ w₀ holds. reached w₀ (read .tells w₀ holds);
         }
+      where
+        reached : (w₀ : Written) → Reached text w₀ s t line at → LinesLoadedFor text w₀ (record { ending = Stopped f; line = line + 1; state = s; residual = form }) names signatures claims
+        reached w₀ there =
+            let w = there .w in
+            let answer = judged .tells w (there .holds) .answer ∙ ap closingNumber bad in
+            let misclosed : f ≡ Unjustified → r ≡ Misclosed Unjustified = λ e. bad ∙ ap Misclosed e in
+            let judgement : judge w₀ 0 (linesOf text) ≡ refused w (line + 1) (part text at end) (numberOf f) = there .judged ∙ ap (judge w line) lines ∙ judge-refused w line (part text at end) _ (numberOf f) answer (number-some f) in
+            record {
+              refused = λ g e. ap (λ (v : Judgement). v .returned) judgement ∙ rw (← stopped-fault e) (returned-as w (line + 1) (part text at end) f s (there .holds .rules)
+                  (λ is. there .holds .last (judged .left w (there .holds) (misclosed is) .ruled) .multipliers));
+              residue = λ g e long. ap (λ (v : Judgement). v .residue) judgement ∙ rw (← stopped-fault e) (residue-as w (line + 1) (part text at end) f form
+                  (λ is. judged .left w (there .holds) (misclosed is) .sum form (long (sym (stopped-fault e) ∙ is)) (taken is)));
+              lines = λ e. absurd (all-stopped (sym e));
+              passed = λ e. absurd (all-stopped (sym e));
+              holds = λ e. absurd (all-stopped (sym e));
+            }

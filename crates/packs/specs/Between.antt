@@ -1,65 +1,80 @@
 -- Between two fields of a line, and between two lines: what has been read, and what is left to read.
 use mathlib.Core.Path.{_≡_}
-use mathlib.Core.Logic.{_⊎_}
 use mathlib.Core.List.{List, []}
 use Prim.Native.Nat.{ℕ, _+_, _≤_}
 use lib.IntN.{ℤ, pos, natAbs}
-use lib.ListN.{length, getD, take, drop}
+use lib.ListN.{length, getD, drop}
+use Rattle.theory.specs.declared.Letter.{Letter}
+use Rattle.theory.specs.declared.Letter.the-variants.{P, C, H, B, M, E, NoLetter}
 use Rattle.theory.specs.Text.{Bytes, fieldsOf, linesOf}
-use Rattle.theory.specs.Written.{Written, write, writeAll, multipliersFrom}
-use Rattle.theory.specs.Faults.{fault, residualDue}
+use Rattle.theory.specs.Written.{Written, writeAll, multipliersFrom}
+use Rattle.theory.specs.Faults.{residualDue}
 use Rattle.theory.specs.Check.{judge}
 use Rattle.text.specs.Scans.{partsFrom}
+use Rattle.forms.specs.declared.Form.{Form}
 use Rattle.tables.specs.declared.State.{State}
+use Rattle.tables.specs.declared.Fault.the-variants.{Unjustified}
 use Rattle.tables.specs.declared.Opened.{Opened}
-use Rattle.tables.specs.declared.Closed.{Closed}
-use Rattle.tables.specs.Tables.{Tables, Holds, SafeNumbers, NoWeights, Safe}
-use Rattle.opening.specs.Opening.{Passed}
-use Rattle.packs.specs.Progress.{ProgressM, Progress}
+use Rattle.tables.specs.declared.Closing.{Closing}
+use Rattle.tables.specs.declared.Closing.the-variants.{Done, Misclosed}
+use Rattle.tables.specs.Tables.{Tables, Holds, SafeRows, NoWeights, Safe}
+use Rattle.tables.specs.Lines.{Passed, ClosedFor}
+use Rattle.certificates.specs.Sums.{Summable, SumsTo, formNumbers}
+use Rattle.certificates.specs.Multipliers.{ProgressM}
+use Rattle.packs.specs.Steps.{Stores, Progress}
 
--- the stores that the fields of `P` and `C` lines are read into
-pub record SafeStores (small : List ℕ) (row : List ℤ) : Type 0 where
-  pub smallSize : length small ≡ 2
-  pub arity : getD small 0 0 ≤ 8
-  pub rowSize : length row ≡ 9
-  pub rowSmall : (i : ℕ) → natAbs (getD row i (pos 0)) ≤ 9999
+-- the stores that the fields are read into
+pub record SafeStores (x : Stores) : Type 0 where
+  pub smallSize : length (x .small) ≡ 2
+  pub arity : getD (x .small) 0 0 ≤ 8
+  pub rowSize : length (x .row) ≡ 9
+  pub rowSmall : (i : ℕ) → natAbs (getD (x .row) i (pos 0)) ≤ 9999
+  pub variablesSize : length (x .variables) ≡ 64
+  pub rowsSize : length (x .rows) ≡ 1224
+  pub rows : SafeRows (x .rows)
+
+-- what is untouched while the fields of a line are read, of the rule's tables and of the weights
+abbrev pub Untouched : Letter → Tables → Stores → Type 0
+Untouched P t x = (x .variables ≡ t .variables) × (x .rows ≡ t .rows) × NoWeights (x .weights)
+Untouched C t x = (x .variables ≡ t .variables) × (x .rows ≡ t .rows) × NoWeights (x .weights)
+Untouched H t x = NoWeights (x .weights)
+Untouched B t x = NoWeights (x .weights)
+Untouched M t x = (x .variables ≡ t .variables) × (x .rows ≡ t .rows)
+Untouched E t x = (x .variables ≡ t .variables) × (x .rows ≡ t .rows) × NoWeights (x .weights)
+Untouched NoLetter t x = NoWeights (x .weights)
+
+-- the weights that the fields of an `M` line have left so far
+abbrev pub Weighed : Letter → List Bytes → ℕ → Tables → Stores → Type 0
+Weighed P fs index t x = Unit {0}
+Weighed C fs index t x = Unit {0}
+Weighed H fs index t x = Unit {0}
+Weighed B fs index t x = Unit {0}
+Weighed M fs index t x = ProgressM fs index (t .claims) (t .slots) (x .weights)
+Weighed E fs index t x = Unit {0}
+Weighed NoLetter fs index t x = Unit {0}
 
 -- the first fields of a line are read, and those from a place on are left; the tables were t at the line's beginning
-pub record FieldsRead (line : Bytes) (t : Tables) (s : State) (o : Opened) (many from index : ℕ) (small : List ℕ) (row : List ℤ) (variables : List ℕ) (numbers : List ℤ) : Type 0 where
+pub record FieldsRead (letter : Letter) (line : Bytes) (t : Tables) (s : State) (o : Opened) (many from index : ℕ) (x : Stores) : Type 0 where
   pub rest : partsFrom 44 line from ≡ drop index (partsFrom 44 line (o .from))
   pub low : index ≤ from
   pub count : index + length (partsFrom 44 line from) ≡ length (partsFrom 44 line (o .from))
   pub high : many ≤ 17
-  pub stores : SafeStores small row
-  pub variablesSize : length variables ≡ 64
-  pub numbersSize : length numbers ≡ 1305
-  -- only lines of atoms change the variables; only they and lines of multipliers change the numbers
-  pub variablesKept : (o .letter ≡ 72 → ⊥) → (o .letter ≡ 66 → ⊥) → variables ≡ t .variables
-  pub numbersKept : (o .letter ≡ 72 → ⊥) → (o .letter ≡ 66 → ⊥) → (o .letter ≡ 77 → ⊥) → numbers ≡ t .numbers
-  pub rows : (o .letter ≡ 77 → ⊥) → SafeNumbers numbers × NoWeights numbers
-  pub weights : o .letter ≡ 77 → ProgressM (partsFrom 44 line (o .from)) index (t .claims) (t .slots) (t .numbers) numbers
-  pub tells : (w : Written) → Holds t s w → (p : Passed line s w o) → Progress (p .letter) line w s t index many small row variables numbers
+  pub stores : SafeStores x
+  pub untouched : Untouched letter t x
+  pub weighed : Weighed letter (partsFrom 44 line (o .from)) index t x
+  pub tells : (w : Written) → Holds t s w → Passed letter line s w o → Progress letter line w s t index many x
 
--- a line that is read whole, after lines that write w: its fault, and the tables after it
-pub record ClosedFor (line : Bytes) (w : Written) (r : Closed) (t : Tables) : Type 0 where
-  pub answer : fault w line ≡ r .fault
-  pub ruled : r .fault ≡ 13 → w .pack .rules ≡ [] → ⊥
-  pub left : r .fault ≡ 13 → take 17 (t .numbers) ≡ residualDue (w .pack) (multipliersFrom (fieldsOf line))
-  pub holds : r .fault ≡ 0 → Holds t (r .state) (write w line)
+-- the residual of an unjustified claim can be taken by the weights that are left
+pub record ResidualLeft (line : Bytes) (w : Written) (s : State) (weights : List ℤ) (rows : List ℕ) : Type 0 where
+  pub ruled : w .pack .rules ≡ [] → ⊥
+  pub sum : (form : Form) → length (form .coefficients) ≡ 16 → SumsTo weights rows (s .subgoals + 1) form → formNumbers form ≡ residualDue (w .pack) (multipliersFrom (fieldsOf line))
 
-pub record LineClosed (line : Bytes) (t₀ : Tables) (s : State) (o : Opened) (r : Closed) (t : Tables) : Type 0 where
-  pub number : (r .fault ≡ 0 → ⊥) → (r .fault ≡ 12) ⊎ (r .fault ≡ 13)
-  pub size : length (t .numbers) ≡ 1305
-  pub safe : r .fault ≡ 0 → Safe t (r .state)
-  pub clear : r .fault ≡ 0 → NoWeights (t .numbers)
-  pub tells : (w : Written) → Holds t₀ s w → Passed line s w o → ClosedFor line w r t
-
--- a line that is judged, whether it is read whole or not
-pub record LineJudged (line : Bytes) (s : State) (t₀ : Tables) (r : Closed) (t : Tables) : Type 0 where
-  pub size : length (t .numbers) ≡ 1305
-  pub safe : r .fault ≡ 0 → Safe t (r .state)
-  pub clear : r .fault ≡ 0 → NoWeights (t .numbers)
+-- a line that is judged: where it passes, the tables after it; where its claim is not justified, the weights. They can be summed either way.
+pub record LineJudged (line : Bytes) (s : State) (t₀ : Tables) (r : Closing) (t : Tables) (weights : List ℤ) : Type 0 where
+  pub safe : (next : State) → r ≡ Done next → Safe t next × NoWeights weights
+  pub summable : Summable weights (t .rows)
   pub tells : (w : Written) → Holds t₀ s w → ClosedFor line w r t
+  pub left : (w : Written) → Holds t₀ s w → r ≡ Misclosed Unjustified → ResidualLeft line w s weights (t .rows)
 
 -- lines that have passed, from the state `start` and the tables t₀ on, where lines that write w₀ stand before them
 pub record Reached (text : Bytes) (w₀ : Written) (s : State) (t : Tables) (line at : ℕ) : Type 0 where
@@ -70,10 +85,10 @@ pub record Reached (text : Bytes) (w₀ : Written) (s : State) (t : Tables) (lin
   pub counted : line + length (linesOf (drop at text)) ≡ length (linesOf text)
 
 -- the first lines are read and have passed, and those from a place on are left
-pub record LinesRead (text : Bytes) (start : State) (t₀ : Tables) (s : State) (t : Tables) (line at : ℕ) : Type 0 where
+pub record LinesRead (text : Bytes) (start : State) (t₀ : Tables) (s : State) (t : Tables) (weights : List ℤ) (line at : ℕ) : Type 0 where
   pub within : at ≤ length text + 1
   pub few : line ≤ at
   pub all : line ≤ length text
   pub safe : Safe t s
-  pub clear : NoWeights (t .numbers)
+  pub clear : NoWeights weights
   pub tells : (w₀ : Written) → Holds t₀ start w₀ → Reached text w₀ s t line at

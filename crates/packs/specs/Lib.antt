@@ -1,4 +1,4 @@
--- What the loops over lines and fields keep, and what loading leaves. No public promise cites them.
-pub mod Progress
+-- What the steps of a line need and leave by its letter, what the loops over lines and fields keep, and what loading leaves. No public promise cites them.
+pub mod Steps
 pub mod Between
 pub mod Loading

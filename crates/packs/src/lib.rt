@@ -1,113 +1,272 @@
 // Check: loading a pack's lines into the tables, and the residual area.
 ghost use mathlib.Core.Path.{_≡_};
 ghost use mathlib.Core.Bool.{false};
-ghost use Prim.Native.Nat.{_+_, _≤_, _<_};
+ghost use Prim.Native.Nat.{_≤_};
+ghost use lib.Dec.{eqb};
 ghost use lib.ListN.{length};
-ghost use Rattle.theory.specs.Answers.{numbersOf};
+ghost use Rattle.theory.specs.Answers.{refusalNumbers, numbersOf};
 ghost use Rattle.theory.specs.Check.{checkOf};
 ghost use Rattle.theory.specs.declared.Verdict.the-variants.{Refused};
-ghost use Rattle.tables.specs.Tables.{tables, Safe, NoWeights};
-ghost use Rattle.packs.specs.Loading.{LoadsLines, begun, fresh, Refuses, Laid, Loads};
+ghost use Rattle.text.specs.Classes.{Classes};
+ghost use Rattle.tables.specs.declared.Closing.the-variants.{Done};
+ghost use Rattle.tables.specs.Faults.{numberOf};
+ghost use Rattle.tables.specs.Tables.{Safe};
+ghost use Rattle.packs.specs.Steps.{stores, FieldReady, FieldDone, variablesBefore, tabled, withEnd, CloseReady, CloseDone};
+ghost use Rattle.packs.specs.Loading.{faultNumbers, begun, unruled, fresh, LoadsLines, Laid, Loads};
+use forms::Form;
+use tables::Claims;
+use tables::Closing;
+use tables::Fault;
+use tables::Fielding;
+use tables::Hints;
+use tables::Names;
+use tables::Opened;
+use tables::Opening;
+use tables::Rows;
+use tables::Signatures;
+use tables::Slots;
 use tables::State;
+use tables::Variables;
+use tables::Weights;
 use theory::Counts;
+use theory::Letter;
 use theory::Refusal;
 use theory::Verdict;
 
-/// A text whose lines are judged: the number of the first fault, or 0, its line, and the state there.
-pub struct LoadedLines {
-    pub fault: u8,
-    pub line: usize,
-    pub state: State,
+/// One field of a line, by the line's letter.
+fn field(
+    letter: Letter,
+    index: usize,
+    part: &[u8],
+    state: State,
+    many: usize,
+    claims: &Claims,
+    slots: &Slots,
+    classes: &[u8; 256],
+    small: &mut [u8; 2],
+    row: &mut [i16; 9],
+    variables: &mut Variables,
+    rows: &mut Rows,
+    weights: &mut Weights,
+    hints: &mut Hints,
+    arities: &mut [u8; 512],
+    places: &mut [u16; 512],
+) -> Fielding
+    requires { ⌜ (FieldReady letter index (now part) state many (now claims) (now slots) (stores (now small) (now row) (now variables) (now rows) (now weights))) × (length (now arities) ≡ 512) × (length (now places) ≡ 512) × Classes (now classes) ⌝ }
+    ensures kept { λ r. ⌜ (length (now (arities .exit)) ≡ 512) × (length (now (places .exit)) ≡ 512) ⌝ }
+    ensures done { λ r. ⌜ FieldDone letter index (now (part .entry)) state many (now (claims .entry)) (now (slots .entry)) (stores (now (small .entry)) (now (row .entry)) (now (variables .entry)) (now (rows .entry)) (now (weights .entry))) r (stores (now (small .exit)) (now (row .exit)) (now (variables .exit)) (now (rows .exit)) (now (weights .exit))) ⌝ }
+{
+    match letter {
+        Letter::P => declarations::field_predicate(index, part, small, many),
+        Letter::C => declarations::field_claim(index, part, row, many),
+        Letter::H => atoms::field_term(
+            0,
+            index,
+            part,
+            many,
+            variables,
+            rows,
+            hints,
+            arities,
+            places,
+            classes,
+        ),
+        Letter::B => {
+            let atom = atoms::subgoal_atom(state.subgoals);
+            atoms::field_term(
+                atom,
+                index,
+                part,
+                many,
+                variables,
+                rows,
+                hints,
+                arities,
+                places,
+                classes,
+            )
+        }
+        Letter::M => certificates::field_multiplier(index, part, many, claims, slots, weights),
+        Letter::E => Fielding::Misread(Fault::FieldCount),
+        Letter::NoLetter => Fielding::Misread(Fault::Letter),
+    }
 }
 
-/// Judges the lines of a text, after lines that have filled the tables and left the state. Left at the first fault.
+/// The end of an `E` line.
+fn close_end(state: State) -> Closing
+    ensures { λ r. ⌜ r ≡ Done (withEnd state) ⌝ }
+{
+    let mut next = state;
+    next.ended = true;
+    Closing::Done(next)
+}
+
+/// A line's last tests, and what it adds to the tables, by its letter.
+fn close(
+    o: Opened,
+    state: State,
+    many: usize,
+    small: &[u8; 2],
+    row: &[i16; 9],
+    rows: &Rows,
+    names: &mut Names,
+    signatures: &mut Signatures,
+    claims: &mut Claims,
+    slots: &mut Slots,
+    weights: &mut Weights,
+) -> Closing
+    requires { ⌜ CloseReady (o .letter) o state (now rows) (tabled (now names) (now signatures) (now claims) (now slots) (now weights)) ⌝ }
+    ensures { λ r. ⌜ CloseDone (o .letter) o state many (now (small .entry)) (now (row .entry)) (now (rows .entry)) (tabled (now (names .entry)) (now (signatures .entry)) (now (claims .entry)) (now (slots .entry)) (now (weights .entry))) r (tabled (now (names .exit)) (now (signatures .exit)) (now (claims .exit)) (now (slots .exit)) (now (weights .exit))) ⌝ }
+{
+    let letter = o.letter;
+    match letter {
+        Letter::P => declarations::close_predicate(o, state, small, names, signatures),
+        Letter::C => declarations::close_claim(o, state, row, signatures, claims),
+        Letter::H => atoms::close_head(o, state, many),
+        Letter::B => atoms::close_subgoal(o, state, many, signatures, slots),
+        Letter::M => certificates::close_multipliers(state, claims, weights, rows),
+        Letter::E => close_end(state),
+        Letter::NoLetter => Closing::Misclosed(Fault::Letter),
+    }
+}
+
+/// How many variables the rule has when the fields of a line begin.
+fn variables_before(letter: Letter, state: State) -> usize
+    ensures { λ r. ⌜ r ≡ variablesBefore letter state ⌝ }
+{
+    match letter {
+        Letter::P => state.variables,
+        Letter::C => state.variables,
+        Letter::H => 0,
+        Letter::B => state.variables,
+        Letter::M => state.variables,
+        Letter::E => state.variables,
+        Letter::NoLetter => state.variables,
+    }
+}
+
+/// How the lines of a text end: all pass, or the first fault.
+pub enum Ending {
+    AllPass,
+    Stopped(Fault),
+}
+
+/// A text whose lines are judged: how they end, the number of the last line that was read, the state there, and the
+/// residual where that line's claim is not justified.
+pub struct LoadedLines {
+    pub ending: Ending,
+    pub line: usize,
+    pub state: State,
+    pub residual: Form,
+}
+
+/// Judges the lines of a text, after lines that have filled the tables and left the state, with no rule among them. Left at
+/// the first fault.
 pub fn load_lines(
     text: &[u8],
     start: State,
-    names: &mut [u64; 64],
-    facts: &mut [u8; 96],
-    claims: &mut [i16; 4608],
-    variables: &mut [u64; 64],
-    numbers: &mut [i64; 1305],
-    slots: &mut [u16; 256],
+    names: &mut Names,
+    signatures: &mut Signatures,
+    claims: &mut Claims,
 ) -> LoadedLines
-    requires { ⌜ (Safe (tables (now names) (now facts) (now claims) (now variables) (now numbers) (now slots)) start) × (NoWeights (now numbers)) ⌝ }
-    ensures { λ r. ⌜ LoadsLines (now (text .entry)) start (tables (now (names .entry)) (now (facts .entry)) (now (claims .entry)) (now (variables .entry)) (now (numbers .entry)) (now (slots .entry))) r (tables (now (names .exit)) (now (facts .exit)) (now (claims .exit)) (now (variables .exit)) (now (numbers .exit)) (now (slots .exit))) ⌝ }
+    requires { ⌜ Safe (unruled (now names) (now signatures) (now claims)) start ⌝ }
+    ensures { λ r. ⌜ LoadsLines (now (text .entry)) start (unruled (now (names .entry)) (now (signatures .entry)) (now (claims .entry))) r (now (names .exit)) (now (signatures .exit)) (now (claims .exit)) ⌝ }
 {
     let classes = text::class_table();
-    let mut tokens = [0u16; 512];
+    let mut variables = [0u64; 64];
+    let mut rows = [0u16; 1224];
+    let mut weights = [0i32; 81];
+    let mut slots = [0u16; 256];
+    let mut hints = [0u8; 128];
+    let mut arities = [0u8; 512];
+    let mut places = [0u16; 512];
     let len = text.len();
     let mut state = start;
-    let mut fault: u8 = 0;
+    let mut ending = Ending::AllPass;
+    let mut residual = Form::zero();
     let mut number: usize = 0;
     let mut at: usize = 0;
     'lines: while at < len {
-        let end = text::find_far(text, 10, at);
+        let end = text::find_far(text, b'\n', at);
         let line = &text[at..end];
         number += 1;
-        let o = opening::open(line, state, names, facts);
-        fault = o.fault;
-        if fault != 0 {
-            break 'lines;
-        }
+        let opened = opening::open(line, state, names, signatures, &mut hints, &classes);
+        let o = match opened {
+            Opening::Line(o) => o,
+            Opening::Misopened(fault) => {
+                ending = Ending::Stopped(fault);
+                break 'lines;
+            }
+        };
         let letter = o.letter;
         let width = line.len();
         let mut small = [0u8; 2];
         let mut row = [0i16; 9];
-        let mut many = state.variables;
-        if letter == b'H' {
-            many = 0;
-        }
+        let mut many = variables_before(letter, state);
         let mut from = o.from;
         let mut index: usize = 0;
         'fields: while from <= width {
-            let stop = text::find_near(line, 44, from);
-            let f = fields::field(
+            let stop = reader::field_end(line, from);
+            let read = field(
                 letter,
                 index,
                 &line[from..stop],
                 state,
                 many,
                 claims,
-                slots,
+                &slots,
                 &classes,
                 &mut small,
                 &mut row,
-                variables,
-                numbers,
-                &mut tokens,
+                &mut variables,
+                &mut rows,
+                &mut weights,
+                &mut hints,
+                &mut arities,
+                &mut places,
             );
-            fault = f.fault;
-            if fault != 0 {
-                break 'lines;
+            match read {
+                Fielding::Read(known) => {
+                    many = known;
+                }
+                Fielding::Misread(fault) => {
+                    ending = Ending::Stopped(fault);
+                    break 'lines;
+                }
             }
-            many = f.variables;
             index += 1;
             from = stop + 1;
         }
-        let c = closing::close(
+        let closed = close(
             o,
             state,
             many,
             &small,
             &row,
+            &rows,
             names,
-            facts,
+            signatures,
             claims,
-            numbers,
-            slots,
+            &mut slots,
+            &mut weights,
         );
-        fault = c.fault;
-        if fault != 0 {
-            break 'lines;
+        match closed {
+            Closing::Done(next) => {
+                state = next;
+            }
+            Closing::Misclosed(fault) => {
+                ending = Ending::Stopped(fault);
+                residual = certificates::residual(&weights, &rows, state.subgoals);
+                break 'lines;
+            }
         }
-        state = c.state;
         at = end + 1;
     }
     LoadedLines {
-        fault,
+        ending,
         line: number,
         state,
+        residual,
     }
 }
 
@@ -128,41 +287,45 @@ fn start() -> State
     }
 }
 
-/// The refusal of a line by its fault's number.
-fn refusal(fault: u8, line: u16, rule: u8, claim: u8) -> Refusal
-    ensures { λ r. ⌜ Refuses fault line rule claim r ⌝ }
+/// The refusal of a line by its fault.
+fn refusal(fault: Fault, line: u16, rule: u8, claim: u8) -> Refusal
+    ensures { λ r. ⌜ refusalNumbers r ≡ faultNumbers fault line rule claim ⌝ }
 {
     match fault {
-        4 => Refusal::UnfitLine(line),
-        5 => Refusal::Letter(line),
-        7 => Refusal::Name(line),
-        8 => Refusal::Declaration(line),
-        9 => Refusal::FieldCount(line),
-        10 => Refusal::Number(line),
-        11 => Refusal::NoTerm(line),
-        12 => Refusal::CountLimit(line),
-        _ => Refusal::Unjustified(line, rule, claim),
+        Fault::UnfitLine => Refusal::UnfitLine(line),
+        Fault::Letter => Refusal::Letter(line),
+        Fault::Name => Refusal::Name(line),
+        Fault::Declaration => Refusal::Declaration(line),
+        Fault::FieldCount => Refusal::FieldCount(line),
+        Fault::Number => Refusal::Number(line),
+        Fault::NoTerm => Refusal::NoTerm(line),
+        Fault::CountLimit => Refusal::CountLimit(line),
+        Fault::Unjustified => Refusal::Unjustified(line, rule, claim),
     }
 }
 
 /// Lays the residual over the area's first 17 numbers.
-fn lay(area: &mut [i64], numbers: &[i64; 1305])
-    requires { ⌜ (17 ≤ length (now area)) × (length (now numbers) ≡ 1305) ⌝ }
-    ensures { λ r. ⌜ Laid (now (area .entry)) (now (numbers .entry)) (now (area .exit)) ⌝ }
+fn lay(area: &mut [i64], form: Form)
+    requires { ⌜ 17 ≤ length (now area) ⌝ }
+    ensures { λ r. ⌜ Laid (now (area .entry)) form (now (area .exit)) ⌝ }
 {
+    let constant = form.constant;
+    let coefficients = form.coefficients;
+    area[0] = constant;
     let mut i: usize = 0;
-    while i < 17 {
-        let z = numbers[i];
-        area[i] = z;
+    while i < Form::VARIABLES {
+        let z = coefficients[i];
+        area[1 + i] = z;
         i += 1;
     }
 }
 
-/// A text that is judged: the verdict, whether that is for an unjustified claim, and the state.
+/// A text that is judged: the verdict, whether that is for an unjustified claim, the state, and the residual of that claim.
 pub struct Loaded {
     pub verdict: Verdict,
-    pub unjustified: bool,
+    pub residual: Form,
     pub state: State,
+    pub unjustified: bool,
 }
 
 fn refused(refusal: Refusal) -> Loaded
@@ -170,24 +333,37 @@ fn refused(refusal: Refusal) -> Loaded
 {
     Loaded {
         verdict: Verdict::Refused(refusal),
-        unjustified: false,
+        residual: Form::zero(),
         state: start(),
+        unjustified: false,
     }
 }
 
-/// Judges a text and fills the tables, which are empty at first, with what its lines write. For an unjustified claim the
-/// residual stands in front of the numbers.
+fn is_unjustified(fault: Fault) -> bool
+    ensures { λ r. ⌜ r ≡ eqb (numberOf fault) 13 ⌝ }
+{
+    match fault {
+        Fault::UnfitLine => false,
+        Fault::Letter => false,
+        Fault::Name => false,
+        Fault::Declaration => false,
+        Fault::FieldCount => false,
+        Fault::Number => false,
+        Fault::NoTerm => false,
+        Fault::CountLimit => false,
+        Fault::Unjustified => true,
+    }
+}
+
+/// Judges a text and fills the tables, which are empty at first, with what its lines write.
 pub fn load(
     text: &[u8],
-    names: &mut [u64; 64],
-    facts: &mut [u8; 96],
-    claims: &mut [i16; 4608],
-    variables: &mut [u64; 64],
-    numbers: &mut [i64; 1305],
-    slots: &mut [u16; 256],
+    names: &mut Names,
+    signatures: &mut Signatures,
+    claims: &mut Claims,
 ) -> Loaded
-    requires { ⌜ tables (now names) (now facts) (now claims) (now variables) (now numbers) (now slots) ≡ fresh ⌝ }
-    ensures { λ r. ⌜ Loads (now (text .entry)) r (tables (now (names .exit)) (now (facts .exit)) (now (claims .exit)) (now (variables .exit)) (now (numbers .exit)) (now (slots .exit))) ⌝ }
+    requires { ⌜ unruled (now names) (now signatures) (now claims) ≡ fresh ⌝ }
+    ensures { λ r. ⌜ Loads (now (text .entry)) r (now (names .exit)) (now (signatures .exit)) (now (claims .exit)) ⌝ }
 {
     let len = text.len();
     if 32768 < len {
@@ -196,48 +372,42 @@ pub fn load(
     if len == 0 {
         return refused(Refusal::UnfinishedText);
     }
-    if text[len - 1] != 10 {
+    if text[len - 1] != b'\n' {
         return refused(Refusal::UnfinishedText);
     }
-    let l = load_lines(
-        text,
-        start(),
-        names,
-        facts,
-        claims,
-        variables,
-        numbers,
-        slots,
-    );
-    let fault = l.fault;
+    let l = load_lines(text, start(), names, signatures, claims);
+    let ending = l.ending;
     let state = l.state;
+    let residual = l.residual;
     let line = widths::short(l.line);
-    if fault == 13 {
-        return Loaded {
+    let rule = widths::byte(state.rules);
+    match ending {
+        Ending::Stopped(fault) => Loaded {
             verdict: Verdict::Refused(refusal(
                 fault,
                 line,
-                widths::byte(state.rules),
+                rule,
                 widths::byte(state.multipliers + 1),
             )),
-            unjustified: true,
+            residual,
             state,
-        };
-    }
-    if fault != 0 {
-        return refused(refusal(fault, line, 0, 0));
-    }
-    if !state.ended {
-        return refused(Refusal::NoEnd);
-    }
-    Loaded {
-        verdict: Verdict::Accepted(Counts {
-            lines: line,
-            rules: widths::byte(state.rules),
-            multiplier_lines: widths::short(state.multiplier_lines),
-        }),
-        unjustified: false,
-        state,
+            unjustified: is_unjustified(fault),
+        },
+        Ending::AllPass => {
+            if !state.ended {
+                return refused(Refusal::NoEnd);
+            }
+            Loaded {
+                verdict: Verdict::Accepted(Counts {
+                    lines: line,
+                    rules: rule,
+                    multiplier_lines: widths::short(state.multiplier_lines),
+                }),
+                residual,
+                state,
+                unjustified: false,
+            }
+        }
     }
 }
 
@@ -249,22 +419,12 @@ pub fn check(text: &[u8], area: &mut [i64]) -> Verdict
         return Verdict::Refused(Refusal::ShortArea);
     }
     let mut names = [0u64; 64];
-    let mut facts = [0u8; 96];
+    let mut signatures = [0u8; 96];
     let mut claims = [0i16; 4608];
-    let mut variables = [0u64; 64];
-    let mut numbers = [0i64; 1305];
-    let mut slots = [0u16; 256];
-    let l = load(
-        text,
-        &mut names,
-        &mut facts,
-        &mut claims,
-        &mut variables,
-        &mut numbers,
-        &mut slots,
-    );
+    let l = load(text, &mut names, &mut signatures, &mut claims);
     if l.unjustified {
-        lay(area, &numbers);
+        let residual = l.residual;
+        lay(area, residual);
         return l.verdict;
     }
     l.verdict

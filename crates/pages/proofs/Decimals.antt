@@ -5,7 +5,7 @@ use Prim.Native.Nat.{ℕ, zero, suc, _+_, _*_, _/_, _%_, _^_, _≤_, _<_}
 use native.Mathlib.Decide.{decLt}
 use native.Mathlib.Omega.{arith}
 use lib.ListN.{length}
-use Rattle.integers.proofs.Lists.{length-end}
+use Rattle.groundwork.proofs.Lists.{length-end}
 use Rattle.theory.specs.Text.{decimal}
 use Rattle.theory.proofs.Reading.Decimals.{decimal-one, decimal-more}
 

@@ -7,7 +7,7 @@ use native.Mathlib.Omega.{arith}
 use borrow.Rule.Slice.PartMut.{midOf, putMid}
 use lib.ListN.{length, getD, set, take, drop, length-append, length-drop, take-append-drop, drop-of-length-le}
 use lib.Seq.{length-take-le, drop-cons, drop-drop, take-all, take-at, drop-at, set-at}
-use Rattle.integers.proofs.Lists.{length-end}
+use Rattle.groundwork.proofs.Lists.{length-end}
 use Rattle.theory.specs.Text.{Bytes}
 use Rattle.pages.specs.Pages.{Puts}
 
@@ -19,8 +19,8 @@ module _ {bytes page₀ page : Bytes} {r : ℕ} (puts : Puts bytes page₀ page 
   pub front-is : take r page ≡ bytes
   front-is = ap (take r) (puts .is) ∙ take-at bytes (drop r page₀) r (sym (puts .many))
 
-  behind-is : drop r page ≡ drop r page₀
-  behind-is = ap (drop r) (puts .is) ∙ drop-at bytes (drop r page₀) r (sym (puts .many))
+  after-is : drop r page ≡ drop r page₀
+  after-is = ap (drop r) (puts .is) ∙ drop-at bytes (drop r page₀) r (sym (puts .many))
 
   -- the page is as long as it was
   pub puts-size : r ≤ length page₀ → length page ≡ length page₀
@@ -43,16 +43,16 @@ module _ {bytes page₀ page : Bytes} {r : ℕ} (puts : Puts bytes page₀ page 
   puts-more more {last} {q} second =
       let front = ap (λ (bs : Bytes). bs ++ more) front-is in
       let many : q ≡ r + length more = second .many ∙ ap length front ∙ omega (arith, length-append bytes more, puts .many) in
-      let behind : drop q page ≡ drop q page₀ = rw many (sym (drop-drop (length more) r page) ∙ ap (drop (length more)) behind-is ∙ drop-drop (length more) r page₀) in
-      record { many = second .many ∙ ap length front; is = second .is ∙ ap₂ _++_ front behind }
+      let after : drop q page ≡ drop q page₀ = rw many (sym (drop-drop (length more) r page) ∙ ap (drop (length more)) after-is ∙ drop-drop (length more) r page₀) in
+      record { many = second .many ∙ ap length front; is = second .is ∙ ap₂ _++_ front after }
 
 -- a writer that is lent the page from a place on
 pub puts-part : {more page part : Bytes} {at q : ℕ} → at ≤ length page → Puts more (midOf at (length page - at) page) part q → Puts (take at page ++ more) page (putMid at (length page - at) page part) (at + q)
 puts-part {more} {page} {part} {at} {q} within second =
     let lent : midOf at (length page - at) page ≡ drop at page = take-all (length page - at) (drop at page) (omega (arith, length-drop at page)) in
     let none = drop-drop (length page - at) at page ∙ drop-of-length-le page {i = at + (length page - at)} (omega arith) in
-    let behind = ap (drop q) lent ∙ drop-drop q at page in
-    let middle = second .is ∙ ap (λ (rest : Bytes). more ++ rest) behind in
+    let after = ap (drop q) lent ∙ drop-drop q at page in
+    let middle = second .is ∙ ap (λ (rest : Bytes). more ++ rest) after in
     record {
       many = omega (arith, length-append (take at page) more, length-take-le at page within, second .many);
       is =

@@ -19,7 +19,7 @@ pub record Writing (n : ℕ) (page₀ page : Bytes) (many left at : ℕ) : Type 
   pub inside : at < length page
   pub written : Bytes
   pub whole : decimal n ≡ decimal left ++ written
-  pub behind : drop (at + 1) page ≡ written ++ drop many page₀
+  pub after : drop (at + 1) page ≡ written ++ drop many page₀
 
 -- a byte stored at a place stands in front of what is after the place
 store-front : (page : Bytes) (at b : ℕ) → at < length page → drop at (set page at b) ≡ b ∷ drop (at + 1) page
@@ -37,7 +37,7 @@ writing-begin {n} {many} {page} all room =
       inside = omega arith;
       written = [];
       whole = sym (append-nil (decimal n));
-      behind = ap (λ (i : ℕ). drop i page) first;
+      after = ap (λ (i : ℕ). drop i page) first;
     }
 
 module _ {n many left at : ℕ} {page₀ page : Bytes} (writing : Writing n page₀ page many left at) where
@@ -46,7 +46,7 @@ module _ {n many left at : ℕ} {page₀ page : Bytes} (writing : Writing n page
 
   module _ {b : ℕ} where
     digit-front : (i : ℕ) → i ≡ at → drop i (set page at b) ≡ (b ∷ writing .written) ++ drop many page₀
-    digit-front i e = ap (λ (j : ℕ). drop j (set page at b)) e ∙ store-front page at b (writing .inside) ∙ ap (λ (rest : Bytes). b ∷ rest) (writing .behind)
+    digit-front i e = ap (λ (j : ℕ). drop j (set page at b)) e ∙ store-front page at b (writing .inside) ∙ ap (λ (rest : Bytes). b ∷ rest) (writing .after)
 
     pub writing-more : 10 ≤ left → b ≡ 48 + left % 10 → Writing n page₀ (set page at b) many (left / 10) (at - 1)
     writing-more h e =
@@ -58,7 +58,7 @@ module _ {n many left at : ℕ} {page₀ page : Bytes} (writing : Writing n page
           inside = omega (arith, writing .inside, length-set page at b);
           written = b ∷ writing .written;
           whole = writing .whole ∙ rw (decimal-last left h, e) (append-assoc (decimal (left / 10)) ((48 + left % 10) ∷ []) (writing .written));
-          behind = digit-front (at - 1 + 1) before;
+          after = digit-front (at - 1 + 1) before;
         }
 
     pub writing-end : left < 10 → b ≡ 48 + left → Puts (decimal n) page₀ (set page at b) many

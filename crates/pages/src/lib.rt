@@ -44,11 +44,11 @@ pub fn put_decimal(page: &mut [u8], n: u64) -> usize
 }
 
 /// Writes a number in decimal and one byte after it, from a place on, and gives the place after them.
-pub fn put_field(page: &mut [u8], at: usize, n: u64, behind: u8) -> usize
+pub fn put_field(page: &mut [u8], at: usize, n: u64, after: u8) -> usize
     requires { ⌜ at + length (decimal n) + 1 ≤ length (now page) ⌝ }
-    ensures { λ r. ⌜ (r ≡ at + length (decimal n) + 1) × Puts (take at (now (page .entry)) ++ (decimal n ++ behind ∷ [])) (now (page .entry)) (now (page .exit)) r ⌝ }
+    ensures { λ r. ⌜ (r ≡ at + length (decimal n) + 1) × Puts (take at (now (page .entry)) ++ (decimal n ++ after ∷ [])) (now (page .entry)) (now (page .exit)) r ⌝ }
 {
     let end = at + put_decimal(&mut page[at..], n);
-    page[end] = behind;
+    page[end] = after;
     end + 1
 }

@@ -4,7 +4,7 @@ use mathlib.Core.Bool.{Bool, true, false, not, _||_}
 use mathlib.Core.Option.{Option, some, none, Option·getD}
 use Prim.Native.Nat.{ℕ, _≤_}
 use native.Mathlib.Omega.{arith}
-use Rattle.integers.proofs.Truth.{by-truth, or-left, or-right, or-neither}
+use Rattle.groundwork.proofs.Truth.{by-truth, or-left, or-right, or-neither}
 use Rattle.theory.specs.Lists.{isSome}
 use Rattle.theory.specs.Text.{Bytes, bytes, same, natural}
 use Rattle.theory.proofs.Reading.Bytes.{same-refl, same-equal}

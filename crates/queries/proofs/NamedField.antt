@@ -4,14 +4,14 @@ use mathlib.Core.Bool.{false}
 use mathlib.Core.List.{List}
 use Prim.Native.Nat.{ℕ}
 use native.Mathlib.Omega.{arith}
-use Rattle.integers.proofs.Truth.{never-both}
+use Rattle.groundwork.proofs.Truth.{never-both}
 use Rattle.theory.specs.Text.{Bytes}
 use Rattle.text.specs.declared.Word.{Word}
 use Rattle.text.specs.declared.Word.the-variants.{Name, Variable, Neither}
 use Rattle.text.specs.declared.Words.{Words}
-use Rattle.text.specs.Words.{WordRead, PlaceOf}
+use Rattle.text.specs.Words.{WordRead, StandsAt}
 use Rattle.text.proofs.WordKinds.{isNameWord, name-told}
-use Rattle.opening.proofs.NameReading.{read-words}
+use Rattle.text.proofs.WordKinds.{read-words}
 use Rattle.queries.specs.Queries.{Means}
 
 module _ (field : Bytes) (names : List ℕ) (known : ℕ) (word : Word) (read : WordRead field word) where
@@ -28,9 +28,9 @@ module _ (field : Bytes) (names : List ℕ) (known : ℕ) (word : Word) (read : 
   pub means-neither : word ≡ Neither → Means field names known known
   means-neither is = unnamed (ap isNameWord is)
 
-  pub means-name : (words : Words) → word ≡ Name words → (place : ℕ) → PlaceOf names known words place → Means field names known place
+  pub means-name : (words : Words) → word ≡ Name words → (place : ℕ) → StandsAt names known words place → Means field names known place
   means-name words is place at = record {
     high = at .high;
     isNamed = λ h. name-told read ∙ ap isNameWord is;
-    place = λ e. subst (λ (w : Words). PlaceOf names known w place) (read-words field word words read is) at;
+    place = λ e. subst (λ (w : Words). StandsAt names known w place) (read-words field word words read is) at;
   }

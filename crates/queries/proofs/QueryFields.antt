@@ -7,7 +7,7 @@ use Prim.Native.Nat.{ℕ, _+_, _-_, _≤_, _<_}
 use native.Mathlib.Decide.{decLt}
 use native.Mathlib.Omega.{arith}
 use lib.ListN.{length, getD, take, drop, length-map, List·getD-map}
-use Rattle.integers.proofs.Lists.{getD-member}
+use Rattle.groundwork.proofs.Lists.{getD-member}
 use Rattle.theory.specs.Lists.{isSome}
 use Rattle.theory.specs.Text.{Bytes, bytes, same, isDecimal, natural, fieldsOf}
 use Rattle.theory.specs.Packs.{key}

@@ -6,7 +6,7 @@ use mathlib.Core.Option.{some, none, Option·getD}
 use Prim.Native.Nat.{ℕ, _+_, _-_, _≤_, _<_}
 use native.Mathlib.Omega.{arith}
 use lib.ListN.{length, getD, take, drop}
-use Rattle.integers.proofs.Truth.{by-truth}
+use Rattle.groundwork.proofs.Truth.{by-truth}
 use Rattle.theory.specs.Lists.{every, isSome}
 use Rattle.theory.specs.Text.{Bytes, isName, natural, partsAt, fieldsOf}
 use Rattle.theory.specs.Packs.{Pack, declaredAs}
@@ -17,7 +17,7 @@ use Rattle.theory.proofs.Reading.Presence.{none-is}
 use Rattle.theory.proofs.Reading.Spelling.{natural-within}
 use Rattle.text.specs.Scans.{part, Finds, partsFrom}
 use Rattle.tables.specs.Tables.{predicateAt, Declares}
-use Rattle.opening.proofs.Lookup.{name-is, name-declared, name-new}
+use Rattle.tables.proofs.Lookup.{name-is, name-declared, name-absent}
 use Rattle.queries.specs.declared.Asked.{Asked}
 use Rattle.tables.specs.QuerySizes.{entryOf, SafeSizes, SizesStand}
 use Rattle.queries.specs.Queries.{SizesRead, Means, OfQuery, OpensQuery}
@@ -30,9 +30,9 @@ use Rattle.queries.proofs.QueryFields.{name-field, key-is, asked-field,
 abbrev Refused : ℕ → Asked → Type 0
 Refused n r = (r .fault ≡ n) × (r .predicate ≡ 0) × (r .arity ≡ 0) × (r .asked ≡ 0)
 
-module _ (query : Bytes) (names facts : List ℕ) (known : ℕ) where
+module _ (query : Bytes) (names signatures : List ℕ) (known : ℕ) where
   refuses : {n : ℕ} → OfQuery n → 0 < n → (r : Asked) → Refused n r → (sizes : List ℕ) → length sizes ≡ 8 → SafeSizes sizes
-      → ((p : Pack) → Declares names facts known (p .predicates) → queryFault p query ≡ n) → OpensQuery query names facts known r sizes
+      → ((p : Pack) → Declares names signatures known (p .predicates) → queryFault p query ≡ n) → OpensQuery query names signatures known r sizes
   refuses number above r refused sizes size safe finds = record {
     fault = λ f. subst OfQuery (sym (refused .0)) number;
     predicate = omega arith;
@@ -44,26 +44,26 @@ module _ (query : Bytes) (names facts : List ℕ) (known : ℕ) where
   }
 
   module _ (unfit : Bool) (scanned : unfit ≡ isUnfit query) where
-    pub opens-unfit : unfit ≡ true → (sizes : List ℕ) → length sizes ≡ 8 → SafeSizes sizes → (r : Asked) → Refused 4 r → OpensQuery query names facts known r sizes
+    pub opens-unfit : unfit ≡ true → (sizes : List ℕ) → length sizes ≡ 8 → SafeSizes sizes → (r : Asked) → Refused 4 r → OpensQuery query names signatures known r sizes
     opens-unfit e sizes size safe r refused = refuses OfQuery.four (omega arith) r refused sizes size safe λ p d. fault-four p query (sym scanned ∙ e)
 
     module _ (fits : unfit ≡ false) (stop : ℕ) (first : Finds query 44 0 stop) (place : ℕ) (means : Means (take stop query) names known place) where
       fit : isUnfit query ≡ false
       fit = sym scanned ∙ fits
 
-      pub opens-undeclared : known ≤ place → (sizes : List ℕ) → length sizes ≡ 8 → SafeSizes sizes → (r : Asked) → Refused 14 r → OpensQuery query names facts known r sizes
+      pub opens-undeclared : known ≤ place → (sizes : List ℕ) → length sizes ≡ 8 → SafeSizes sizes → (r : Asked) → Refused 14 r → OpensQuery query names signatures known r sizes
       opens-undeclared above sizes size safe r refused = refuses OfQuery.fourteen (omega arith) r refused sizes size safe λ p d. fault-fourteen p query fit (finds p d)
         where
-          finds : (p : Pack) → Declares names facts known (p .predicates) → (isName (field 0 (fieldsOf query)) && isSome (declaredAs (queryKey (queryOf query)) (p .predicates))) ≡ false
+          finds : (p : Pack) → Declares names signatures known (p .predicates) → (isName (field 0 (fieldsOf query)) && isSome (declaredAs (queryKey (queryOf query)) (p .predicates))) ≡ false
           finds p d =
               by-truth (λ (b : Bool). (b && isSome (declaredAs (queryKey (queryOf query)) (p .predicates))) ≡ false) (isName (field 0 (fieldsOf query)))
               (λ e.
               let isNamed : isName (take stop query) ≡ true = ap isName (sym (name-field query stop first)) ∙ e in
-              none-is _ (name-new d (take stop query) isNamed (means .place isNamed) _ (key-is query stop first) above))
+              none-is _ (name-absent d (take stop query) isNamed (means .place isNamed) _ (key-is query stop first) above))
               (λ e. refl)
 
       -- the name means the predicate at its place, of arity a, and n commas were counted
-      module _ (below : place < known) (n a : ℕ) (count : n + 1 ≡ length (partsAt 44 query)) (arity : a ≡ getD facts place 0) where
+      module _ (below : place < known) (n a : ℕ) (count : n + 1 ≡ length (partsAt 44 query)) (arity : a ≡ getD signatures place 0) where
         isNamed : isName (take stop query) ≡ true
         isNamed = means .isNamed below
 
@@ -72,48 +72,48 @@ module _ (query : Bytes) (names facts : List ℕ) (known : ℕ) where
 
         -- ---- for a pack that declares these predicates
 
-        module _ (p : Pack) (d : Declares names facts known (p .predicates)) where
+        module _ (p : Pack) (d : Declares names signatures known (p .predicates)) where
           declared : declaredAs (queryKey (queryOf query)) (p .predicates) ≡ some (predicateAt (p .predicates) place)
           declared = name-declared d (take stop query) isNamed (means .place isNamed) _ (key-is query stop first) below
 
-          arity-is : predicateAt (p .predicates) place .arguments ≡ getD facts place 0
+          arity-is : predicateAt (p .predicates) place .arguments ≡ getD signatures place 0
           arity-is = sym (d .arity place below)
 
         pub opens-miscounted : (n ≡ a + 1 → ⊥) → (sizes : List ℕ) → length sizes ≡ 8 → SafeSizes sizes → (r : Asked) → Refused 15 r
-            → OpensQuery query names facts known r sizes
+            → OpensQuery query names signatures known r sizes
         opens-miscounted other sizes size safe r refused =
             refuses OfQuery.fifteen (omega arith) r refused sizes size safe λ p d.
             fault-fifteen p query fit field-named _ (declared p d) (λ e. other (omega (arith, arity-is p d)))
 
         -- there is a field for each argument, and the second has this number
-        module _ (right : n ≡ a + 1) (end : ℕ) (second : Finds query 44 (stop + 1) end) (asked : ℕ) (reads : asked ≡ Option·getD (natural (getD facts place 0) (part query (stop + 1) end)) 0) where
+        module _ (right : n ≡ a + 1) (end : ℕ) (second : Finds query 44 (stop + 1) end) (asked : ℕ) (reads : asked ≡ Option·getD (natural (getD signatures place 0) (part query (stop + 1) end)) 0) where
           more : 1 < length (fieldsOf query)
           more = omega arith
 
-          full : (p : Pack) → Declares names facts known (p .predicates) → length (fieldsOf query) ≡ predicateAt (p .predicates) place .arguments + 2
+          full : (p : Pack) → Declares names signatures known (p .predicates) → length (fieldsOf query) ≡ predicateAt (p .predicates) place .arguments + 2
           full p d = omega (arith, arity-is p d)
 
           -- what test 16 finds
-          unasked : (p : Pack) → Declares names facts known (p .predicates) → (b : Bool) → isUnasked (getD facts place 0) (part query (stop + 1) end) ≡ b → isUnasked (predicateAt (p .predicates) place .arguments) (field 1 (fieldsOf query)) ≡ b
+          unasked : (p : Pack) → Declares names signatures known (p .predicates) → (b : Bool) → isUnasked (getD signatures place 0) (part query (stop + 1) end) ≡ b → isUnasked (predicateAt (p .predicates) place .arguments) (field 1 (fieldsOf query)) ≡ b
           unasked p d b e = rw (arity-is p d, asked-field query stop first more end second) e
 
-          pub opens-unasked : asked ≡ 0 → (sizes : List ℕ) → length sizes ≡ 8 → SafeSizes sizes → (r : Asked) → Refused 16 r → OpensQuery query names facts known r sizes
+          pub opens-unasked : asked ≡ 0 → (sizes : List ℕ) → length sizes ≡ 8 → SafeSizes sizes → (r : Asked) → Refused 16 r → OpensQuery query names signatures known r sizes
           opens-unasked e sizes size safe r refused =
               refuses OfQuery.sixteen (omega arith) r refused sizes size safe λ p d.
               fault-sixteen p query fit field-named _ (declared p d) (full p d) (unasked p d true (asked-zero _ _ (sym reads ∙ e)))
 
           -- an argument is asked for, and the sizes are read
           module _ (above : asked ≡ 0 → ⊥) (fine : Bool) (sizes : List ℕ) (read : SizesRead query (end + 1) fine sizes) where
-            number : natural (getD facts place 0) (part query (stop + 1) end) ≡ some asked
+            number : natural (getD signatures place 0) (part query (stop + 1) end) ≡ some asked
             number = asked-number _ _ (λ e. above (reads ∙ e)) ∙ ap some (sym reads)
 
-            asks : (p : Pack) → Declares names facts known (p .predicates) → isUnasked (predicateAt (p .predicates) place .arguments) (field 1 (fieldsOf query)) ≡ false
+            asks : (p : Pack) → Declares names signatures known (p .predicates) → isUnasked (predicateAt (p .predicates) place .arguments) (field 1 (fieldsOf query)) ≡ false
             asks p d = unasked p d false (asked-clear _ _ asked number above)
 
             sized : every (λ (f : Bytes). isSome (sizeFrom f)) (drop 2 (fieldsOf query)) ≡ fine
             sized = ap (every (λ (f : Bytes). isSome (sizeFrom f))) (size-fields query stop first more end second) ∙ sym (read .all)
 
-            pub opens-malformed : fine ≡ false → (r : Asked) → Refused 17 r → OpensQuery query names facts known r sizes
+            pub opens-malformed : fine ≡ false → (r : Asked) → Refused 17 r → OpensQuery query names signatures known r sizes
             opens-malformed e r refused =
                 refuses OfQuery.seventeen (omega arith) r refused sizes (read .size) (read .safe) λ p d.
                 fault-seventeen p query fit field-named _ (declared p d) (full p d) (asks p d) (sized ∙ e)
@@ -126,10 +126,10 @@ module _ (query : Bytes) (names facts : List ℕ) (known : ℕ) where
               stand : SizesStand sizes (queryOf query .sizes)
               stand = given-stand query (end + 1) rest sizes (subst (λ (b : Bool). SizesRead query (end + 1) b sizes) good read)
 
-              given-full : length (queryOf query .sizes) ≡ getD facts place 0
+              given-full : length (queryOf query .sizes) ≡ getD signatures place 0
               given-full = omega (arith, given-count query (end + 1) rest, size-count query stop first more end second)
 
-              module _ (few : getD facts place 0 ≤ 8) where
+              module _ (few : getD signatures place 0 ≤ 8) where
                 asked-place : asked - 1 ≡ queryOf query .asked
                 unfolding queryOf queryFrom
                 asked-place = sym (ap (λ (f : Bytes). Option·getD (natural 8 f) 0 - 1) (asked-field query stop first more end second) ∙ ap (λ (m : ℕ). m - 1) (asked-is _ _ asked number few))
@@ -140,7 +140,7 @@ module _ (query : Bytes) (names facts : List ℕ) (known : ℕ) where
                     stand .entry (asked - 1) (omega (arith, given-full, natural-within _ _ asked number))
                     ∙ ap (λ (i : ℕ). entryOf (getD (queryOf query .sizes) i none)) asked-place
 
-                pub opens-known : (getD sizes (asked - 1) 0 ≡ 65536 → ⊥) → (r : Asked) → Refused 18 r → OpensQuery query names facts known r sizes
+                pub opens-known : (getD sizes (asked - 1) 0 ≡ 65536 → ⊥) → (r : Asked) → Refused 18 r → OpensQuery query names signatures known r sizes
                 opens-known other r refused =
                     refuses OfQuery.eighteen (omega arith) r refused sizes (read .size) (read .safe) λ p d.
                     fault-eighteen p query fit field-named _ (declared p d) (full p d) (asks p d) (sized ∙ good) (entry-known _ (λ e. other (at-asked ∙ e)))
@@ -148,7 +148,7 @@ module _ (query : Bytes) (names facts : List ℕ) (known : ℕ) where
                 unknown : getD sizes (asked - 1) 0 ≡ 65536 → isSome (sizeGiven (queryOf query .asked) (queryOf query)) ≡ false
                 unknown e = rw (given-at query (end + 1) rest (queryOf query .asked)) (entry-unknown _ (ap entryOf (sym (given-at query (end + 1) rest (queryOf query .asked))) ∙ sym at-asked ∙ e))
 
-                pub opens-asked : known ≤ 32 → getD sizes (asked - 1) 0 ≡ 65536 → (b : ℕ) → b ≡ getD facts place 0 → OpensQuery query names facts known (record { fault = 0; predicate = place; arity = b; asked = asked - 1 }) sizes
+                pub opens-asked : known ≤ 32 → getD sizes (asked - 1) 0 ≡ 65536 → (b : ℕ) → b ≡ getD signatures place 0 → OpensQuery query names signatures known (record { fault = 0; predicate = place; arity = b; asked = asked - 1 }) sizes
                 opens-asked low e b same = record {
                   fault = λ f. absurd (f refl);
                   predicate = omega arith;

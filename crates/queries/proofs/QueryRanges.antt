@@ -10,22 +10,22 @@ use mir.Val.{Fits}
 use Rattle.theory.specs.Text.{Bytes, natural, partsAt}
 use Rattle.theory.proofs.Reading.Spelling.{natural-within}
 use Rattle.text.specs.Scans.{Finds, partsFrom}
-use Rattle.tables.specs.Tables.{SafeFacts}
+use Rattle.tables.specs.Tables.{SafeSignatures}
 use Rattle.queries.proofs.QueryFields.{asked-inside, size-count}
 
-module _ (facts : List ℕ) (safe : SafeFacts facts) (known place : ℕ) (low : known ≤ 32) (below : place < known) where
-  pub arity-small : getD facts place 0 ≤ 8
+module _ (signatures : List ℕ) (safe : SafeSignatures signatures) (known place : ℕ) (low : known ≤ 32) (below : place < known) where
+  pub arity-small : getD signatures place 0 ≤ 8
   arity-small = safe .arity place (omega arith)
 
-  pub arity-fits : (a : ℕ) → a ≡ getD facts place 0 → Fits w64 (a + 1)
+  pub arity-fits : (a : ℕ) → a ≡ getD signatures place 0 → Fits w64 (a + 1)
   arity-fits a is = omega (arith, arity-small)
 
   -- the asked argument, and its place in the table of sizes
-  module _ (field : Bytes) (asked : ℕ) (reads : asked ≡ Option·getD (natural (getD facts place 0) field) 0) where
+  module _ (field : Bytes) (asked : ℕ) (reads : asked ≡ Option·getD (natural (getD signatures place 0) field) 0) where
     asked-low : asked ≤ 8
-    asked-low = omega (arith, by (natural (getD facts place 0) field) (natural-within (getD facts place 0) field))
+    asked-low = omega (arith, by (natural (getD signatures place 0) field) (natural-within (getD signatures place 0) field))
       where
-        by : (o : Option ℕ) → ((n : ℕ) → o ≡ some n → n ≤ getD facts place 0) → Option·getD o 0 ≤ 8
+        by : (o : Option ℕ) → ((n : ℕ) → o ≡ some n → n ≤ getD signatures place 0) → Option·getD o 0 ≤ 8
         by none within = omega arith
         by (some n) within = omega (arith, within n refl, arity-small)
 
@@ -40,5 +40,5 @@ module _ (query : Bytes) (stop : ℕ) (first : Finds query 44 0 stop) (n a : ℕ
   pub second-inside : stop + 1 ≤ length query
   second-inside = asked-inside query stop first (omega arith)
 
-  pub sizes-few : (end : ℕ) → Finds query 44 (stop + 1) end → (facts : List ℕ) → SafeFacts facts → (known place : ℕ) → known ≤ 32 → place < known → a ≡ getD facts place 0 → length (partsFrom 44 query (end + 1)) ≤ 8
-  sizes-few end second facts safe known place low below arity = omega (arith, size-count query stop first (omega arith) end second, arity-small facts safe known place low below)
+  pub sizes-few : (end : ℕ) → Finds query 44 (stop + 1) end → (signatures : List ℕ) → SafeSignatures signatures → (known place : ℕ) → known ≤ 32 → place < known → a ≡ getD signatures place 0 → length (partsFrom 44 query (end + 1)) ≤ 8
+  sizes-few end second signatures safe known place low below arity = omega (arith, size-count query stop first (omega arith) end second, arity-small signatures safe known place low below)

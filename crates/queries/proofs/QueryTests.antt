@@ -6,7 +6,7 @@ use mathlib.Core.Option.{some}
 use Prim.Native.Nat.{_+_}
 use lib.Dec.{eqb}
 use lib.ListN.{length, drop}
-use Rattle.integers.proofs.Truth.{and-both, equal-eqb, eqb-different}
+use Rattle.groundwork.proofs.Truth.{and-both, equal-eqb, eqb-different}
 use Rattle.theory.specs.Lists.{every, isSome}
 use Rattle.theory.specs.Text.{Bytes, isName, fieldsOf}
 use Rattle.theory.specs.Packs.{Predicate, Pack, declaredAs}
@@ -14,7 +14,7 @@ use Rattle.theory.specs.Written.{field}
 use Rattle.theory.specs.Faults.{test, firstOf, isUnfit, arityIn}
 use Rattle.theory.specs.Reserve.{queryKey, queryOf, sizeFrom, sizeGiven, queryFault}
 use Rattle.theory.proofs.Reading.Presence.{some-is, arity-in}
-use Rattle.opening.proofs.LetterTests.{first-passed, first-found}
+use Rattle.theory.proofs.Judging.Tests.{first-passed, first-found}
 use Rattle.queries.proofs.AskedField.{isUnasked}
 
 module _ (p : Pack) (query : Bytes) where

@@ -5,7 +5,7 @@ use mathlib.Core.Option.{Option, some, none, Option·map, Option·getD}
 use Prim.Native.Nat.{ℕ, _+_, _≤_}
 use native.Mathlib.Omega.{arith}
 use lib.ListN.{length, getD, drop-of-length-le}
-use Rattle.integers.proofs.Truth.{by-truth, never-both}
+use Rattle.groundwork.proofs.Truth.{by-truth, never-both}
 use Rattle.theory.specs.Lists.{isSome}
 use Rattle.theory.specs.Text.{Bytes, bytes, same, natural}
 use Rattle.theory.specs.Reserve.{sizeFrom}

@@ -8,7 +8,7 @@ use native.Mathlib.Omega.{arith}
 use borrow.Author.Count.{below-more}
 use lib.ListN.{length, getD, set, drop, length-set}
 use lib.Seq.{getD-set-same, getD-set-other, getD-drop, drop-drop}
-use Rattle.integers.proofs.Truth.{and-not-left}
+use Rattle.groundwork.proofs.Truth.{and-not-left}
 use Rattle.theory.specs.Lists.{every, isSome}
 use Rattle.theory.specs.Text.{Bytes}
 use Rattle.theory.specs.Reserve.{sizeFrom}

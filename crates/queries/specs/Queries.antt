@@ -10,7 +10,7 @@ use Rattle.theory.specs.Text.{Bytes, isName}
 use Rattle.theory.specs.Packs.{Pack, keyOf}
 use Rattle.theory.specs.Reserve.{queryKey, queryOf, sizeFrom, queryFault}
 use Rattle.text.specs.Scans.{partsFrom}
-use Rattle.text.specs.Words.{wordsOf, PlaceOf}
+use Rattle.text.specs.Words.{wordsOf, StandsAt}
 use Rattle.tables.specs.Tables.{predicateAt, Declares}
 use Rattle.tables.specs.QuerySizes.{entryOf, SafeSizes, SizesStand}
 use Rattle.queries.specs.declared.Asked.{Asked}
@@ -31,7 +31,7 @@ pub record SizesRead (query : Bytes) (from : ℕ) (r : Bool) (sizes : List ℕ) 
 pub record Means (field : Bytes) (names : List ℕ) (known r : ℕ) : Type 0 where
   pub high : r ≤ known
   pub isNamed : r < known → isName field ≡ true
-  pub place : isName field ≡ true → PlaceOf names known (wordsOf field) r
+  pub place : isName field ≡ true → StandsAt names known (wordsOf field) r
 
 -- a query without fault: its predicate's place, and what it asks
 pub record Passed (p : Pack) (query : Bytes) (r : Asked) (sizes : List ℕ) : Type 0 where
@@ -56,11 +56,11 @@ pub data OfQuery : ℕ → Type 0 where
   seventeen : OfQuery 17
   eighteen : OfQuery 18
 
-pub record OpensQuery (query : Bytes) (names facts : List ℕ) (known : ℕ) (r : Asked) (sizes : List ℕ) : Type 0 where
+pub record OpensQuery (query : Bytes) (names signatures : List ℕ) (known : ℕ) (r : Asked) (sizes : List ℕ) : Type 0 where
   pub fault : (r .fault ≡ 0 → ⊥) → OfQuery (r .fault)
   pub predicate : r .predicate < 32
   pub arity : r .arity ≤ 8
   pub asked : r .asked < 8
   pub size : length sizes ≡ 8
   pub safe : SafeSizes sizes
-  pub tells : (p : Pack) → Declares names facts known (p .predicates) → OpenedFor p query r sizes
+  pub tells : (p : Pack) → Declares names signatures known (p .predicates) → OpenedFor p query r sizes

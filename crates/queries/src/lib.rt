@@ -6,7 +6,7 @@ ghost use lib.ListN.{length};
 ghost use Rattle.theory.specs.Text.{natural};
 ghost use Rattle.theory.specs.Reserve.{sizeFrom};
 ghost use Rattle.text.specs.Scans.{partsFrom};
-ghost use Rattle.tables.specs.Tables.{SafeFacts};
+ghost use Rattle.tables.specs.Tables.{SafeSignatures};
 ghost use Rattle.tables.specs.QuerySizes.{SafeSizes};
 ghost use Rattle.queries.specs.Queries.{sizeNumber, SizesRead, Means, OpensQuery};
 use text::Natural;
@@ -104,12 +104,12 @@ fn named_by(field: &[u8], names: &[u64; 64], known: usize) -> usize
 pub fn open_query(
     query: &[u8],
     names: &[u64; 64],
-    facts: &[u8; 96],
+    signatures: &[u8; 96],
     known: usize,
     sizes: &mut [u32; 8],
 ) -> Asked
-    requires { ⌜ (known ≤ 32) × (SafeFacts (now facts)) × (length (now sizes) ≡ 8) × (SafeSizes (now sizes)) ⌝ }
-    ensures { λ r. ⌜ OpensQuery (now (query .entry)) (now (names .entry)) (now (facts .entry)) known r (now (sizes .exit)) ⌝ }
+    requires { ⌜ (known ≤ 32) × (SafeSignatures (now signatures)) × (length (now sizes) ≡ 8) × (SafeSizes (now sizes)) ⌝ }
+    ensures { λ r. ⌜ OpensQuery (now (query .entry)) (now (names .entry)) (now (signatures .entry)) known r (now (sizes .exit)) ⌝ }
 {
     if text::is_unfit(query) {
         return refused(4);
@@ -119,7 +119,7 @@ pub fn open_query(
     if known <= place {
         return refused(14);
     }
-    let arity = facts[place];
+    let arity = signatures[place];
     if text::count(query, 44) != widths::wide(arity) + 1 {
         return refused(15);
     }

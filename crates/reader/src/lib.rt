@@ -10,27 +10,24 @@ pub struct Reader<'a> {
     pub at: usize,
 }
 
-/// A reader at the line's start.
-pub fn new<'a>(line: &'a [u8]) -> Reader<'a>
-    ensures { λ r. ⌜ (r .line ≡ line .entry) × (r .at ≡ 0) ⌝ }
+/// A reader at a place of a line.
+pub fn start_at<'a>(line: &'a [u8], at: usize) -> Reader<'a>
+    ensures { λ r. ⌜ (r .line ≡ line .entry) × (r .at ≡ at) ⌝ }
 {
-    Reader { line, at: 0 }
+    Reader { line, at }
 }
 
-/// The reader at a place that is not before its own: no function of this crate moves it back.
-pub fn behind<'a>(r: Reader<'a>, at: usize) -> Reader<'a>
-    requires { ⌜ r .at ≤ at ⌝ }
-    ensures { λ q. ⌜ (q .line ≡ r .entry .line) × (q .at ≡ at) × (r .entry .at ≤ q .at) ⌝ }
-{
-    Reader { line: r.line, at }
-}
-
-/// Where the field at the reader's place ends: at the next comma, or with the line.
-pub fn stop<'a>(r: Reader<'a>) -> usize
+/// The reader moved forward to the end of the field at its place: to the next comma, or to the line's end. No function of
+/// this crate moves a reader back.
+pub fn to_field_end<'a>(r: Reader<'a>) -> Reader<'a>
     requires { ⌜ r .at ≤ length (now (r .line)) ⌝ }
-    ensures { λ s. ⌜ Finds (now (r .entry .line)) 44 (r .entry .at) s ⌝ }
+    ensures { λ q. ⌜ (q .line ≡ r .entry .line) × (r .entry .at ≤ q .at) × Finds (now (r .entry .line)) 44 (r .entry .at) (q .at) ⌝ }
 {
-    text::find(r.line, 44, r.at)
+    let end = text::find_near(r.line, b',', r.at);
+    Reader {
+        line: r.line,
+        at: end,
+    }
 }
 
 /// Where the field that begins at a place of a line ends. Callers need not hold a reader.
@@ -38,5 +35,5 @@ pub fn field_end(line: &[u8], at: usize) -> usize
     requires { ⌜ at ≤ length (now line) ⌝ }
     ensures { λ r. ⌜ Finds (now (line .entry)) 44 at r ⌝ }
 {
-    stop(behind(new(line), at))
+    to_field_end(start_at(line, at)).at
 }

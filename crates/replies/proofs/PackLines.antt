@@ -5,9 +5,9 @@ use mathlib.Core.List.{List, [], _∷_, _++_, flatten, append-nil}
 use Prim.Native.Nat.{ℕ}
 use lib.Dec.{eqb}
 use lib.ListN.{length, getD}
-use Rattle.integers.proofs.Truth.{not-true, and-not-left, and-not-right, eqb-different}
+use Rattle.groundwork.proofs.Truth.{not-true, and-not-left, and-not-right, eqb-different}
 use Rattle.theory.specs.Text.{Bytes, bytes, same, onFirst, linesOf}
-use Rattle.theory.specs.Program.{wholeLines, throughEnd, behindEnd, packPart, queries}
+use Rattle.theory.specs.Program.{wholeLines, throughEnd, afterEnd, packPart, queries}
 use Rattle.theory.proofs.Reading.Every.{every-first, every-rest}
 use Rattle.theory.proofs.Reading.Separators.{isFree}
 
@@ -67,7 +67,7 @@ module _ (rest : Bytes) where
   pack-end = refl
 
   pub queries-end : queries (69 ∷ 10 ∷ rest) ≡ linesOf rest
-  unfolding queries behindEnd wholeLines same bytes
+  unfolding queries afterEnd wholeLines same bytes
   queries-end = ap linesOf (flat-whole rest)
 
   module _ (line : Bytes) (free : isFree 10 line ≡ true) (other : isEnd (line ++ (10 ∷ [])) ≡ false) where
@@ -76,7 +76,7 @@ module _ (rest : Bytes) where
     pack-line = rw (whole-line line rest free, other) refl
 
     pub queries-line : queries (line ++ 10 ∷ rest) ≡ queries rest
-    unfolding queries behindEnd
+    unfolding queries afterEnd
     queries-line = rw (whole-line line rest free, other) refl
 
 -- what has no byte 10 is not that line
@@ -92,6 +92,6 @@ pack-last [] free = refl
 pack-last (b ∷ line) free = rw (whole-last b line free, last-other (b ∷ line) free) (append-nil (b ∷ line))
 
 pub queries-last : (line : Bytes) → isFree 10 line ≡ true → queries line ≡ []
-unfolding queries behindEnd flatten wholeLines linesOf
+unfolding queries afterEnd flatten wholeLines linesOf
 queries-last [] free = refl
 queries-last (b ∷ line) free = rw (whole-last b line free, last-other (b ∷ line) free) refl

@@ -24,7 +24,7 @@ use Rattle.theory.specs.declared.Verdict.the-variants.{Accepted}
 use Rattle.theory.specs.declared.Reservation.{Reservation}
 use Rattle.theory.specs.declared.Reservation.the-variants.{PackRefused, QueryRefused}
 use Rattle.theory.proofs.Reserving.RefusalNumbers.{refusal-number}
-use Rattle.tables.specs.Tables.{Tables, SafeFacts, SafeClaims, predicateAt, HoldsClaims}
+use Rattle.tables.specs.Tables.{SafeSignatures, SafeClaims, predicateAt, HoldsClaims}
 use Rattle.tables.specs.QuerySizes.{SafeSizes}
 use Rattle.queries.specs.declared.Asked.{Asked}
 use Rattle.queries.specs.Queries.{OfQuery, OpensQuery, Passed}
@@ -56,9 +56,9 @@ asked-known {fault = fault} a b c d e = record { numbered = by a b c d e }
 
 -- ---- a query answered from the tables
 
-module _ (query : Bytes) {names facts : List ℕ} {claims : List ℤ} {known : ℕ} {asked : Asked} {sizes : List ℕ} (opens : OpensQuery query names facts known asked sizes) where
+module _ (query : Bytes) {names signatures : List ℕ} {claims : List ℤ} {known : ℕ} {asked : Asked} {sizes : List ℕ} (opens : OpensQuery query names signatures known asked sizes) where
   -- a query with a fault
-  pub refused-query : (r : QueryRefusal) → (asked .fault ≡ 0 → ⊥) → RefusesQuery (asked .fault) r → Answers query names facts claims known (QueryRefused r)
+  pub refused-query : (r : QueryRefusal) → (asked .fault ≡ 0 → ⊥) → RefusesQuery (asked .fault) r → Answers query names signatures claims known (QueryRefused r)
   unfolding answerOf refusal
   refused-query r some refuses = record {
     tells = λ p declares holds.
@@ -68,9 +68,9 @@ module _ (query : Bytes) {names facts : List ℕ} {claims : List ℤ} {known : �
   }
 
   -- the claims on the query's predicate stand in the table
-  stands : (p : Pack) (key : Key) → keyOf (predicateAt (p .predicates) (asked .predicate)) ≡ key → HoldsClaims facts claims (p .predicates) (p .claims) → Passed p query asked sizes
-      → ClaimsStand claims (asked .predicate) (getD facts (64 + asked .predicate) 0) (asked .arity) (asked .asked) sizes (queryOf query) (claimsOn key (p .claims))
-  stands p key is holds passed = subst (λ (k : Key). ClaimsStand claims (asked .predicate) (getD facts (64 + asked .predicate) 0) (asked .arity) (asked .asked) sizes (queryOf query) (claimsOn k (p .claims))) is (record {
+  stands : (p : Pack) (key : Key) → keyOf (predicateAt (p .predicates) (asked .predicate)) ≡ key → HoldsClaims signatures claims (p .predicates) (p .claims) → Passed p query asked sizes
+      → ClaimsStand claims (asked .predicate) (getD signatures (64 + asked .predicate) 0) (asked .arity) (asked .asked) sizes (queryOf query) (claimsOn key (p .claims))
+  stands p key is holds passed = subst (λ (k : Key). ClaimsStand claims (asked .predicate) (getD signatures (64 + asked .predicate) 0) (asked .arity) (asked .asked) sizes (queryOf query) (claimsOn k (p .claims))) is (record {
     all = holds .count (asked .predicate) (passed .below);
     at = λ j below. holds .at (asked .predicate) j (passed .below) below;
     full = λ j below. holds .full (asked .predicate) j (passed .below) below ∙ sym (passed .arity);
@@ -80,7 +80,7 @@ module _ (query : Bytes) {names facts : List ℕ} {claims : List ℤ} {known : �
   })
 
   -- a query without fault
-  pub answered-query : {count : ℕ} (r : Reservation) → asked .fault ≡ 0 → count ≡ getD facts (64 + asked .predicate) 0 → ReservesBy claims (asked .predicate) count (asked .arity) (asked .asked) sizes r → Answers query names facts claims known r
+  pub answered-query : {count : ℕ} (r : Reservation) → asked .fault ≡ 0 → count ≡ getD signatures (64 + asked .predicate) 0 → ReservesBy claims (asked .predicate) count (asked .arity) (asked .asked) sizes r → Answers query names signatures claims known r
   unfolding answerOf reservation
   answered-query r fine is reserves = record {
     tells = λ p declares holds.
@@ -96,21 +96,21 @@ module _ (query : Bytes) {names facts : List ℕ} {claims : List ℤ} {known : �
 is-accepted : {verdict : Verdict} {counts : Counts} → verdict ≡ Accepted counts → numbersOf verdict .number ≡ 0
 is-accepted is = ap (λ (v : Verdict). numbersOf v .number) is
 
-pub ready-accepted : {verdict : Verdict} {counts : Counts} {facts : List ℕ} {claims : List ℤ} {known : ℕ} → Ready verdict facts claims known → verdict ≡ Accepted counts → (known ≤ 32) × (SafeFacts facts) × (SafeClaims claims)
-ready-accepted ready is = let accepted = is-accepted is in (ready .few accepted, ready .safeFacts accepted, ready .safeClaims accepted)
+pub ready-accepted : {verdict : Verdict} {counts : Counts} {signatures : List ℕ} {claims : List ℤ} {known : ℕ} → Ready verdict signatures claims known → verdict ≡ Accepted counts → (known ≤ 32) × (SafeSignatures signatures) × (SafeClaims claims)
+ready-accepted ready is = let accepted = is-accepted is in (ready .few accepted, ready .safeSignatures accepted, ready .safeClaims accepted)
 
-module _ (query : Bytes) {verdict : Verdict} {names facts : List ℕ} {claims : List ℤ} {known : ℕ} where
-  pub refused-pack : (r : Refusal) → verdict ≡ Refused r → Responds verdict query names facts claims known (PackRefused r)
+module _ (query : Bytes) {verdict : Verdict} {names signatures : List ℕ} {claims : List ℤ} {known : ℕ} where
+  pub refused-pack : (r : Refusal) → verdict ≡ Refused r → Responds verdict query names signatures claims known (PackRefused r)
   unfolding reserveOf refusal refusalOf
   refused-pack r is = record { tells = λ text held. rw (← returned held, some); passes = λ text held. rw (← returned held, some) }
     where
-      returned : {text : Bytes} → PackHeld text verdict names facts claims known → refusalNumbers r ≡ verdictOf text .returned
+      returned : {text : Bytes} → PackHeld text verdict names signatures claims known → refusalNumbers r ≡ verdictOf text .returned
       returned held = sym (ap numbersOf is) ∙ held .judged
 
       some : eqb (refusalNumbers r .number) 0 ≡ false
       some = ne-eqb (refusalNumbers r .number) 0 (λ zero. omega (arith, refusal-number r))
 
-  pub answered-pack : {counts : Counts} (r : Reservation) → verdict ≡ Accepted counts → Answers query names facts claims known r → Responds verdict query names facts claims known r
+  pub answered-pack : {counts : Counts} (r : Reservation) → verdict ≡ Accepted counts → Answers query names signatures claims known r → Responds verdict query names signatures claims known r
   unfolding reserveOf refusalOf
   answered-pack r is answers = record {
     tells = λ text held. rw (fine held) (answers .tells (packOf text) (held .declares accepted) (held .claimed accepted));
@@ -120,22 +120,22 @@ module _ (query : Bytes) {verdict : Verdict} {names facts : List ℕ} {claims : 
       accepted : numbersOf verdict .number ≡ 0
       accepted = is-accepted is
 
-      fine : {text : Bytes} → PackHeld text verdict names facts claims known → verdictOf text .returned .number ≡ 0
+      fine : {text : Bytes} → PackHeld text verdict names signatures claims known → verdictOf text .returned .number ≡ 0
       fine held = sym (ap (λ (n : Numbers). n .number) (held .judged)) ∙ accepted
 
 -- what loading leaves
-module _ {text : Bytes} {l : Loaded} {t : Tables} (loads : Loads text l t) where
-  pub pack-ready : Ready (l .verdict) (t .facts) (t .claims) (l .state .predicates)
+module _ {text : Bytes} {l : Loaded} {names signatures : List ℕ} {claims : List ℤ} (loads : Loads text l names signatures claims) where
+  pub pack-ready : Ready (l .verdict) signatures claims (l .state .predicates)
   pack-ready = record {
-    few = λ accepted. loads .safe accepted .state .predicates;
-    safeFacts = λ accepted. loads .safe accepted .facts;
-    safeClaims = λ accepted. loads .safe accepted .claims;
+    few = λ accepted. loads .holds accepted .safe .state .predicates;
+    safeSignatures = λ accepted. loads .holds accepted .safe .signatures;
+    safeClaims = λ accepted. loads .holds accepted .safe .claims;
   }
 
-  pub pack-held : PackHeld text (l .verdict) (t .names) (t .facts) (t .claims) (l .state .predicates)
+  pub pack-held : PackHeld text (l .verdict) names signatures claims (l .state .predicates)
   unfolding packOf
   pack-held = record {
     judged = loads .answer;
-    declares = λ accepted. loads .holds accepted .declares;
-    claimed = λ accepted. loads .holds accepted .claims;
+    declares = λ accepted. loads .holds accepted .holds .declares;
+    claimed = λ accepted. loads .holds accepted .holds .claims;
   }

@@ -4,7 +4,7 @@ ghost use Prim.Native.Nat.{_≤_};
 ghost use Rattle.theory.specs.Check.{refusalOf};
 ghost use Rattle.theory.specs.Reserve.{reserveOf};
 ghost use Rattle.theory.specs.Answers.{reservedFields, passedOn};
-ghost use Rattle.tables.specs.Tables.{SafeFacts, SafeClaims};
+ghost use Rattle.tables.specs.Tables.{SafeSignatures, SafeClaims};
 ghost use Rattle.reservation.specs.Answering.{RefusesQuery, Answers, Ready, Responds};
 use theory::QueryRefusal;
 use theory::Reservation;
@@ -28,20 +28,20 @@ fn query_refusal(fault: u8) -> QueryRefusal
 pub fn answer(
     query: &[u8],
     names: &[u64; 64],
-    facts: &[u8; 96],
+    signatures: &[u8; 96],
     claims: &[i16; 4608],
     known: usize,
 ) -> Reservation
-    requires { ⌜ (known ≤ 32) × (SafeFacts (now facts)) × (SafeClaims (now claims)) ⌝ }
-    ensures { λ r. ⌜ Answers (now (query .entry)) (now (names .entry)) (now (facts .entry)) (now (claims .entry)) known r ⌝ }
+    requires { ⌜ (known ≤ 32) × (SafeSignatures (now signatures)) × (SafeClaims (now claims)) ⌝ }
+    ensures { λ r. ⌜ Answers (now (query .entry)) (now (names .entry)) (now (signatures .entry)) (now (claims .entry)) known r ⌝ }
 {
     let mut sizes = [65536u32; 8];
-    let q = queries::open_query(query, names, facts, known, &mut sizes);
+    let q = queries::open_query(query, names, signatures, known, &mut sizes);
     if q.fault != 0 {
         return Reservation::QueryRefused(query_refusal(q.fault));
     }
     let predicate = q.predicate;
-    let count = widths::wide(facts[64 + predicate]);
+    let count = widths::wide(signatures[64 + predicate]);
     bounds::reserve_by(claims, predicate, count, q.arity, q.asked, &sizes)
 }
 
@@ -50,15 +50,15 @@ pub fn respond(
     verdict: Verdict,
     query: &[u8],
     names: &[u64; 64],
-    facts: &[u8; 96],
+    signatures: &[u8; 96],
     claims: &[i16; 4608],
     known: usize,
 ) -> Reservation
-    requires { ⌜ Ready verdict (now facts) (now claims) known ⌝ }
-    ensures { λ r. ⌜ Responds verdict (now (query .entry)) (now (names .entry)) (now (facts .entry)) (now (claims .entry)) known r ⌝ }
+    requires { ⌜ Ready verdict (now signatures) (now claims) known ⌝ }
+    ensures { λ r. ⌜ Responds verdict (now (query .entry)) (now (names .entry)) (now (signatures .entry)) (now (claims .entry)) known r ⌝ }
 {
     match verdict {
-        Verdict::Accepted(_) => answer(query, names, facts, claims, known),
+        Verdict::Accepted(_) => answer(query, names, signatures, claims, known),
         Verdict::Refused(refusal) => Reservation::PackRefused(refusal),
     }
 }
@@ -69,21 +69,17 @@ pub fn reserve(text: &[u8], query: &[u8]) -> Reservation
     ensures passes { λ r. ⌜ passedOn r ≡ refusalOf (now (text .entry)) ⌝ }
 {
     let mut names = [0u64; 64];
-    let mut facts = [0u8; 96];
+    let mut signatures = [0u8; 96];
     let mut claims = [0i16; 4608];
-    let mut variables = [0u64; 64];
-    let mut numbers = [0i64; 1305];
-    let mut slots = [0u16; 256];
-    let l = packs::load(
-        text,
-        &mut names,
-        &mut facts,
-        &mut claims,
-        &mut variables,
-        &mut numbers,
-        &mut slots,
-    );
+    let l = packs::load(text, &mut names, &mut signatures, &mut claims);
     let verdict = l.verdict;
     let state = l.state;
-    respond(verdict, query, &names, &facts, &claims, state.predicates)
+    respond(
+        verdict,
+        query,
+        &names,
+        &signatures,
+        &claims,
+        state.predicates,
+    )
 }

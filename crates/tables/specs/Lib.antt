@@ -1,2 +1,4 @@
 pub mod Tables
 pub mod QuerySizes
+pub mod Faults
+pub mod Lines

@@ -1,8 +1,9 @@
 -- The tables and the state, and how they stand for what the lines so far write.
 use mathlib.Core.Path.{_≡_}
-use mathlib.Core.Bool.{true, not}
+use mathlib.Core.Bool.{true, cond, not}
 use mathlib.Core.List.{List, []}
 use Prim.Native.Nat.{ℕ, zero, suc, _+_, _*_, _≤_, _<_}
+use lib.Dec.{eqb}
 use lib.IntN.{ℤ, pos, natAbs}
 use lib.ListN.{length, getD}
 use Rattle.theory.specs.Lists.{isEmpty}
@@ -21,21 +22,28 @@ use Rattle.tables.specs.declared.State.{State}
 -- what the arrays hold
 pub record Tables : Type 0 where
   pub names : List ℕ
-  pub facts : List ℕ
+  pub signatures : List ℕ
   pub claims : List ℤ
   pub variables : List ℕ
-  pub numbers : List ℤ
+  pub rows : List ℕ
   pub slots : List ℕ
 
-abbrev pub tables : List ℕ → List ℕ → List ℤ → List ℕ → List ℤ → List ℕ → Tables
-tables n f c v m s = record { names = n; facts = f; claims = c; variables = v; numbers = m; slots = s }
+abbrev pub tables : List ℕ → List ℕ → List ℤ → List ℕ → List ℕ → List ℕ → Tables
+tables n f c v r s = record { names = n; signatures = f; claims = c; variables = v; rows = r; slots = s }
+
+-- where the numbers of a claim on a predicate begin, and where the row of an atom's argument does
+abbrev pub claimPlace : ℕ → ℕ → ℕ
+claimPlace predicate claim = (predicate * 16 + claim) * 9
+
+abbrev pub rowPlace : ℕ → ℕ → ℕ
+rowPlace atom argument = (atom * 8 + argument) * 17
 
 pub record Sizes (t : Tables) : Type 0 where
   pub names : length (t .names) ≡ 64
-  pub facts : length (t .facts) ≡ 96
+  pub signatures : length (t .signatures) ≡ 96
   pub claims : length (t .claims) ≡ 4608
   pub variables : length (t .variables) ≡ 64
-  pub numbers : length (t .numbers) ≡ 1305
+  pub rows : length (t .rows) ≡ 1224
   pub slots : length (t .slots) ≡ 256
 
 -- ## Ranges, whatever the lines write: what the code needs to be safe
@@ -50,20 +58,25 @@ pub record SafeState (s : State) : Type 0 where
   pub multipliers : s .multipliers ≤ 16
   pub lines : s .«multiplier_lines» ≤ 16 * s .rules + s .multipliers
 
-pub record SafeFacts (facts : List ℕ) : Type 0 where
-  pub arity : (i : ℕ) → i < 32 → getD facts i 0 ≤ 8
-  pub count : (i : ℕ) → i < 32 → getD facts (64 + i) 0 ≤ 16
+pub record SafeSignatures (signatures : List ℕ) : Type 0 where
+  pub arity : (i : ℕ) → i < 32 → getD signatures i 0 ≤ 8
+  pub count : (i : ℕ) → i < 32 → getD signatures (64 + i) 0 ≤ 16
 
 pub record SafeClaims (claims : List ℤ) : Type 0 where
   pub small : (i : ℕ) → natAbs (getD claims i (pos 0)) ≤ 9999
 
--- rows of terms that stand in lines, and weights between lines
-pub record SafeNumbers (numbers : List ℤ) : Type 0 where
-  pub small : (i : ℕ) → natAbs (getD numbers i (pos 0)) < 65536
+pub record SafeRows (rows : List ℕ) : Type 0 where
+  pub small : (i : ℕ) → getD rows i 0 < 65536
 
-pub record SafeSlots (slots : List ℕ) (n : ℕ) : Type 0 where
+-- how many of the first slots are of a subgoal
+unfoldable pub slotsOf : List ℕ → ℕ → ℕ → ℕ
+slotsOf slots subgoal zero = 0
+slotsOf slots subgoal (suc k) = slotsOf slots subgoal k + cond (eqb (getD slots (128 + k) 0) subgoal) 1 0
+
+pub record SafeSlots (slots : List ℕ) (n subgoals : ℕ) : Type 0 where
   pub place : (k : ℕ) → k < n → getD slots k 0 + 9 ≤ 4608
-  pub subgoal : (k : ℕ) → k < n → getD slots (128 + k) 0 < 8
+  pub subgoal : (k : ℕ) → k < n → getD slots (128 + k) 0 < subgoals
+  pub few : (subgoal : ℕ) → slotsOf slots subgoal n ≤ 16
 
 -- ## Predicates
 
@@ -78,12 +91,12 @@ abbrev pub flag : Kind → ℕ
 flag given = 1
 flag ruled = 0
 
-pub record Declares (names facts : List ℕ) (known : ℕ) (ps : List Predicate) : Type 0 where
+pub record Declares (names signatures : List ℕ) (known : ℕ) (ps : List Predicate) : Type 0 where
   pub count : length ps ≡ known
   pub words : (i : ℕ) → i < known → wordsAt names i ≡ wordsOf (predicateAt ps i .name)
   pub named : (i : ℕ) → i < known → isName (predicateAt ps i .name) ≡ true
-  pub arity : (i : ℕ) → i < known → getD facts i 0 ≡ predicateAt ps i .arguments
-  pub kind : (i : ℕ) → i < known → getD facts (32 + i) 0 ≡ flag (predicateAt ps i .kind)
+  pub arity : (i : ℕ) → i < known → getD signatures i 0 ≡ predicateAt ps i .arguments
+  pub kind : (i : ℕ) → i < known → getD signatures (32 + i) 0 ≡ flag (predicateAt ps i .kind)
   pub distinct : (i j : ℕ) → i < known → j < known → keyOf (predicateAt ps i) ≡ keyOf (predicateAt ps j) → i ≡ j
 
 -- ## Claims
@@ -93,10 +106,10 @@ pub record ClaimAt (claims : List ℤ) (place : ℕ) (c : Claim) : Type 0 where
   pub constant : getD claims place (pos 0) ≡ c .constant
   pub coefficient : (k : ℕ) → k < 8 → getD claims (place + 1 + k) (pos 0) ≡ getD (c .coefficients) k (pos 0)
 
-pub record HoldsClaims (facts : List ℕ) (claims : List ℤ) (ps : List Predicate) (cs : List Claim) : Type 0 where
-  pub count : (i : ℕ) → i < length ps → getD facts (64 + i) 0 ≡ length (claimsOn (keyOf (predicateAt ps i)) cs)
-  pub none : (i : ℕ) → length ps ≤ i → i < 32 → getD facts (64 + i) 0 ≡ 0
-  pub at : (i j : ℕ) → i < length ps → j < length (claimsOn (keyOf (predicateAt ps i)) cs) → ClaimAt claims ((i * 16 + j) * 9) (getD (claimsOn (keyOf (predicateAt ps i)) cs) j noClaim)
+pub record HoldsClaims (signatures : List ℕ) (claims : List ℤ) (ps : List Predicate) (cs : List Claim) : Type 0 where
+  pub count : (i : ℕ) → i < length ps → getD signatures (64 + i) 0 ≡ length (claimsOn (keyOf (predicateAt ps i)) cs)
+  pub none : (i : ℕ) → length ps ≤ i → i < 32 → getD signatures (64 + i) 0 ≡ 0
+  pub at : (i j : ℕ) → i < length ps → j < length (claimsOn (keyOf (predicateAt ps i)) cs) → ClaimAt claims (claimPlace i j) (getD (claimsOn (keyOf (predicateAt ps i)) cs) j noClaim)
   pub full : (i j : ℕ) → i < length ps → j < length (claimsOn (keyOf (predicateAt ps i)) cs) → length (getD (claimsOn (keyOf (predicateAt ps i)) cs) j noClaim .coefficients) ≡ predicateAt ps i .arguments
 
 -- ## The last rule
@@ -108,15 +121,15 @@ argument (cons t ts) zero = t
 argument (cons t ts) (suc k) = argument ts k
 
 -- the row from base on is the form of a term over a rule's variables, zeros after the last
-pub record RowStands (numbers : List ℤ) (base : ℕ) (xs : List Bytes) (t : Term) : Type 0 where
-  pub constant : getD numbers base (pos 0) ≡ formOf structural t .constant
-  pub coefficient : (i : ℕ) → i < length xs → getD numbers (base + 1 + i) (pos 0) ≡ formOf structural t .coefficient (getD xs i [])
-  pub beyond : (i : ℕ) → length xs ≤ i → i < 16 → getD numbers (base + 1 + i) (pos 0) ≡ pos 0
+pub record RowStands (rows : List ℕ) (base : ℕ) (xs : List Bytes) (t : Term) : Type 0 where
+  pub constant : pos (getD rows base 0) ≡ formOf structural t .constant
+  pub coefficient : (i : ℕ) → i < length xs → pos (getD rows (base + 1 + i) 0) ≡ formOf structural t .coefficient (getD xs i [])
+  pub beyond : (i : ℕ) → length xs ≤ i → i < 16 → getD rows (base + 1 + i) 0 ≡ 0
 
 -- the rows of an atom: the head is atom 0, the subgoal at place s atom s + 1
-pub record AtomStands (numbers : List ℤ) (atom : ℕ) (xs : List Bytes) (ts : Terms) : Type 0 where
+pub record AtomStands (rows : List ℕ) (atom : ℕ) (xs : List Bytes) (ts : Terms) : Type 0 where
   pub few : arity ts ≤ 8
-  pub row : (k : ℕ) → k < arity ts → RowStands numbers (81 + (atom * 8 + k) * 17) xs (argument ts k)
+  pub row : (k : ℕ) → k < arity ts → RowStands rows (rowPlace atom k) xs (argument ts k)
 
 abbrev pub noAtom : Atom
 noAtom = record { name = []; terms = nil }
@@ -138,8 +151,8 @@ pub record RuleStands (t : Tables) (s : State) (p : Pack) (r : Rule) : Type 0 wh
   pub subgoals : s .subgoals ≡ length (r .subgoals)
   pub variables : s .variables ≡ length (ruleVariables (r .head) (r .subgoals))
   pub holdsVariables : HoldsVariables (t .variables) (ruleVariables (r .head) (r .subgoals))
-  pub headRows : AtomStands (t .numbers) 0 (ruleVariables (r .head) (r .subgoals)) (r .head .terms)
-  pub subgoalRows : (i : ℕ) → i < length (r .subgoals) → AtomStands (t .numbers) (suc i) (ruleVariables (r .head) (r .subgoals)) (subgoalAt (r .subgoals) i .terms)
+  pub headRows : AtomStands (t .rows) 0 (ruleVariables (r .head) (r .subgoals)) (r .head .terms)
+  pub subgoalRows : (i : ℕ) → i < length (r .subgoals) → AtomStands (t .rows) (suc i) (ruleVariables (r .head) (r .subgoals)) (subgoalAt (r .subgoals) i .terms)
   pub slots : s .slots ≡ length (claimsOnAll (p .claims) (r .subgoals))
   pub slot : (k : ℕ) → k < s .slots → SlotStands (t .claims) (t .slots) (p .claims) (r .subgoals) k
   pub multipliers : s .multipliers ≡ length (r .multipliers)
@@ -148,8 +161,8 @@ pub record RuleStands (t : Tables) (s : State) (p : Pack) (r : Rule) : Type 0 wh
 
 -- the tables and the state stand for what the lines write
 pub record Holds (t : Tables) (s : State) (w : Written) : Type 0 where
-  pub declares : Declares (t .names) (t .facts) (s .predicates) (w .pack .predicates)
-  pub claims : HoldsClaims (t .facts) (t .claims) (w .pack .predicates) (w .pack .claims)
+  pub declares : Declares (t .names) (t .signatures) (s .predicates) (w .pack .predicates)
+  pub claims : HoldsClaims (t .signatures) (t .claims) (w .pack .predicates) (w .pack .claims)
   pub claimed : s .claimed ≡ not (isEmpty (w .pack .claims))
   pub rules : s .rules ≡ length (w .pack .rules)
   pub lines : s .«multiplier_lines» ≡ multiplierLines (w .pack .rules)
@@ -157,9 +170,9 @@ pub record Holds (t : Tables) (s : State) (w : Written) : Type 0 where
   pub ended : s .ended ≡ w .ended
 
 -- what the tests up to the count of fields go by
-pub record Outline (names facts : List ℕ) (s : State) (w : Written) : Type 0 where
-  pub declares : Declares names facts (s .predicates) (w .pack .predicates)
-  pub counts : (i : ℕ) → i < length (w .pack .predicates) → getD facts (64 + i) 0 ≡ length (claimsOn (keyOf (predicateAt (w .pack .predicates) i)) (w .pack .claims))
+pub record Outline (names signatures : List ℕ) (s : State) (w : Written) : Type 0 where
+  pub declares : Declares names signatures (s .predicates) (w .pack .predicates)
+  pub counts : (i : ℕ) → i < length (w .pack .predicates) → getD signatures (64 + i) 0 ≡ length (claimsOn (keyOf (predicateAt (w .pack .predicates) i)) (w .pack .claims))
   pub claimed : s .claimed ≡ not (isEmpty (w .pack .claims))
   pub rules : s .rules ≡ length (w .pack .rules)
   pub head : (w .pack .rules ≡ [] → ⊥) → s .head < length (w .pack .predicates)
@@ -169,14 +182,15 @@ pub record Outline (names facts : List ℕ) (s : State) (w : Written) : Type 0 w
   pub ended : s .ended ≡ w .ended
 
 -- no weights are left over from a line
-pub record NoWeights (numbers : List ℤ) : Type 0 where
-  pub zero : (i : ℕ) → i < 81 → getD numbers i (pos 0) ≡ pos 0
+pub record NoWeights (weights : List ℤ) : Type 0 where
+  pub size : length weights ≡ 81
+  pub zero : (i : ℕ) → getD weights i (pos 0) ≡ pos 0
 
 -- the ranges of all
 pub record Safe (t : Tables) (s : State) : Type 0 where
   pub sizes : Sizes t
   pub state : SafeState s
-  pub facts : SafeFacts (t .facts)
+  pub signatures : SafeSignatures (t .signatures)
   pub claims : SafeClaims (t .claims)
-  pub numbers : SafeNumbers (t .numbers)
-  pub slots : SafeSlots (t .slots) (s .slots)
+  pub rows : SafeRows (t .rows)
+  pub slots : SafeSlots (t .slots) (s .slots) (s .subgoals)

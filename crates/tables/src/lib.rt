@@ -1,14 +1,53 @@
-// The tables that a pack is loaded into, and the state that goes with them. Types only; how they stand for a pack is said
-// in specs/Tables.antt.
+// The tables that a pack is loaded into, the state that goes with them, and what the steps of a line answer. How they stand
+// for a pack is said in specs/Tables.antt.
 //
-// The tables are flat arrays that the caller lends:
-//   names      the predicates' names, two words each
-//   facts      of the predicate at place i: its arity at i, 1 at 32 + i if it is given, the number of its claims at 64 + i
-//   claims     claim j on the predicate at place i: nine numbers from (i * 16 + j) * 9, zeros after the last
-//   variables  the names of the last rule's variables, two words each
-//   numbers    the weights of an `M` line, nine for each atom (the head is atom 0, the subgoal at place s atom s + 1), then
-//              from 81 on rows of 17 numbers: argument k of atom a has row a * 8 + k, the form of a term
-//   slots      for the kth claim on the last rule's subgoals: its place in `claims` at k, its subgoal at 128 + k
+// The tables are flat arrays that the caller lends.
+ghost use mathlib.Core.Path.{_≡_};
+ghost use Prim.Native.Nat.{_≤_, _<_};
+ghost use Rattle.tables.specs.Tables.{claimPlace, rowPlace};
+use text::Words;
+use theory::Letter;
+
+/// The predicates' names, two words each.
+pub type Names = [u64; 64];
+
+/// Of the predicate at place i: its arity at i, 1 at 32 + i if it is given, the number of its claims at 64 + i.
+pub type Signatures = [u8; 96];
+
+/// Claim j on the predicate at place i: nine numbers from `claim_place(i, j)` on, zeros after the last.
+pub type Claims = [i16; 4608];
+
+/// The names of the last rule's variables, two words each.
+pub type Variables = [u64; 64];
+
+/// The forms of the last rule's arguments, rows of 17 numbers: argument k of atom a from `row_place(a, k)` on. The head is
+/// atom 0, the subgoal at place s atom s + 1.
+pub type Rows = [u16; 1224];
+
+/// The weights of an `M` line, nine for each atom: of its constant, then of its arguments.
+pub type Weights = [i32; 81];
+
+/// For the kth claim on the last rule's subgoals: its place among the claims at k, its subgoal at 128 + k.
+pub type Slots = [u16; 256];
+
+/// Where words stood before, by a small number made of them: any content will do.
+pub type Hints = [u8; 128];
+
+/// Where the numbers of a claim on a predicate begin.
+pub fn claim_place(predicate: usize, claim: usize) -> usize
+    requires { ⌜ (predicate < 32) × (claim < 16) ⌝ }
+    ensures { λ r. ⌜ r ≡ claimPlace predicate claim ⌝ }
+{
+    (predicate * 16 + claim) * 9
+}
+
+/// Where the row of an atom's argument begins.
+pub fn row_place(atom: usize, argument: usize) -> usize
+    requires { ⌜ (atom ≤ 8) × (argument < 8) ⌝ }
+    ensures { λ r. ⌜ r ≡ rowPlace atom argument ⌝ }
+{
+    (atom * 8 + argument) * 17
+}
 
 /// The scalars that go with the tables. The flags stand last: gaps after them, between the numbers, make copies slow.
 pub struct State {
@@ -26,25 +65,42 @@ pub struct State {
     pub ended: bool,
 }
 
-/// A line whose tests up to the count of fields are done: the number of its fault, or 0, and what the fields need.
+/// What is wrong with a line: one case for each number of document 01's table that a line may have.
+pub enum Fault {
+    UnfitLine,
+    Letter,
+    Name,
+    Declaration,
+    FieldCount,
+    Number,
+    NoTerm,
+    CountLimit,
+    Unjustified,
+}
+
+/// A line whose tests up to the count of fields are done: what the fields and the line's end need.
 pub struct Opened {
-    pub fault: u8,
-    pub letter: u8,
+    pub letter: Letter,
     pub predicate: usize,
-    pub first: u64,
-    pub second: u64,
+    /// The words of the name in its second field.
+    pub words: Words,
     /// Where the fields to be read begin.
     pub from: usize,
 }
 
-/// A field: the number of its fault, or 0, and how many variables the rule has then.
-pub struct Fielded {
-    pub fault: u8,
-    pub variables: usize,
+pub enum Opening {
+    Line(Opened),
+    Misopened(Fault),
 }
 
-/// A line that is done: the number of its fault, or 0, and the state after it.
-pub struct Closed {
-    pub fault: u8,
-    pub state: State,
+/// A field that is read, with the number of the rule's variables then.
+pub enum Fielding {
+    Read(usize),
+    Misread(Fault),
+}
+
+/// A line that is done, with the state after it.
+pub enum Closing {
+    Done(State),
+    Misclosed(Fault),
 }

@@ -6,7 +6,7 @@ use Prim.Native.Nat.{ℕ, suc, _+_, _<_}
 use native.Mathlib.Omega.{arith}
 use lib.ListN.{length, getD, List·getD-append}
 use lib.Seq.{getD-append-seam}
-use Rattle.integers.proofs.Truth.{by-truth, never-both}
+use Rattle.groundwork.proofs.Truth.{by-truth, never-both}
 use Rattle.theory.specs.Lists.{_∈_}
 use Rattle.theory.specs.Text.{Bytes, same, among}
 use Rattle.theory.specs.Terms.{occurrences}
@@ -18,14 +18,14 @@ use Rattle.terms.proofs.Numbering.{place-among, place-once}
 
 -- ---- by name
 
-pub occurrences-end : (x : Bytes) (ys : List Bytes) (y : Bytes) → occurrences x (ys ++ (y ∷ [])) ≡ occurrences x ys + cond (same x y) 1 0
+occurrences-end : (x : Bytes) (ys : List Bytes) (y : Bytes) → occurrences x (ys ++ (y ∷ [])) ≡ occurrences x ys + cond (same x y) 1 0
 unfolding occurrences
 occurrences-end x ys y = occurrences-append x ys (y ∷ [])
 
 pub occurrences-same : (x : Bytes) (ys : List Bytes) → occurrences x (ys ++ (x ∷ [])) ≡ occurrences x ys + 1
 occurrences-same x ys = occurrences-end x ys x ∙ rw (same-refl x)
 
-pub occurrences-other : (x : Bytes) (ys : List Bytes) (y : Bytes) → (x ≡ y → ⊥) → occurrences x (ys ++ (y ∷ [])) ≡ occurrences x ys
+occurrences-other : (x : Bytes) (ys : List Bytes) (y : Bytes) → (x ≡ y → ⊥) → occurrences x (ys ++ (y ∷ [])) ≡ occurrences x ys
 occurrences-other x ys y differ =
     occurrences-end x ys y
     ∙ by-truth (λ b. occurrences x ys + cond b 1 0 ≡ occurrences x ys) (same x y) (λ h. absurd (differ (same-equal x y h))) (λ h. omega arith)
@@ -39,7 +39,7 @@ occurrences-absent x (y ∷ ys) absent =
     (λ h. occurrences-absent x ys (λ m. absent (List·Memᴰ·tail m)))
 
 -- a variable that has no number yet has not occurred
-pub occurrences-new : (x : Bytes) (seen xs : List Bytes) → among x (numbered seen xs) ≡ false → occurrences x xs ≡ 0
+occurrences-new : (x : Bytes) (seen xs : List Bytes) → among x (numbered seen xs) ≡ false → occurrences x xs ≡ 0
 occurrences-new x seen xs e = occurrences-absent x xs (λ m. not-among x (numbered seen xs) e (member-numbered seen xs m))
 
 -- ---- by place

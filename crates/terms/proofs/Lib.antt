@@ -10,10 +10,8 @@ pub mod FirstTerms
 pub mod Scan
 -- a term's size and variables as sums over its tokens
 pub mod TokenSums
-pub mod TokenBounds
-pub mod CodeLaws
+pub mod AritySums
 pub mod TokenLoop
-pub mod CodeSums
 pub mod Measures
 -- a rule's variables, numbered and counted one at a time
 pub mod Numbering
@@ -24,5 +22,4 @@ pub mod OneOccurrence
 pub mod VariableTable
 pub mod RowCounting
 pub mod Tally
-pub mod OneCode
-pub mod CodeLoop
+pub mod PlaceLoop

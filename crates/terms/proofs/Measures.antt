@@ -3,10 +3,10 @@ use mathlib.Core.Path.{_≡_, sym, _∙_, ap}
 use mathlib.Core.Bool.{Bool, true, false}
 use mathlib.Core.List.{List}
 use mathlib.Core.Option.{some}
-use Prim.Native.Nat.{ℕ, _≤_, _<_, _^_}
+use Prim.Native.Nat.{ℕ, _≤_, _<_}
 use native.Mathlib.Omega.{arith}
 use lib.ListN.{length, drop-of-length-le}
-use Rattle.integers.proofs.Truth.{ltb-ge, or-not-left}
+use Rattle.groundwork.proofs.Truth.{ltb-ge, or-not-left}
 use Rattle.theory.specs.declared.Measurement.{Measurement}
 use Rattle.theory.specs.declared.Measurement.the-variants.{Size}
 use Rattle.theory.specs.Text.{Bytes}
@@ -16,8 +16,7 @@ use Rattle.theory.specs.Measure.{measured, measureTerm, measureOf}
 use Rattle.theory.specs.Answers.{measuredOf}
 use Rattle.theory.proofs.Reading.Presence.{is-some, is-none, empty-is, filled-is}
 use Rattle.terms.specs.declared.Tokens.{Tokens}
-use Rattle.terms.specs.TokenCodes.{TokensRead, AritiesSummed}
-use Rattle.terms.proofs.TokenBounds.{size-small}
+use Rattle.terms.specs.TokenRows.{SmallArities, TokensRead, AritiesSummed}
 
 module _ (s : Bytes) (unfit : Bool) (unfit-is : unfit ≡ isUnfit s) where
   pub measure-unfit : unfit ≡ true → measured 4 0 ≡ measureOf s
@@ -29,14 +28,14 @@ module _ (s : Bytes) (unfit : Bool) (unfit-is : unfit ≡ isUnfit s) where
     unfolding isUnfit
     measure-short = ltb-ge 1024 (length s) (or-not-left _ _ (sym unfit-is ∙ fit))
 
-    module _ (read : Tokens) (tokens : List ℕ) (read-is : TokensRead s read tokens) where
+    module _ (read : Tokens) (arities places : List ℕ) (read-is : TokensRead s read arities places) where
       pub measure-no-term : read .fine ≡ false → measured 11 0 ≡ measureOf s
       unfolding measureOf measureTerm
       measure-no-term h = rw (sym unfit-is ∙ fit, is-none (readTerm s) (sym (read-is .fine) ∙ h))
 
       module _ (good : read .fine ≡ true) where
-        pub measure-few : read .count ≤ 512
-        measure-few = read-is .stand good .few
+        pub measure-digits : SmallArities arities (read .symbols)
+        measure-digits = read-is .stand good .0 .digits
 
         found : (t : Term) × (readTerm s ≡ some t)
         found = is-some (readTerm s) (sym (read-is .fine) ∙ good)
@@ -51,12 +50,9 @@ module _ (s : Bytes) (unfit : Bool) (unfit-is : unfit ≡ isUnfit s) where
         unfolding measureOf measureTerm
         measure-variable h = rw (sym unfit-is ∙ fit, found .1, filled-is (variables term) (λ e. omega (arith, many, ap length e)))
 
-        module _ (sum : ℕ) (sum-is : AritiesSummed tokens (read .count) sum) where
+        module _ (sum : ℕ) (sum-is : AritiesSummed arities (read .symbols) sum) where
           summed : sum ≡ size structural term
-          summed = sum-is .is s (read-is .stand good) .is term (found .1)
-
-          pub measure-fits : sum < 2 ^ 32
-          measure-fits = omega (arith, summed, size-small s term (found .1) measure-short)
+          summed = sum-is .is s (read-is .stand good .0) .is term (found .1)
 
           pub measure-size : read .variables ≤ 0 → (m : Measurement) → m ≡ Size sum → measuredOf m ≡ measureOf s
           unfolding measureOf measureTerm

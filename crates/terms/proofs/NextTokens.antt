@@ -1,21 +1,21 @@
--- What `token_at` answers: the token that stands at a place, by its first letter, the end of its word and what comes after.
-use mathlib.Core.Path.{_≡_, refl, sym, _∙_, ap}
-use mathlib.Core.Bool.{Bool, true, false, true≢false}
+-- The token that stands at a place, by the class of its first byte, the end of its word and what comes after: the ways through the loop of `read_tokens`.
+use mathlib.Core.Path.{_≡_, refl, sym, _∙_, ap, ap₂}
+use mathlib.Core.Bool.{Bool, true, false}
 use Prim.Native.Nat.{ℕ, _+_, _-_, _*_, _≤_, _<_}
 use native.Mathlib.Omega.{arith}
 use lib.ListN.{length, getD}
-use Rattle.integers.proofs.Truth.{by-truth, never-both}
+use Rattle.groundwork.proofs.Truth.{by-truth, never-both, equal-eqb, eqb-different}
 use Rattle.theory.specs.Text.{Bytes, isLower, isUpper, isDigit, isNameByte, isWord, isName, isVariable}
 use Rattle.theory.specs.Terms.{symbolOf, noToken, tokenOf}
 use Rattle.theory.proofs.Reading.Bytes.{between-from, between-low, between-high}
 use Rattle.theory.proofs.Reading.Separators.{isFree, free-from}
+use Rattle.text.specs.Classes.{Class}
 use Rattle.text.specs.Scans.{part, EndsWord, Finds}
 use Rattle.text.proofs.Parts.{part-length, part-at, free-more}
 use Rattle.text.proofs.Classes.{lower-in-name, upper-in-name}
-use Rattle.terms.specs.declared.NextToken.{NextToken}
-use Rattle.terms.specs.TokenCodes.{Decides, EndsAt, ArityAt, of-symbol, of-variable, TokenFound}
+use Rattle.terms.specs.TokenRows.{Decides, EndsAt, ArityAt, startOf, endOf, standingAt, VariableAt}
 use Rattle.terms.proofs.SymbolTokens.{lastByte, frontOf, SymbolWritten, symbol-read, other-no-token}
-use Rattle.terms.proofs.WordEnding.{word-end-once, word-some}
+use Rattle.terms.proofs.WordEnding.{word-end-once, word-from}
 use Rattle.terms.proofs.TokenEnds.{word-spelled, spelled-word, size, front-place, slash-place, digit-place}
 
 space-no-name : isNameByte 32 ≡ false
@@ -26,9 +26,31 @@ slash-no-name : isNameByte 47 ≡ false
 unfolding isNameByte
 slash-no-name = refl
 
-module _ (s : Bytes) (from : ℕ) (inside : from < length s) (e : ℕ) (word : EndsWord s from e) where
+-- ---- what there may be at a place
+
+pub record NoToken (s : Bytes) (from : ℕ) : Type 0 where
+  pub none : (end : ℕ) → Finds s 32 from end → tokenOf (part s from end) ≡ noToken
+
+-- a symbol with its name up to e
+pub record SymbolFound (s : Bytes) (from e arity : ℕ) : Type 0 where
+  pub name : Bytes
+  pub after : from < e
+  pub found : Finds s 32 from (e + 2)
+  pub read : tokenOf (part s from (e + 2)) ≡ symbolOf name arity
+  pub few : arity ≤ 9
+
+pub record VariableFound (s : Bytes) (from e place : ℕ) : Type 0 where
+  pub after : from < e
+  pub found : Finds s 32 from e
+  pub same : standingAt s place ≡ part s from e
+  pub stands : VariableAt s place
+
+module _ (s : Bytes) (from : ℕ) (inside : from < length s) (class : ℕ) (is : Class (getD s from 0) class) (e : ℕ) (word : EndsWord s (from + 1) e) where
   abbrev first : ℕ
   first = getD s from 0
+
+  after : from < e
+  after = omega (arith, word .low)
 
   first-place : (l : ℕ) → from < l → getD (part s from l) 0 0 ≡ first
   first-place l h = let here : from + 0 ≡ from = omega arith in part-at s from l 0 (omega arith) ∙ ap (λ (n : ℕ). getD s n 0) here
@@ -36,23 +58,25 @@ module _ (s : Bytes) (from : ℕ) (inside : from < length s) (e : ℕ) (word : E
   -- ---- a word that begins with a letter of a kind
 
   module _ (isFirst : ℕ → Bool) (within : (b : ℕ) → isFirst b ≡ true → isNameByte b ≡ true) where
-    word-after : isFirst first ≡ true → from < e
-    word-after h = word-some word inside (within first h)
+    whole : isFirst first ≡ true → EndsWord s from e
+    whole h = word-from inside (within first h) word
 
     word-here : isFirst first ≡ true → e ≤ from + 16 → isWord isFirst (part s from e) ≡ true
     word-here h short =
         let wide : length (part s from e) ≡ e - from = part-length s from (e - from) e refl (word .high) in
-        let after : from < e = word-after h in
-        spelled-word isFirst within (part s from e) (record { any = omega arith; first = ap isFirst (first-place e after) ∙ h; named = word .named; short = omega arith })
+        spelled-word isFirst within (part s from e) (record { any = omega (arith, after); first = ap isFirst (first-place e after) ∙ h; named = whole h .named; short = omega arith })
+
+    word-free : isFirst first ≡ true → isFree 32 (part s from e) ≡ true
+    word-free h = free-from isNameByte 32 space-no-name _ (whole h .named)
 
     -- a word that ends before a byte of no name ends here
     word-there : (l : ℕ) → l ≤ length s → (l < length s → isNameByte (getD s l 0) ≡ false) → isWord isFirst (part s from l) ≡ true → (e ≡ l) × (isFirst first ≡ true) × (e ≤ from + 16)
     word-there l high stop h =
         let spelled = word-spelled isFirst within (part s from l) h in
         let wide : length (part s from l) ≡ l - from = part-length s from (l - from) l refl high in
-        let after : from < l = omega (arith, spelled .any) in
-        let same : e ≡ l = word-end-once word (record { low = omega arith; high = high; named = spelled .named; ended = stop }) in
-        (same, ap isFirst (sym (first-place l after)) ∙ spelled .first, omega (arith, spelled .short))
+        let begins : isFirst first ≡ true = ap isFirst (sym (first-place l (omega (arith, spelled .any)))) ∙ spelled .first in
+        let same : e ≡ l = word-end-once (whole begins) (record { low = omega (arith, spelled .any); high = high; named = spelled .named; ended = stop }) in
+        (same, begins, omega (arith, spelled .short))
 
   -- ---- no token
 
@@ -65,80 +89,90 @@ module _ (s : Bytes) (from : ℕ) (inside : from < length s) (e : ℕ) (word : E
         let there = word-there isLower lower-in-name l (omega arith) (λ _. ap isNameByte slash ∙ slash-no-name) named in
         no-symbol (there .1) (there .2) (rw (there .0) (record { inside = high; slash = slash; digit = between-from 48 57 (getD s (l + 1) 0) (omega arith) (omega (arith, written .few)); end = end }))
 
-    refuses : (end : ℕ) → Finds s 32 from end → tokenOf (part s from end) ≡ noToken
-    refuses end found = other-no-token (part s from end) (by-truth (λ (b : Bool). b ≡ false) (isVariable (part s from end)) (λ h. absurd (variable-there h)) (λ _. refl)) written-there
+    refused : NoToken s from
+    refused = record { none = λ end found. other-no-token (part s from end) (by-truth (λ (b : Bool). b ≡ false) (isVariable (part s from end)) (λ h. absurd (variable-there end found h)) (λ _. refl)) (written-there end found) }
       where
-        variable-there : isVariable (part s from end) ≡ true → ⊥
-        variable-there h =
+        variable-there : (end : ℕ) → Finds s 32 from end → isVariable (part s from end) ≡ true → ⊥
+        variable-there end found h =
             let there = word-there isUpper upper-in-name end (found .high) (λ k. ap isNameByte (found .found k) ∙ space-no-name) h in
             no-variable (there .1) (there .2) (rw (there .0) (record { space = found .found }))
 
-        written-there : (f : Bytes) (k : ℕ) → SymbolWritten (part s from end) f k → ⊥
-        written-there f k written =
+        written-there : (end : ℕ) → Finds s 32 from end → (f : Bytes) (k : ℕ) → SymbolWritten (part s from end) f k → ⊥
+        written-there end found f k written =
             let wide : length (part s from end) ≡ end - from = part-length s from (end - from) end refl (found .high) in
             let long : 2 < length (part s from end) = written .long in
             let back : end - 2 + 2 ≡ end = omega arith in
             symbol-there (end - 2) (omega arith) (omega (arith, found .high)) (rw back (record { space = found .found })) f k (rw back written)
 
-    none-found : (r : NextToken) → r .fine ≡ false → TokenFound s from r
-    none-found r h = record { after = λ k. never-both k h; found = λ k. never-both k h; stands = λ k. never-both k h; none = λ _. refuses }
+  -- ---- the ways through the loop
 
-  -- ---- the ways through `token_at`
+  pub long-refused : 16 < e - from → NoToken s from
+  long-refused long = refused (λ _ short _. omega arith) (λ _ short _. omega arith)
 
-  pub long-refused : 16 < e - from → (r : NextToken) → r .fine ≡ false → TokenFound s from r
-  long-refused long = none-found (λ _ short _. omega arith) (λ _ short _. omega arith)
+  no-capital : (class ≡ 2 → ⊥) → isUpper first ≡ false
+  no-capital h = is .upper ∙ eqb-different class 2 h
+
+  no-small : (class ≡ 1 → ⊥) → isLower first ≡ false
+  no-small h = is .lower ∙ eqb-different class 1 h
+
+  pub letter-refused : (class ≡ 1 → ⊥) → (class ≡ 2 → ⊥) → NoToken s from
+  letter-refused h k = refused (λ upper _ _. never-both upper (no-capital k)) (λ lower _ _. never-both lower (no-small h))
 
   module _ (short : e - from ≤ 16) where
     near : e ≤ from + 16
-    near = omega (arith, word .low)
+    near = omega (arith, after)
 
-    module _ (upper : Bool) (upper-is : upper ≡ isUpper first) where
-      pub variable-after : upper ≡ true → from < e
-      variable-after h = word-after isUpper upper-in-name (sym upper-is ∙ h)
+    -- a small letter
+    module _ (small : class ≡ 1) (arity : Bool) (decides : Decides arity (ArityAt s e)) where
+      pub arity-refused : arity ≡ false → NoToken s from
+      arity-refused h = refused (λ upper _ _. never-both upper (no-capital (λ k. omega arith))) (λ _ _ a. decides .no h a)
 
-      pub variable-found : upper ≡ true → (code : ℕ) → code ≡ 16384 + from * 16 + (e - from - 1) → (fine : Bool) → Decides fine (EndsAt s e) → TokenFound s from record { end = e; code = code; fine = fine }
-      variable-found h code is fine ends =
-          let is-upper : isUpper first ≡ true = sym upper-is ∙ h in
+      module _ (h : arity ≡ true) where
+        there : ArityAt s e
+        there = decides .yes h
+
+        begins : isLower first ≡ true
+        begins = is .lower ∙ equal-eqb class 1 small
+
+        symbol-free : isFree 32 (part s from (e + 2)) ≡ true
+        symbol-free =
+            let next : e + 1 + 1 ≡ e + 2 = omega arith in
+            ap (λ (n : ℕ). isFree 32 (part s from n)) (sym next)
+            ∙ free-more s 32 from (e + 1) (omega (arith, after)) (omega (arith, there .inside))
+            (free-more s 32 from e (omega (arith, after)) (omega (arith, there .inside)) (word-free isLower lower-in-name begins) (λ k. omega (arith, there .slash)))
+            (λ k. omega (arith, between-low 48 57 (getD s (e + 1) 0) (there .digit)))
+
+        pub symbol-found : (digit : ℕ) → digit ≡ getD s (e + 1) 0 - 48 → SymbolFound s from e digit
+        symbol-found digit worth =
+            let w : Bytes = part s from (e + 2) in
+            let low : from ≤ e = omega (arith, after) in
+            let high : e + 2 ≤ length s = there .inside in
+            let last : lastByte w ≡ getD s (e + 1) 0 = digit-place s from e low high in
+            let edges : lastByte w - 48 ≡ digit = omega arith in
+            record {
+              name = frontOf w;
+              after = after;
+              found = record { low = omega arith; high = high; free = symbol-free; found = there .end .space };
+              read =
+                  symbol-read w (omega (arith, size s from e low high)) (slash-place s from e low high ∙ there .slash) (ap isDigit last ∙ there .digit) (ap isName (front-place s from e low high) ∙ word-here isLower lower-in-name begins near)
+                  ∙ ap (symbolOf (frontOf w)) edges;
+              few = omega (arith, between-high 48 57 (getD s (e + 1) 0) (there .digit));
+            }
+
+    -- a capital
+    module _ (capital : class ≡ 2) (fine : Bool) (decides : Decides fine (EndsAt s e)) where
+      pub variable-refused : fine ≡ false → NoToken s from
+      variable-refused h = refused (λ _ _ end. decides .no h end) (λ lower _ _. never-both lower (no-small (λ k. omega arith)))
+
+      pub variable-found : fine ≡ true → (place : ℕ) → place ≡ from * 16 + (e - from - 1) → VariableFound s from e place
+      variable-found h place at =
+          let begins : isUpper first ≡ true = is .upper ∙ equal-eqb class 2 capital in
+          let starts : startOf place ≡ from = omega (arith, after) in
+          let ends : endOf place ≡ e = omega (arith, after) in
+          let same : standingAt s place ≡ part s from e = ap₂ (part s) starts ends in
           record {
-            after = λ _. variable-after h;
-            found = λ k. record { low = word .low; high = word .high; free = free-from isNameByte 32 space-no-name _ (word .named); found = ends .yes k .space };
-            stands = λ _. of-variable from e is (variable-after h) near (word .high) refl (word-here isUpper upper-in-name is-upper near);
-            none = λ k. refuses (λ _ _ end. ends .no k end) (λ lower _ _. omega (arith, between-low 97 122 first lower, between-high 65 90 first is-upper));
+            after = after;
+            found = record { low = omega (arith, after); high = word .high; free = word-free isUpper upper-in-name begins; found = decides .yes h .space };
+            same = same;
+            stands = record { inside = omega (arith, word .high); proper = ap isVariable same ∙ word-here isUpper upper-in-name begins near };
           }
-
-      module _ (other : upper ≡ false) (lower : Bool) (lower-is : lower ≡ isLower first) where
-        pub letter-refused : lower ≡ false → (r : NextToken) → r .fine ≡ false → TokenFound s from r
-        letter-refused h = none-found (λ k _ _. never-both k (sym upper-is ∙ other)) (λ k _ _. never-both k (sym lower-is ∙ h))
-
-        module _ (named : lower ≡ true) (arity : Bool) (decides : Decides arity (ArityAt s e)) where
-          pub arity-refused : arity ≡ false → (r : NextToken) → r .fine ≡ false → TokenFound s from r
-          arity-refused h = none-found (λ k _ _. never-both k (sym upper-is ∙ other)) (λ _ _ a. decides .no h a)
-
-          module _ (h : arity ≡ true) where
-            there : ArityAt s e
-            there = decides .yes h
-
-            symbol-free : isFree 32 (part s from (e + 2)) ≡ true
-            symbol-free =
-                let next : e + 1 + 1 ≡ e + 2 = omega arith in
-                ap (λ (n : ℕ). isFree 32 (part s from n)) (sym next)
-                ∙ free-more s 32 from (e + 1) (omega (arith, word .low)) (omega (arith, there .inside))
-                (free-more s 32 from e (word .low) (omega (arith, there .inside)) (free-from isNameByte 32 space-no-name _ (word .named)) (λ k. omega (arith, there .slash)))
-                (λ k. omega (arith, between-low 48 57 (getD s (e + 1) 0) (there .digit)))
-
-            pub symbol-found : (code : ℕ) → code ≡ getD s (e + 1) 0 - 48 → TokenFound s from record { end = e + 2; code = code; fine = true }
-            symbol-found code is =
-                let w : Bytes = part s from (e + 2) in
-                let low : from ≤ e = word .low in
-                let high : e + 2 ≤ length s = there .inside in
-                let last : lastByte w ≡ getD s (e + 1) 0 = digit-place s from e low high in
-                let edges : lastByte w - 48 ≡ code = omega arith in
-                record {
-                  after = λ _. omega arith;
-                  found = λ _. record { low = omega arith; high = high; free = symbol-free; found = there .end .space };
-                  stands = λ _. of-symbol (frontOf w)
-                      (symbol-read w (omega (arith, size s from e low high)) (slash-place s from e low high ∙ there .slash) (ap isDigit last ∙ there .digit) (ap isName (front-place s from e low high) ∙ word-here isLower lower-in-name (sym lower-is ∙ named) near)
-                      ∙ ap (symbolOf (frontOf w)) edges)
-                      (omega (arith, between-high 48 57 (getD s (e + 1) 0) (there .digit)));
-                  none = λ k. absurd (true≢false k);
-                }

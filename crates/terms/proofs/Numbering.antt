@@ -5,8 +5,8 @@ use mathlib.Core.List.{List, [], _∷_, _++_, append-assoc, append-nil}
 use Prim.Native.Nat.{ℕ, zero, suc, _≤_, _<_}
 use native.Mathlib.Omega.{arith}
 use lib.ListN.{length, getD, List·getD-append}
-use Rattle.integers.proofs.Truth.{by-truth}
-use Rattle.integers.proofs.Lists.{getD-member, member-getD}
+use Rattle.groundwork.proofs.Truth.{by-truth}
+use Rattle.groundwork.proofs.Lists.{getD-member, member-getD}
 use Rattle.theory.specs.Lists.{_∈_}
 use Rattle.theory.specs.Text.{Bytes, among}
 use Rattle.theory.specs.Residuals.{numbered}
@@ -15,7 +15,7 @@ use Rattle.theory.proofs.Judging.Variables.{among-member, not-among, Once, once
 
 -- ---- among, by places
 
-pub member-among : (x : Bytes) (ys : List Bytes) → x ∈ ys → among x ys ≡ true
+member-among : (x : Bytes) (ys : List Bytes) → x ∈ ys → among x ys ≡ true
 member-among x ys m = by-truth (λ b. b ≡ true) (among x ys) (λ h. refl) (λ h. absurd (not-among x ys h m))
 
 pub place-among : (x : Bytes) (seen : List Bytes) (i : ℕ) → i < length seen → getD seen i [] ≡ x → among x seen ≡ true
@@ -37,7 +37,7 @@ place-once (once-more apart rest) (suc i) (suc j) h k e = ap suc (place-once res
 
 -- in front of those to come
 module _ (seen : List Bytes) (x : Bytes) (xs : List Bytes) where
-  pub numbered-known : among x seen ≡ true → numbered seen (x ∷ xs) ≡ numbered seen xs
+  numbered-known : among x seen ≡ true → numbered seen (x ∷ xs) ≡ numbered seen xs
   unfolding numbered
   numbered-known e = rw e
 
@@ -61,7 +61,7 @@ module _ (seen xs : List Bytes) (x : Bytes) where
   numbered-end-new e = numbered-end seen xs x ∙ numbered-new (numbered seen xs) x [] e
 
 -- what was seen stands in front
-pub numbered-extends : (seen xs : List Bytes) → (new : List Bytes) × (numbered seen xs ≡ seen ++ new)
+numbered-extends : (seen xs : List Bytes) → (new : List Bytes) × (numbered seen xs ≡ seen ++ new)
 unfolding numbered
 numbered-extends seen [] = ([], sym (append-nil seen))
 numbered-extends seen (x ∷ xs) =

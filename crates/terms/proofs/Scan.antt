@@ -6,10 +6,10 @@ use mathlib.Core.Option.{Option, some, none, Option·map}
 use Prim.Native.Nat.{ℕ, zero, suc, _+_, _-_, _<_}
 use native.Mathlib.Omega.{arith}
 use lib.Dec.{eqb, eqb·zero-suc, eqb·suc-suc}
-use Rattle.integers.proofs.Truth.{by-truth, eqb-equal, eqb-unequal, equal-eqb, eqb-different}
+use Rattle.groundwork.proofs.Truth.{by-truth, eqb-equal, eqb-unequal, equal-eqb, eqb-different}
 use Rattle.theory.specs.Lists.{isSome}
 use Rattle.theory.specs.Text.{Bytes, partsAt}
-use Rattle.theory.specs.Terms.{Terms, nil, cons, symbol, arity, Token, variableNamed, symbolOf, noToken, tokenOf, behind, behindAll, termsOf, theOnly, readTerm}
+use Rattle.theory.specs.Terms.{Terms, nil, cons, symbol, arity, Token, variableNamed, symbolOf, noToken, tokenOf, after, afterAll, termsOf, theOnly, readTerm}
 use Rattle.theory.specs.Faults.{isTerm}
 use Rattle.terms.proofs.FirstTerms.{FirstOf, enough, too-few, first-of}
 
@@ -32,11 +32,11 @@ module _ (w : Bytes) (ws : List Bytes) where
   unfolding scan scanToken
   scan-unwanted = refl
 
-  pub scan-variable : (p : ℕ) → tokenOf w ≡ variableNamed w → scan (suc p) (w ∷ ws) ≡ scan p ws
+  scan-variable : (p : ℕ) → tokenOf w ≡ variableNamed w → scan (suc p) (w ∷ ws) ≡ scan p ws
   unfolding scan scanToken
   scan-variable p e = rw e
 
-  pub scan-symbol : (p : ℕ) (f : Bytes) (k : ℕ) → tokenOf w ≡ symbolOf f k → scan (suc p) (w ∷ ws) ≡ scan (p + k) ws
+  scan-symbol : (p : ℕ) (f : Bytes) (k : ℕ) → tokenOf w ≡ symbolOf f k → scan (suc p) (w ∷ ws) ≡ scan (p + k) ws
   unfolding scan scanToken
   scan-symbol p f k e = rw e
 
@@ -70,8 +70,8 @@ same-test : (i j k l : ℕ) → (i ≡ j → k ≡ l) → (k ≡ l → i ≡ j) 
 same-test i j k l f g =
     by-truth (λ b. b ≡ eqb k l) (eqb i j) (λ e. sym (equal-eqb k l (f (eqb-equal i j e)))) (λ e. sym (eqb-different k l (λ h. eqb-unequal i j e (g h))))
 
-token-in-front : (p : ℕ) (token : Token) (ts : Terms) → scanToken p token (λ (q : ℕ). eqb q (arity ts)) ≡ asMany p (behind token ts)
-unfolding scanToken asMany behind arity
+token-in-front : (p : ℕ) (token : Token) (ts : Terms) → scanToken p token (λ (q : ℕ). eqb q (arity ts)) ≡ asMany p (after token ts)
+unfolding scanToken asMany after arity
 token-in-front zero (variableNamed x) ts = sym (eqb·zero-suc (arity ts))
 token-in-front zero (symbolOf f k) ts = none-wanted (first-of k ts)
   where
@@ -87,8 +87,8 @@ token-in-front (suc p) (symbolOf f k) ts = some-wanted (first-of k ts)
     some-wanted (too-few h) = eqb-different (p + k) (arity ts) (λ e. omega arith)
 token-in-front (suc p) noToken ts = refl
 
-token-in-front-of-all : (p : ℕ) (token : Token) (o : Option Terms) → scanToken p token (λ (q : ℕ). asMany q o) ≡ asMany p (behindAll token o)
-unfolding scanToken asMany behindAll
+token-in-front-of-all : (p : ℕ) (token : Token) (o : Option Terms) → scanToken p token (λ (q : ℕ). asMany q o) ≡ asMany p (afterAll token o)
+unfolding scanToken asMany afterAll
 token-in-front-of-all zero token none = refl
 token-in-front-of-all (suc p) (variableNamed x) none = refl
 token-in-front-of-all (suc p) (symbolOf f k) none = refl

@@ -6,8 +6,8 @@ use Prim.Native.Nat.{ℕ, _+_, _-_, _≤_, _<_}
 use native.Mathlib.Omega.{arith}
 use lib.ListN.{length, getD, take, drop, length-append, drop-of-length-le, take-append-drop}
 use lib.Seq.{take-at, getD-at, getD-append-add}
-use Rattle.integers.proofs.Truth.{never-both}
-use Rattle.theory.specs.Text.{Bytes, isWord, isDigit, isName, isVariable, isDecimal, valueBehind, decimal}
+use Rattle.groundwork.proofs.Truth.{never-both}
+use Rattle.theory.specs.Text.{Bytes, isWord, isDigit, isName, isVariable, isDecimal, valueAfter, decimal}
 use Rattle.theory.specs.Terms.{Token, symbolOf, noToken, symbolToken, tokenOf}
 use Rattle.theory.proofs.Reading.Bytes.{between-from, between-low, between-high}
 use Rattle.theory.proofs.Reading.Decimals.{decimal-of-value}
@@ -25,9 +25,9 @@ abbrev pub frontOf : Bytes → Bytes
 frontOf w = take (length w - 2) w
 
 decimal-digit : (k : ℕ) → k ≤ 9 → decimal k ≡ (48 + k) ∷ []
-unfolding isDecimal valueBehind
+unfolding isDecimal valueAfter
 decimal-digit k few =
-    let worth : valueBehind 0 ((48 + k) ∷ []) ≡ k = omega arith in
+    let worth : valueAfter 0 ((48 + k) ∷ []) ≡ k = omega arith in
     ap decimal (sym worth) ∙ decimal-of-value ((48 + k) ∷ []) (between-from 48 57 (48 + k) (omega arith) (omega arith))
 
 -- a name has a first letter
@@ -60,7 +60,7 @@ symbol-places f k named few =
       digit = ap (λ (i : ℕ). getD w i 0) last ∙ getD-append-add f (47 ∷ (48 + k) ∷ []) 1 0;
     }
 
-pub symbol-written : (w f : Bytes) (k : ℕ) → tokenOf w ≡ symbolOf f k → SymbolWritten w f k
+symbol-written : (w f : Bytes) (k : ℕ) → tokenOf w ≡ symbolOf f k → SymbolWritten w f k
 unfolding symbolToken
 symbol-written w f k e = written (read-as w) e
   where

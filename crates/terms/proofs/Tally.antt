@@ -4,9 +4,8 @@ use mathlib.Core.Bool.{true, false}
 use mathlib.Core.List.{List, [], _∷_, _++_}
 use Prim.Native.Nat.{ℕ, _+_, _≤_, _<_}
 use native.Mathlib.Omega.{arith}
-use lib.IntN.{ℤ}
 use lib.ListN.{length, getD}
-use Rattle.integers.proofs.Lists.{length-end}
+use Rattle.groundwork.proofs.Lists.{length-end}
 use Rattle.theory.specs.Text.{Bytes, among, isVariable}
 use Rattle.theory.specs.Residuals.{numbered}
 use Rattle.text.specs.Words.{wordsOf}
@@ -16,7 +15,7 @@ use Rattle.terms.proofs.VariableTable.{found-is, not-found, holds-more}
 use Rattle.terms.proofs.RowCounting.{row-known, row-new}
 
 -- the variables seen before and those counted are in the table, and the row counts them; or they are more than 16
-pub data Tallied (seen done : List Bytes) (base many : ℕ) (names : List ℕ) (rows : List ℤ) : Type 0 where
+pub data Tallied (seen done : List Bytes) (base many : ℕ) (names : List ℕ) (rows : List ℕ) : Type 0 where
   all-placed : many ≡ length (numbered seen done) → Holds names (numbered seen done) → RowCounts rows base (numbered seen done) done → Tallied seen done base many names rows
   too-many : many ≡ 17 → 16 < length (numbered seen done) → Tallied seen done base many names rows
 
@@ -27,7 +26,7 @@ module _ (seen done : List Bytes) (x : Bytes) (proper : isVariable x ≡ true) (
   abbrev next : List Bytes
   next = done ++ (x ∷ [])
 
-  pub one-tallied : {many : ℕ} {names : List ℕ} {rows : List ℤ} {r : ℕ} {names₁ : List ℕ} {rows₁ : List ℤ} → base + 17 ≤ length rows → Tallied seen done base many names rows → CountsOne (wordsOf x) names many rows base r names₁ rows₁ → Tallied seen next base r names₁ rows₁
+  pub one-tallied : {many : ℕ} {names : List ℕ} {rows : List ℕ} {r : ℕ} {names₁ : List ℕ} {rows₁ : List ℕ} → base + 17 ≤ length rows → Tallied seen done base many names rows → CountsOne (wordsOf x) names many rows base r names₁ rows₁ → Tallied seen next base r names₁ rows₁
   one-tallied {rows = rows} room (all-placed count holds row) (known-already at inside few place stored) =
       let here : getD all at [] ≡ x = found-is x holds proper at (omega arith) (rw count at place) in
       let same : numbered seen next ≡ all = numbered-end-known seen done x (place-among x all at (omega arith) here) in

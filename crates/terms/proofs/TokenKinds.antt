@@ -3,7 +3,7 @@ use mathlib.Core.Path.{_≡_, refl}
 use mathlib.Core.Bool.{false}
 use Prim.Native.Nat.{ℕ}
 use native.Mathlib.Omega.{arith}
-use Rattle.integers.proofs.Truth.{by-truth}
+use Rattle.groundwork.proofs.Truth.{by-truth}
 use Rattle.theory.specs.Text.{Bytes, isVariable}
 use Rattle.theory.specs.Terms.{variableNamed, symbolOf, tokenOf}
 use Rattle.theory.proofs.Reading.Tokens.{token-of-variable}

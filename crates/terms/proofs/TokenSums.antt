@@ -7,7 +7,7 @@ use Prim.Native.Nat.{ℕ, _+_}
 use native.Mathlib.Omega.{arith}
 use Rattle.theory.specs.Lists.{total}
 use Rattle.theory.specs.Text.{Bytes, partsAt, isVariable}
-use Rattle.theory.specs.Terms.{Term, variable, symbol, Terms, nil, cons, Token, variableNamed, symbolOf, noToken, tokenOf, behind, behindAll, termsOf, theOnly, readTerm}
+use Rattle.theory.specs.Terms.{Term, variable, symbol, Terms, nil, cons, Token, variableNamed, symbolOf, noToken, tokenOf, after, afterAll, termsOf, theOnly, readTerm}
 use Rattle.theory.specs.Terms.{structural, size, argumentSizes, variables, allVariables}
 use Rattle.theory.proofs.Reading.Tokens.{ReadAs, as-variable, as-symbol, as-none, read-as}
 use Rattle.theory.proofs.Soundness.StructuralSizes.{sizesTogether, structural-size}
@@ -53,8 +53,8 @@ data Summed (ws : List Bytes) : Option Terms → Type 0 where
   summed : (ts : Terms) → constants ws ≡ sizesTogether ts → variableTokens ws ≡ allVariables ts → Summed ws (some ts)
   unread : Summed ws none
 
-token-in-front : (w : Bytes) (ws : List Bytes) (us : Terms) → constants ws ≡ sizesTogether us → variableTokens ws ≡ allVariables us → {token : Token} → ReadAs w token → tokenOf w ≡ token → Summed (w ∷ ws) (behind token us)
-unfolding behind total size variables
+token-in-front : (w : Bytes) (ws : List Bytes) (us : Terms) → constants ws ≡ sizesTogether us → variableTokens ws ≡ allVariables us → {token : Token} → ReadAs w token → tokenOf w ≡ token → Summed (w ∷ ws) (after token us)
+unfolding after total size variables
 token-in-front w ws us sum names (as-variable h) e =
     summed (cons (variable w) us) (omega (arith, constants-variable w ws e)) (variable-first w ws h ∙ ap (λ l. w ∷ l) names)
 token-in-front w ws us sum names (as-symbol {f = f} {k = k} is named few) e = with-arguments (first-of k us)
@@ -69,11 +69,11 @@ token-in-front w ws us sum names (as-symbol {f = f} {k = k} is named few) e = wi
 token-in-front w ws us sum names as-none e = unread
 
 terms-summed : (ws : List Bytes) → Summed ws (termsOf ws)
-unfolding termsOf behindAll constants variableTokens total argumentSizes allVariables
+unfolding termsOf afterAll constants variableTokens total argumentSizes allVariables
 terms-summed [] = summed nil refl refl
 terms-summed (w ∷ ws) = in-front (terms-summed ws)
   where
-    in-front : {o : Option Terms} → Summed ws o → Summed (w ∷ ws) (behindAll (tokenOf w) o)
+    in-front : {o : Option Terms} → Summed ws o → Summed (w ∷ ws) (afterAll (tokenOf w) o)
     in-front (summed us sum names) = token-in-front w ws us sum names (read-as w) refl
     in-front unread = unread
 

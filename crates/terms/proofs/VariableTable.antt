@@ -7,12 +7,12 @@ use native.Mathlib.Omega.{arith}
 use borrow.Author.Count.{below-more}
 use lib.ListN.{length, getD, set, length-set, List·getD-append}
 use lib.Seq.{getD-set-same, getD-set-other, getD-append-seam}
-use Rattle.integers.proofs.Lists.{length-end}
+use Rattle.groundwork.proofs.Lists.{length-end}
 use Rattle.theory.specs.Text.{Bytes, among, isVariable}
 use Rattle.theory.specs.Residuals.{numbered}
 use Rattle.theory.proofs.Reading.Spelling.{variable-bytes}
 use Rattle.theory.proofs.Judging.Variables.{Once, numbered-once}
-use Rattle.text.specs.Words.{wordsOf, wordsAt, PlaceOf}
+use Rattle.text.specs.Words.{wordsOf, wordsAt, StandsAt}
 use Rattle.text.specs.declared.Words.{Words}
 use Rattle.text.proofs.WordLaws.{words-equal}
 use Rattle.terms.specs.Rows.{Holds}
@@ -52,12 +52,12 @@ unfolding numbered
 once-more {all} x once new = subst Once (numbered-new all x [] new) (numbered-once all (x ∷ []) once)
 
 module _ {names : List ℕ} {all : List Bytes} (x : Bytes) (holds : Holds names all) (proper : isVariable x ≡ true) where
-  pub found-is : (at : ℕ) → at < length all → PlaceOf names (length all) (wordsOf x) at → getD all at [] ≡ x
+  pub found-is : (at : ℕ) → at < length all → StandsAt names (length all) (wordsOf x) at → getD all at [] ≡ x
   found-is at h place =
       words-equal (getD all at []) x (variable-bytes (getD all at []) (holds .proper at h)) (variable-bytes x proper) (sym (holds .words at h) ∙ place .found h)
 
-  pub not-found : PlaceOf names (length all) (wordsOf x) (length all) → among x all ≡ false
-  not-found place = no-place-among x all (λ i h e. place .before i h (holds .words i h ∙ ap wordsOf e))
+  pub not-found : StandsAt names (length all) (wordsOf x) (length all) → among x all ≡ false
+  not-found place = no-place-among x all (λ i h e. place .nowhere (omega arith) i h (holds .words i h ∙ ap wordsOf e))
 
   pub holds-more : among x all ≡ false → length all < 16 → Holds (withWords names (length all) (wordsOf x)) (all ++ (x ∷ []))
   holds-more new room =

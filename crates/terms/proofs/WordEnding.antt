@@ -1,17 +1,17 @@
 -- Where the first word from a place on ends: there is only one such place.
 use mathlib.Core.Path.{_≡_, sym, _∙_, ap}
 use mathlib.Core.Bool.{Bool, true}
-use Prim.Native.Nat.{ℕ, _+_, _-_, _≤_, _<_}
+use Prim.Native.Nat.{ℕ, suc, _+_, _-_, _≤_, _<_}
 use native.Mathlib.Decide.{decLt}
 use native.Mathlib.Omega.{arith}
 use lib.ListN.{length, getD}
-use Rattle.integers.proofs.Truth.{never-both}
-use Rattle.integers.proofs.Lists.{getD-member}
+use Rattle.groundwork.proofs.Truth.{never-both}
+use Rattle.groundwork.proofs.Lists.{getD-member}
 use Rattle.theory.specs.Lists.{every}
 use Rattle.theory.specs.Text.{Bytes, isNameByte}
 use Rattle.theory.proofs.Reading.Every.{every-member}
 use Rattle.text.specs.Scans.{part, EndsWord}
-use Rattle.text.proofs.Parts.{part-length, part-at}
+use Rattle.text.proofs.Parts.{part-length, part-at, drop-more}
 
 -- a test that every byte of a part passes, at a place of it
 every-place : (s : Bytes) (a e : ℕ) → e ≤ length s → (test : ℕ → Bool) → every test (part s a e) ≡ true → (i : ℕ) → a ≤ i → i < e → test (getD s i 0) ≡ true
@@ -35,10 +35,9 @@ module _ {s : Bytes} {from : ℕ} where
       by (no h) (yes k) = absurd (not-before v w k)
       by (no h) (no k) = omega arith
 
-  -- where a word begins, its end comes after
-  pub word-some : {e : ℕ} → EndsWord s from e → from < length s → isNameByte (getD s from 0) ≡ true → from < e
-  word-some {e} w inside named = by (decLt from e)
-    where
-      by : Dec (from < e) → from < e
-      by (yes h) = h
-      by (no h) = let here : e ≡ from = omega (arith, w .low) in never-both named (ap (λ (n : ℕ). isNameByte (getD s n 0)) (sym here) ∙ w .ended (omega arith))
+  -- one byte more in front
+  pub word-from : {e : ℕ} → from < length s → isNameByte (getD s from 0) ≡ true → EndsWord s (from + 1) e → EndsWord s from e
+  unfolding every
+  word-from {e} inside named w =
+      let count : e - from ≡ suc (e - (from + 1)) = omega (arith, w .low) in
+      record { low = omega (arith, w .low); high = w .high; named = rw (count, drop-more s from inside, named) (w .named); ended = w .ended }

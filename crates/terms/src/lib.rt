@@ -1,14 +1,15 @@
 // The term readers, and measure.
 ghost use mathlib.Core.Path.{_≡_};
 ghost use mathlib.Core.Bool.{true, false};
-ghost use Prim.Native.Nat.{_+_, _-_, _*_, _≤_, _<_, _^_};
+ghost use Prim.Native.Nat.{_+_, _-_, _*_, _≤_, _<_};
 ghost use lib.ListN.{length};
 ghost use Rattle.theory.specs.Text.{isDigit};
 ghost use Rattle.theory.specs.Measure.{measureOf};
 ghost use Rattle.theory.specs.Answers.{measuredOf};
 ghost use Rattle.text.specs.Classes.{Classes};
-ghost use Rattle.terms.specs.TokenCodes.{EndsAt, ArityAt, Decides, TokenFound, TokensStand, TokensRead, ArityOfCode, VariablesOfCode, AritiesSummed, startOf, endOf, CodeFits};
-ghost use Rattle.terms.specs.Rows.{Cleared, SmallRow, CountsOne, CountsCode, RowFits, Counted};
+ghost use Rattle.terms.specs.TokenRows.{EndsAt, ArityAt, Decides, SmallArities, PlacesStand, TokensRead, AritiesSummed, startOf, endOf};
+ghost use Rattle.terms.specs.Rows.{Cleared, SmallRow, CountsOne, Counted};
+use forms::Form;
 use text::Words;
 use theory::Measurement;
 
@@ -46,88 +47,42 @@ fn has_arity(field: &[u8], at: usize) -> bool
     is_end(field, at + 2)
 }
 
-// The code of a token: of a symbol its arity, and of a variable 16384 and 16 times its place in the field and one less than
-// its length. Places are below 1024, and a variable has at most 16 bytes.
-
-/// A symbol's code, by the digit that ends it.
-fn symbol_code(digit: u8) -> u16
+/// The number that a digit writes.
+fn digit_of(digit: u8) -> u8
     requires { ⌜ 48 ≤ digit ⌝ }
     ensures { λ r. ⌜ r ≡ digit - 48 ⌝ }
 {
-    (digit - b'0') as u16
+    digit - b'0'
 }
 
-/// A variable's code, by its place and its end.
-fn variable_code(start: usize, end: usize) -> u16
+// The place of a variable: 16 times where it starts in the field, and one less than its length. Fields have at most 1024
+// bytes, and variables at most 16.
+
+/// A variable's place, by its start and its end.
+fn place_of(start: usize, end: usize) -> u16
     requires { ⌜ (start < 1024) × (start < end) × (end ≤ start + 16) ⌝ }
-    ensures { λ r. ⌜ r ≡ 16384 + start * 16 + (end - start - 1) ⌝ }
+    ensures { λ r. ⌜ r ≡ start * 16 + (end - start - 1) ⌝ }
 {
-    widths::short(16384 + start * 16 + (end - start - 1))
+    widths::short(start * 16 + (end - start - 1))
 }
 
-/// A token of a field: where it ends, and its code.
-pub struct NextToken {
-    pub end: usize,
-    pub code: u16,
-    pub fine: bool,
-}
-
-fn no_token() -> NextToken
-    ensures { λ r. ⌜ r .fine ≡ false ⌝ }
+/// Where the variable at a place starts.
+fn start_of(place: u16) -> usize
+    ensures { λ r. ⌜ r ≡ startOf place ⌝ }
 {
-    NextToken {
-        end: 0,
-        code: 0,
-        fine: false,
-    }
+    (place / 16) as usize
 }
 
-/// The token that stands at a place, up to a space or the end.
-fn token_at(field: &[u8], from: usize, classes: &[u8; 256]) -> NextToken
-    requires { ⌜ (from < length (now field)) × (length (now field) ≤ 1024) × Classes (now classes) ⌝ }
-    ensures { λ r. ⌜ TokenFound (now (field .entry)) from r ⌝ }
+/// Where it ends.
+fn end_of(place: u16) -> usize
+    ensures { λ r. ⌜ r ≡ endOf place ⌝ }
 {
-    let end = text::word_end(field, from, classes);
-    if 16 < end - from {
-        return no_token();
-    }
-    let first = field[from];
-    if text::is_upper(first) {
-        let code = variable_code(from, end);
-        let fine = is_end(field, end);
-        return NextToken { end, code, fine };
-    }
-    if !text::is_lower(first) {
-        return no_token();
-    }
-    if !has_arity(field, end) {
-        return no_token();
-    }
-    let code = symbol_code(field[end + 1]);
-    NextToken {
-        end: end + 2,
-        code,
-        fine: true,
-    }
+    (place / 16 + place % 16 + 1) as usize
 }
 
-/// Of a code: the arity, 0 for a variable.
-fn arity_of(code: u16) -> usize
-    ensures { λ r. ⌜ ArityOfCode code r ⌝ }
-{
-    if code < 16384 { code as usize } else { 0 }
-}
-
-/// How many variables a code stands for: one or none.
-fn variables_of(code: u16) -> usize
-    ensures { λ r. ⌜ VariablesOfCode code r ⌝ }
-{
-    if code < 16384 { 0 } else { 1 }
-}
-
-/// What was read of a field: how many tokens and variables, and whether it is a term.
+/// What was read of a field: how many symbols and variables, and whether it is a term.
 pub struct Tokens {
-    pub count: usize,
+    pub symbols: usize,
     pub variables: usize,
     pub fine: bool,
 }
@@ -136,60 +91,87 @@ fn no_term() -> Tokens
     ensures { λ r. ⌜ r .fine ≡ false ⌝ }
 {
     Tokens {
-        count: 0,
+        symbols: 0,
         variables: 0,
         fine: false,
     }
 }
 
 /// Reads the tokens of a field, and whether it is a term: each token in turn fills one place and opens as many as its arity,
-/// and none is left at the end. Of a term, `tokens` then begins with the codes of its tokens.
-pub fn read_tokens(field: &[u8], classes: &[u8; 256], tokens: &mut [u16; 512]) -> Tokens
-    requires { ⌜ (length (now field) ≤ 1024) × Classes (now classes) × (length (now tokens) ≡ 512) ⌝ }
-    ensures { λ r. ⌜ TokensRead (now (field .entry)) r (now (tokens .exit)) ⌝ }
+/// and none is left at the end. Of a term, `arities` then begins with the arities of its symbols, and `places` with the
+/// places of its variables.
+pub fn read_tokens(
+    field: &[u8],
+    classes: &[u8; 256],
+    arities: &mut [u8; 512],
+    places: &mut [u16; 512],
+) -> Tokens
+    requires { ⌜ (length (now field) ≤ 1024) × Classes (now classes) × (length (now arities) ≡ 512) × (length (now places) ≡ 512) ⌝ }
+    ensures { λ r. ⌜ TokensRead (now (field .entry)) r (now (arities .exit)) (now (places .exit)) ⌝ }
 {
     let mut wanted: usize = 1;
-    let mut count: usize = 0;
+    let mut symbols: usize = 0;
     let mut variables: usize = 0;
     let mut from: usize = 0;
     while from < field.len() {
         if wanted == 0 {
             return no_term();
         }
-        let token = token_at(field, from, classes);
-        if !token.fine {
+        let class = text::class_of(field[from], classes);
+        let end = text::word_end(field, from + 1, classes);
+        if 16 < end - from {
             return no_term();
         }
-        let code = token.code;
-        tokens[count] = code;
-        count += 1;
-        wanted = wanted - 1 + arity_of(code);
-        variables += variables_of(code);
-        from = token.end + 1;
+        if class == 1 {
+            if !has_arity(field, end) {
+                return no_term();
+            }
+            let arity = digit_of(field[end + 1]);
+            arities[symbols] = arity;
+            symbols += 1;
+            wanted = wanted - 1 + widths::wide(arity);
+            from = end + 3;
+        } else {
+            if class != 2 {
+                return no_term();
+            }
+            if !is_end(field, end) {
+                return no_term();
+            }
+            places[variables] = place_of(from, end);
+            variables += 1;
+            wanted -= 1;
+            from = end + 1;
+        }
     }
     Tokens {
-        count,
+        symbols,
         variables,
         fine: (wanted == 0) & (field.len() < from),
     }
 }
 
-/// The sum of the arities among the codes of a term.
-pub fn sum_of_arities(tokens: &[u16; 512], count: usize) -> usize
-    requires { ⌜ count ≤ 512 ⌝ }
-    ensures { λ r. ⌜ AritiesSummed (now (tokens .entry)) count r ⌝ }
+fn sixteen_bits(arity: u8) -> u16
+    ensures { λ r. ⌜ r ≡ arity ⌝ }
 {
-    let mut sum: usize = 0;
+    arity as u16
+}
+
+/// The sum of the arities of a term's symbols.
+pub fn sum_of_arities(arities: &[u8; 512], symbols: usize) -> u16
+    requires { ⌜ SmallArities (now arities) symbols ⌝ }
+    ensures { λ r. ⌜ AritiesSummed (now (arities .entry)) symbols r ⌝ }
+{
+    let mut sum: u16 = 0;
     let mut i: usize = 0;
-    while i < count {
-        sum += arity_of(tokens[i]);
+    while i < symbols {
+        sum += sixteen_bits(arities[i]);
         i += 1;
     }
     sum
 }
 
-fn sized(size: usize) -> Measurement
-    requires { ⌜ size < 2 ^ 32 ⌝ }
+fn sized(size: u16) -> Measurement
     ensures { λ r. ⌜ r ≡ Measurement.Size size ⌝ }
 {
     Measurement::Size(size as u32)
@@ -203,23 +185,27 @@ pub fn measure(term: &[u8]) -> Measurement
         return Measurement::UnfitTerm;
     }
     let classes = text::class_table();
-    let mut tokens = [0u16; 512];
-    let read = read_tokens(term, &classes, &mut tokens);
+    let mut arities = [0u8; 512];
+    let mut places = [0u16; 512];
+    let read = read_tokens(term, &classes, &mut arities, &mut places);
     if !read.fine {
         return Measurement::NotTerm;
     }
     if 0 < read.variables {
         return Measurement::HasVariable;
     }
-    sized(sum_of_arities(&tokens, read.count))
+    sized(sum_of_arities(&arities, read.symbols))
 }
 
-fn clear_row(rows: &mut [i64; 1305], base: usize)
-    requires { ⌜ base + 17 ≤ 1305 ⌝ }
-    ensures { λ r. ⌜ Cleared (now (rows .entry)) base (now (rows .exit)) ⌝ }
+/// Rows of 17 numbers, one for each argument of a rule's atoms: its constant, and how often each variable occurs.
+pub type Rows = [u16; 1224];
+
+fn clear_row(rows: &mut Rows, base: usize)
+    requires { ⌜ base + 17 ≤ 1224 ⌝ }
+    ensures { λ r. ⌜ Cleared (now (rows .entry)) base (now (rows .exit)) 16 ⌝ }
 {
     let mut i: usize = 0;
-    while i < 16 {
+    while i < Form::VARIABLES {
         rows[base + 1 + i] = 0;
         i += 1;
     }
@@ -230,87 +216,56 @@ fn count_variable(
     words: Words,
     names: &mut [u64; 64],
     known: usize,
-    rows: &mut [i64; 1305],
+    hints: &mut [u8; 128],
+    rows: &mut Rows,
     base: usize,
 ) -> usize
-    requires { ⌜ (base + 17 ≤ 1305) × (SmallRow (now rows) base) ⌝ }
+    requires { ⌜ (base + 17 ≤ 1224) × (SmallRow (now rows) base) ⌝ }
     ensures { λ r. ⌜ CountsOne words (now (names .entry)) known (now (rows .entry)) base r (now (names .exit)) (now (rows .exit)) ⌝ }
 {
-    if 16 < known {
-        return 17;
+    if Form::VARIABLES < known {
+        return Form::VARIABLES + 1;
     }
-    let at = text::place(names, known, words);
+    let at = text::place_by(names, known, words, hints);
+    if Form::VARIABLES <= at {
+        return Form::VARIABLES + 1;
+    }
+    let before = rows[base + 1 + at];
+    rows[base + 1 + at] = before + 1;
     if at < known {
-        let before = rows[base + 1 + at];
-        rows[base + 1 + at] = before + 1;
         return known;
-    }
-    if known == 16 {
-        return 17;
     }
     names[2 * known] = words.first;
     names[2 * known + 1] = words.second;
-    rows[base + 1 + known] = 1;
     known + 1
 }
 
-/// Where the variable begins that a code stands for.
-fn start_of(code: u16) -> usize
-    requires { ⌜ 16384 ≤ code ⌝ }
-    ensures { λ r. ⌜ r ≡ startOf code ⌝ }
-{
-    ((code - 16384) / 16) as usize
-}
-
-/// Where it ends.
-fn end_of(code: u16) -> usize
-    requires { ⌜ 16384 ≤ code ⌝ }
-    ensures { λ r. ⌜ r ≡ endOf code ⌝ }
-{
-    let place = code - 16384;
-    (place / 16 + place % 16 + 1) as usize
-}
-
-/// Counts a code, where it stands for a variable. Gives how many variables there are then, or 17.
-fn count_code(
-    field: &[u8],
-    code: u16,
-    names: &mut [u64; 64],
-    known: usize,
-    rows: &mut [i64; 1305],
-    base: usize,
-) -> usize
-    requires { ⌜ (CodeFits (now field) code) × (base + 17 ≤ 1305) × (SmallRow (now rows) base) ⌝ }
-    ensures { λ r. ⌜ CountsCode (now (field .entry)) code (now (names .entry)) known (now (rows .entry)) base r (now (names .exit)) (now (rows .exit)) ⌝ }
-{
-    if code < 16384 {
-        return known;
-    }
-    let start = start_of(code);
-    let end = end_of(code);
-    count_variable(text::words_at(field, start, end), names, known, rows, base)
-}
-
-/// Counts the variables of a term, by the codes of its tokens, into the row of a table that starts at `base`: the number at
-/// `base + 1 + i` is how often the variable at place i occurs. Variables that are not yet in the table of names are put
-/// after the others. Gives how many are in it then, or 17 where there would be more than 16.
+/// Counts the variables of a term, by their places, into the row of a table that starts at `base`: the number at
+/// `base + 1 + i` is how often the ith variable of the table of names occurs. Variables that are not yet in that table are
+/// put after the others. Gives how many are in it then, or 17 where there would be more than 16. Whatever the hints hold,
+/// the answer is right.
 pub fn count_occurrences(
     field: &[u8],
-    tokens: &[u16; 512],
+    places: &[u16; 512],
     count: usize,
     names: &mut [u64; 64],
     known: usize,
-    rows: &mut [i64; 1305],
+    hints: &mut [u8; 128],
+    rows: &mut Rows,
     base: usize,
 ) -> usize
-    requires { ⌜ (TokensStand (now field) (now tokens) count) × (RowFits (now field) known base) ⌝ }
+    requires { ⌜ (PlacesStand (now field) (now places) count) × (known ≤ 17) × (base + 17 ≤ 1224) ⌝ }
     ensures { λ r. ⌜ Counted (now (field .entry)) (now (names .entry)) known (now (rows .entry)) base r (now (names .exit)) (now (rows .exit)) ⌝ }
 {
     clear_row(rows, base);
     let mut many = known;
     let mut i: usize = 0;
     while i < count {
-        many = count_code(field, tokens[i], names, many, rows, base);
+        let place = places[i];
+        let start = start_of(place);
+        let end = end_of(place);
+        let words = text::words_at(field, start, end);
+        many = count_variable(words, names, many, hints, rows, base);
         i += 1;
     }
     many

@@ -67,8 +67,8 @@ module _ (s : Bytes) (wanted : ℕ) where
     pub in-front : k < 4 → Nearest s wanted at 8 k
     in-front l = record { high = omega (arith, n .high); free = n .free; found = λ _. n .found l }
 
-    pub behind : 4 ≤ k → (r : ℕ) → Nearest s wanted (at + 4) 4 r → Nearest s wanted at 8 (4 + r)
-    behind l r m =
+    pub after : 4 ≤ k → (r : ℕ) → Nearest s wanted (at + 4) 4 r → Nearest s wanted at 8 (4 + r)
+    after l r m =
         let four : k ≡ 4 = omega (arith, n .high) in
         let place : at + 4 + r ≡ at + (4 + r) = omega arith in
         record {
@@ -92,8 +92,8 @@ module _ (s : Bytes) (wanted : ℕ) where
       pub block-passed : n ≤ k → isFree wanted (part s from (i + n)) ≡ true
       block-passed l = let all : k ≡ n = omega (arith, near .high) in free-join from i (i + n) low (omega arith) free (rw all at (near .free))
 
-    pub found-behind : (r : ℕ) → Finds s wanted i r → Finds s wanted from r
-    found-behind r f = record {
+    pub found-after : (r : ℕ) → Finds s wanted i r → Finds s wanted from r
+    found-after r f = record {
       low = omega (arith, f .low);
       high = f .high;
       free = free-join from i r low (f .low) free (f .free);
@@ -107,4 +107,4 @@ module _ (s : Bytes) (wanted : ℕ) where
     near-found high l = block-found from from (omega arith) (free-none s wanted from) 8 k room near high l
 
     pub far-found : 8 ≤ k → (r : ℕ) → Finds s wanted (from + 8) r → Finds s wanted from r
-    far-found l r f = found-behind from (from + 8) (omega arith) (block-passed from from (omega arith) (free-none s wanted from) 8 k room near l) r f
+    far-found l r f = found-after from (from + 8) (omega arith) (block-passed from from (omega arith) (free-none s wanted from) 8 k room near l) r f

@@ -5,7 +5,7 @@ use mathlib.Core.List.{[], _∷_, _++_}
 use Prim.Native.Nat.{ℕ, _+_, _<_}
 use lib.Dec.{eqb, leb}
 use lib.ListN.{length, getD, take, drop, take-append-drop}
-use Rattle.integers.proofs.Truth.{and-left, and-right, and-not-left, and-not-right, gt-leb}
+use Rattle.groundwork.proofs.Truth.{and-left, and-right, and-not-left, and-not-right, gt-leb}
 use Rattle.theory.specs.Lists.{every}
 use Rattle.theory.specs.Text.{Bytes, between, isLower, isUpper, isDigit, isNameByte}
 use Rattle.text.proofs.Parts.{drop-more}
@@ -23,11 +23,11 @@ module _ (test : ℕ → Bool) where
     pub every-before : (i : ℕ) → every test s ≡ true → every test (take i s) ≡ true
     every-before i h = and-left _ _ (sym (every-cut i) ∙ h)
 
-    pub every-behind : (i : ℕ) → every test s ≡ true → every test (drop i s) ≡ true
-    every-behind i h = and-right (every test (take i s)) _ (sym (every-cut i) ∙ h)
+    pub every-after : (i : ℕ) → every test s ≡ true → every test (drop i s) ≡ true
+    every-after i h = and-right (every test (take i s)) _ (sym (every-cut i) ∙ h)
 
-    pub every-not-behind : (i : ℕ) → every test (drop i s) ≡ false → every test s ≡ false
-    every-not-behind i h = every-cut i ∙ and-not-right (every test (take i s)) _ h
+    pub every-not-after : (i : ℕ) → every test (drop i s) ≡ false → every test s ≡ false
+    every-not-after i h = every-cut i ∙ and-not-right (every test (take i s)) _ h
 
     pub every-at : (i : ℕ) → i < length s → every test (drop i s) ≡ (test (getD s i 0) && every test (drop (i + 1) s))
     unfolding every

@@ -6,7 +6,7 @@ use Prim.Native.Nat.{ℕ, suc, _+_, _-_, _≤_, _<_}
 use native.Mathlib.Omega.{arith}
 use lib.Dec.{eqb}
 use lib.ListN.{length, getD, drop, drop-of-length-le}
-use Rattle.integers.proofs.Truth.{by-truth, equal-eqb, eqb-different}
+use Rattle.groundwork.proofs.Truth.{by-truth, equal-eqb, eqb-different}
 use Rattle.theory.specs.Text.{Bytes, onFirst, partsAt}
 use Rattle.theory.proofs.Reading.Separators.{parts-cons}
 use Rattle.text.specs.Scans.{part, CountsParts}

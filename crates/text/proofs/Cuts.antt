@@ -6,7 +6,7 @@ use Prim.Native.Nat.{ℕ, _+_, _≤_, _<_}
 use native.Mathlib.Decide.{decLt}
 use native.Mathlib.Omega.{arith}
 use lib.ListN.{length, drop, length-take, length-drop, drop-of-length-le}
-use Rattle.integers.proofs.Truth.{le-leb, gt-leb}
+use Rattle.groundwork.proofs.Truth.{le-leb, gt-leb}
 use Rattle.theory.specs.Text.{Bytes, onFirst, partsAt, linesOf}
 use Rattle.theory.proofs.Reading.Every.{every-rest}
 use Rattle.theory.proofs.Reading.Separators.{isFree, free-first, parts-of-free, Cuts, parts-cut, lines-cut, cut-other, cut-off}

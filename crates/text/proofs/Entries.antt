@@ -6,7 +6,7 @@ use Prim.Native.Nat.{ℕ, zero, suc, _+_, _<_}
 use native.Mathlib.Omega.{arith}
 use lib.Dec.{eqb}
 use lib.ListN.{length, getD}
-use Rattle.integers.proofs.Truth.{and-left, and-right}
+use Rattle.groundwork.proofs.Truth.{and-left, and-right}
 use Rattle.theory.specs.Text.{isLower, isUpper, isNameByte}
 use Rattle.text.specs.Classes.{Class, Classes}
 

@@ -5,7 +5,7 @@ use Prim.Native.Nat.{ℕ, _+_, _≤_, _<_}
 use native.Mathlib.Omega.{arith}
 use lib.Dec.{leb, ltb}
 use lib.ListN.{length, getD, drop, drop-of-length-le}
-use Rattle.integers.proofs.Truth.{by-truth, leb-le, leb-gt, lt-ltb, ge-ltb}
+use Rattle.groundwork.proofs.Truth.{by-truth, leb-le, leb-gt, lt-ltb, ge-ltb}
 use Rattle.theory.specs.Lists.{every}
 use Rattle.theory.specs.Text.{Bytes, between}
 use Rattle.theory.specs.Faults.{isUnfit}

@@ -11,7 +11,7 @@ use lib.ListN.{length, getD, drop}
 use mir.Facts.{toZ-pos, toZ-ofZ}
 use mir.Syntax.{w32, w64}
 use mir.Val.{Fits, SFits, toZ, ofZ}
-use Rattle.integers.proofs.Truth.{equal-eqb, eqb-different}
+use Rattle.groundwork.proofs.Truth.{equal-eqb, eqb-different}
 use Rattle.theory.specs.Text.{Bytes, natural, negated, integer}
 use Rattle.theory.proofs.Reading.Spelling.{natural-within}
 use Rattle.text.specs.declared.Natural.{Natural}
@@ -62,21 +62,21 @@ through-bits z y e f = ap some (rw e (toZ-ofZ f))
 module _ (limit : ℕ) (small : limit ≤ 99999) (s : Bytes) (any : length s ≡ 0 → ⊥) (r : Natural) where
   -- a minus sign, and a number read after it
   module _ (sign : getD s 0 0 ≡ 45) (read : naturalOf r ≡ natural limit (part s 1 (length s))) where
-    behind-sign : integer limit s ≡ negated (naturalOf r)
-    behind-sign = integer-is limit s any ∙ rw (equal-eqb (getD s 0 0) 45 sign, ← part-rest s 1, ← read)
+    after-sign : integer limit s ≡ negated (naturalOf r)
+    after-sign = integer-is limit s any ∙ rw (equal-eqb (getD s 0 0) 45 sign, ← part-rest s 1, ← read)
 
     pub integer-minus-zero : (n : ℕ) → r ≡ Whole n → n ≡ 0 → none ≡ integer limit s
     unfolding negated
-    integer-minus-zero n e z = sym (behind-sign ∙ rw (e, z))
+    integer-minus-zero n e z = sym (after-sign ∙ rw (e, z))
 
     pub integer-minus : (n : ℕ) (z : ℤ) → r ≡ Whole n → (n ≡ 0 → ⊥) → z ≡ negsuc (n - 1) → some (toZ w64 (ofZ w64 z)) ≡ integer limit s
     integer-minus n z e k q =
         let known : n ≤ limit = natural-within limit (part s 1 (length s)) n (sym read ∙ ap naturalOf e) in
-        through-bits z (negsuc (n - 1)) q (record { sfits = omega arith }) ∙ sym (behind-sign ∙ rw e (negated-some n (omega arith)))
+        through-bits z (negsuc (n - 1)) q (record { sfits = omega arith }) ∙ sym (after-sign ∙ rw e (negated-some n (omega arith)))
 
     pub integer-minus-none : r ≡ NoNatural → none ≡ integer limit s
     unfolding negated
-    integer-minus-none e = sym (behind-sign ∙ rw e)
+    integer-minus-none e = sym (after-sign ∙ rw e)
 
   module _ (sign : getD s 0 0 ≡ 45 → ⊥) (read : naturalOf r ≡ natural limit s) where
     no-sign : integer limit s ≡ Option·map pos (naturalOf r)

@@ -2,6 +2,7 @@
 pub mod Cuts
 pub mod WordLaws
 pub mod WordKinds
+pub mod ZeroLaws
 -- Parts and classes of bytes, by places.
 pub mod Parts
 pub mod Classes
@@ -11,11 +12,13 @@ pub mod WordEnds
 pub mod Blocks
 pub mod Halves
 pub mod EightBytes
+pub mod ZeroRuns
 pub mod Marks
 pub mod Counts
 pub mod Fitness
 pub mod Packing
 pub mod WordReading
+pub mod WordsBetween
 pub mod Places
 pub mod NaturalReading
 pub mod IntegerReading

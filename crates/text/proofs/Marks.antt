@@ -8,7 +8,7 @@ use lib.Count.{trailingZeros}
 use lib.Dec.{eqb}
 use lib.ListN.{length, getD, take, drop, length-drop}
 use lib.Seq.{length-take-le, take-take, getD-take, getD-drop}
-use Rattle.integers.proofs.Truth.{by-truth, eqb-equal, eqb-unequal, eqb-different, equal-eqb}
+use Rattle.groundwork.proofs.Truth.{by-truth, eqb-equal, eqb-unequal, eqb-different, equal-eqb}
 use Rattle.theory.specs.Lists.{every}
 use Rattle.theory.specs.Text.{Bytes}
 use Rattle.theory.proofs.Reading.Every.{every-cons}

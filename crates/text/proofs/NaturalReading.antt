@@ -6,9 +6,9 @@ use mathlib.Core.Option.{some, none}
 use Prim.Native.Nat.{ℕ, _+_, _-_, _*_, _≤_, _<_}
 use native.Mathlib.Omega.{arith}
 use lib.ListN.{length, getD, drop, drop-of-length-le}
-use Rattle.integers.proofs.Truth.{and-not-left, equal-eqb, eqb-different, le-leb, gt-leb}
+use Rattle.groundwork.proofs.Truth.{and-not-left, equal-eqb, eqb-different, le-leb, gt-leb}
 use Rattle.theory.specs.Lists.{every}
-use Rattle.theory.specs.Text.{Bytes, isDigit, valueBehind, isDecimal, natural}
+use Rattle.theory.specs.Text.{Bytes, isDigit, valueAfter, isDecimal, natural}
 use Rattle.theory.proofs.Reading.Bytes.{between-from}
 use Rattle.text.proofs.Parts.{empty-is, drop-more}
 use Rattle.text.proofs.Classes.{between-below, between-above, every-at}
@@ -38,14 +38,14 @@ decimal-more (b ∷ []) h e = absurd (omega arith)
 decimal-more (b ∷ c ∷ bs) h e = simp (eqb-different b 48 e, and-true)
 
 -- the value only grows
-value-grows : (n : ℕ) (bs : Bytes) → n ≤ valueBehind n bs
-unfolding valueBehind
+value-grows : (n : ℕ) (bs : Bytes) → n ≤ valueAfter n bs
+unfolding valueAfter
 value-grows n [] = omega arith
 value-grows n (b ∷ bs) = omega (arith, value-grows (n * 10 + (b - 48)) bs)
 
-value-at : (n : ℕ) (s : Bytes) (i : ℕ) → i < length s → valueBehind n (drop i s) ≡ valueBehind (n * 10 + (getD s i 0 - 48)) (drop (i + 1) s)
-unfolding valueBehind
-value-at n s i h = ap (valueBehind n) (drop-more s i h)
+value-at : (n : ℕ) (s : Bytes) (i : ℕ) → i < length s → valueAfter n (drop i s) ≡ valueAfter (n * 10 + (getD s i 0 - 48)) (drop (i + 1) s)
+unfolding valueAfter
+value-at n s i h = ap (valueAfter n) (drop-more s i h)
 
 -- ---- answers
 
@@ -60,20 +60,20 @@ module _ (limit : ℕ) (s : Bytes) where
   pub natural-of-zeros : 1 < length s → getD s 0 0 ≡ 48 → none ≡ natural limit s
   natural-of-zeros h e = not-decimal (decimal-zeros s h e)
 
-  too-large : limit < valueBehind 0 s → none ≡ natural limit s
+  too-large : limit < valueAfter 0 s → none ≡ natural limit s
   unfolding natural
-  too-large h = simp (gt-leb (valueBehind 0 s) limit h, and-false)
+  too-large h = simp (gt-leb (valueAfter 0 s) limit h, and-false)
 
-  in-range : isDecimal s ≡ true → valueBehind 0 s ≤ limit → some (valueBehind 0 s) ≡ natural limit s
+  in-range : isDecimal s ≡ true → valueAfter 0 s ≤ limit → some (valueAfter 0 s) ≡ natural limit s
   unfolding natural
-  in-range d h = rw (d, le-leb (valueBehind 0 s) limit h)
+  in-range d h = rw (d, le-leb (valueAfter 0 s) limit h)
 
 -- digits up to place i are passed, with their value
 pub record Reading (limit : ℕ) (s : Bytes) (value i : ℕ) : Type 0 where
   pub high : i ≤ length s
   pub small : value ≤ limit
   pub formed : isDecimal s ≡ every isDigit (drop i s)
-  pub worth : valueBehind 0 s ≡ valueBehind value (drop i s)
+  pub worth : valueAfter 0 s ≡ valueAfter value (drop i s)
 
 module _ (limit : ℕ) (s : Bytes) where
   pub reading-one : (length s ≡ 0 → ⊥) → length s ≤ 1 → Reading limit s 0 0
@@ -94,7 +94,7 @@ module _ (limit : ℕ) (s : Bytes) where
       reading-high k = not-decimal limit s (digits-at ∙ and-not-left _ _ (between-above 48 57 (getD s i 0) k))
 
       module _ (d : ℕ) (e : (d ≡ getD s i 0 - 48) × (d < 10)) where
-        worth-more : valueBehind 0 s ≡ valueBehind (value * 10 + d) (drop (i + 1) s)
+        worth-more : valueAfter 0 s ≡ valueAfter (value * 10 + d) (drop (i + 1) s)
         worth-more = r .worth ∙ value-at value s i h ∙ rw (e .0)
 
         pub reading-over : limit < value * 10 + d → none ≡ natural limit s
@@ -109,8 +109,8 @@ module _ (limit : ℕ) (s : Bytes) where
         }
 
     pub reading-all : length s ≤ i → some value ≡ natural limit s
-    unfolding every valueBehind
+    unfolding every valueAfter
     reading-all h =
         let none-left : drop i s ≡ [] = drop-of-length-le s h in
-        let whole : valueBehind 0 s ≡ value = r .worth ∙ rw none-left in
+        let whole : valueAfter 0 s ≡ value = r .worth ∙ rw none-left in
         ap some (sym whole) ∙ in-range limit s (r .formed ∙ rw none-left) (omega (arith, r .small))

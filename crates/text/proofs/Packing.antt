@@ -8,11 +8,11 @@ use lib.ListN.{length, getD, drop}
 use lib.Seq.{drop-length}
 use mir.Syntax.{w64}
 use mir.Val.{Fits}
-use Rattle.integers.proofs.Truth.{and-both, and-not-left}
+use Rattle.groundwork.proofs.Truth.{and-both, and-not-left}
 use Rattle.theory.specs.Lists.{every}
 use Rattle.theory.specs.Text.{Bytes, isNameByte}
 use Rattle.text.specs.Words.{number, PacksInto}
-use Rattle.text.proofs.Classes.{every-at, every-not-behind}
+use Rattle.text.proofs.Classes.{every-at, every-not-after}
 use Rattle.text.proofs.WordLaws.{number-at}
 
 -- the word is the number of the bytes from place i on
@@ -72,7 +72,7 @@ module _ (s : Bytes) (i word : ℕ) (p : Packing s i word) where
 
   pub packing-refused : 0 < i → (good : Bool) → good ≡ isNameByte (getD s (i - 1) 0) → good ≡ false → PacksInto s record { fine = false; word = 0 }
   packing-refused h good f n = record {
-    fine = sym (every-not-behind isNameByte s (i - 1) (every-at isNameByte s (i - 1) (omega (arith, p .summed .low)) ∙ and-not-left _ _ (sym f ∙ n)));
+    fine = sym (every-not-after isNameByte s (i - 1) (every-at isNameByte s (i - 1) (omega (arith, p .summed .low)) ∙ and-not-left _ _ (sym f ∙ n)));
     word = λ e. absurd (false≢true e);
   }
 

@@ -7,7 +7,7 @@ use native.Mathlib.Numerals.{add-one}
 use native.Mathlib.Omega.{arith}
 use lib.ListN.{length, getD, take, drop, length-drop, take-append-drop, drop-of-length-le}
 use lib.Seq.{length-take-le, take-suc, take-all, drop-cons, drop-drop, getD-take, getD-drop}
-use Rattle.integers.proofs.Truth.{eqb-different}
+use Rattle.groundwork.proofs.Truth.{eqb-different}
 use Rattle.theory.specs.Lists.{every}
 use Rattle.theory.specs.Text.{Bytes}
 use Rattle.theory.proofs.Reading.Every.{every-append}

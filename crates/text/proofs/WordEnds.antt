@@ -4,7 +4,7 @@ use mathlib.Core.Bool.{true}
 use Prim.Native.Nat.{ℕ, _+_, _≤_, _<_}
 use native.Mathlib.Omega.{arith}
 use lib.ListN.{length, getD}
-use Rattle.integers.proofs.Truth.{equal-eqb, eqb-different}
+use Rattle.groundwork.proofs.Truth.{equal-eqb, eqb-different}
 use Rattle.theory.specs.Lists.{every}
 use Rattle.theory.specs.Text.{Bytes, isNameByte}
 use Rattle.text.specs.Classes.{Class}

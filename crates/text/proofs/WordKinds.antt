@@ -1,11 +1,14 @@
 -- What the word reader's answer tells: whether the bytes are a name.
 use mathlib.Core.Path.{_≡_, refl}
 use mathlib.Core.Bool.{Bool, true, false}
-use Rattle.integers.proofs.Truth.{by-truth, never-both}
+use Prim.Native.Nat.{ℕ}
+use native.Mathlib.Omega.{arith}
+use Rattle.groundwork.proofs.Truth.{by-truth, never-both}
 use Rattle.theory.specs.Text.{Bytes, isName}
 use Rattle.text.specs.declared.Word.{Word}
+use Rattle.text.specs.declared.Words.{Words}
 use Rattle.text.specs.declared.Word.the-variants.{Name, Variable, Neither}
-use Rattle.text.specs.Words.{WordRead, name, variable, neither}
+use Rattle.text.specs.Words.{wordsOf, WordRead, name, variable, neither}
 use Rattle.text.proofs.WordLaws.{name-not-variable}
 
 abbrev pub isNameWord : Word → Bool
@@ -17,3 +20,9 @@ pub name-told : {s : Bytes} {r : Word} → WordRead s r → isName s ≡ isNameW
 name-told (name h) = h
 name-told {s} (variable h) = by-truth (λ (c : Bool). c ≡ false) (isName s) (λ k. never-both h (name-not-variable s k)) (λ _. refl)
 name-told (neither h k) = h
+
+-- the words of a name
+pub read-words : (bs : Bytes) (r : Word) (words : Words) → WordRead bs r → r ≡ Name words → words ≡ wordsOf bs
+read-words bs r words (name h) e = cc
+read-words bs r words (variable h) e = let never : _≡_ {A = ℕ} 0 1 = cc in absurd (omega arith)
+read-words bs r words (neither h k) e = let never : _≡_ {A = ℕ} 0 1 = cc in absurd (omega arith)

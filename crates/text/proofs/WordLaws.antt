@@ -5,14 +5,14 @@ use mathlib.Core.List.{[], _∷_, _++_}
 use Prim.Native.Nat.{ℕ, _+_, _*_, _≤_, _<_}
 use native.Mathlib.Omega.{arith}
 use lib.ListN.{length, getD, take, drop, take-append-drop}
-use Rattle.integers.proofs.Truth.{and-left, gt-leb}
+use Rattle.groundwork.proofs.Truth.{and-left, gt-leb}
 use Rattle.theory.specs.Lists.{every}
 use Rattle.theory.specs.Text.{Bytes, isWord, isName, isVariable}
 use Rattle.theory.proofs.Reading.Bytes.{isTokenByte, between-low, between-high}
 use Rattle.theory.proofs.Reading.Every.{every-first, every-rest}
 use Rattle.text.specs.Words.{number, wordsOf}
 use Rattle.text.proofs.Parts.{drop-more}
-use Rattle.text.proofs.Classes.{every-before, every-behind}
+use Rattle.text.proofs.Classes.{every-before, every-after}
 
 pub number-at : (s : Bytes) (i : ℕ) → i < length s → number (drop i s) ≡ number (drop (i + 1) s) * 256 + getD s i 0
 unfolding number
@@ -40,7 +40,7 @@ pub words-equal : (a b : Bytes) → every isTokenByte a ≡ true → every isTok
 unfolding wordsOf
 words-equal a b h k e =
     let front : take 8 a ≡ take 8 b = number-equal (take 8 a) (take 8 b) (every-before isTokenByte a 8 h) (every-before isTokenByte b 8 k) (ap (λ w. w .first) e) in
-    let back : drop 8 a ≡ drop 8 b = number-equal (drop 8 a) (drop 8 b) (every-behind isTokenByte a 8 h) (every-behind isTokenByte b 8 k) (ap (λ w. w .second) e) in
+    let back : drop 8 a ≡ drop 8 b = number-equal (drop 8 a) (drop 8 b) (every-after isTokenByte a 8 h) (every-after isTokenByte b 8 k) (ap (λ w. w .second) e) in
     sym (take-append-drop 8 a) ∙ ap₂ _++_ front back ∙ take-append-drop 8 b
 
 -- ---- names and variables differ in their first letter

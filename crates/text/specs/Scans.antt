@@ -2,7 +2,8 @@
 use mathlib.Core.Path.{_≡_}
 use mathlib.Core.Bool.{true, false, cond}
 use mathlib.Core.List.{List, [], _∷_}
-use Prim.Native.Nat.{ℕ, _+_, _-_, _*_, _≤_, _<_}
+use Prim.Native.Nat.{ℕ, zero, suc, _+_, _-_, _*_, _≤_, _<_}
+use Prim.Native.Char.{code}
 use lib.Dec.{leb, eqb}
 use lib.ListN.{length, getD, take, drop}
 use Rattle.theory.specs.Lists.{every}
@@ -49,6 +50,16 @@ marks wanted (b ∷ bs) = markOf wanted b + 2 * marks wanted bs
 pub record Marked (s : Bytes) (wanted at n bound r : ℕ) : Type 0 where
   pub is : r ≡ marks wanted (part s at (at + n))
   pub small : r < bound
+
+-- fields `0`, each with the comma after it
+unfoldable pub zeroFields : ℕ → Bytes
+zeroFields zero = []
+zeroFields (suc r) = code "0" ∷ code "," ∷ zeroFields r
+
+-- r such fields stand from a place on
+pub record Zeros (s : Bytes) (from r : ℕ) : Type 0 where
+  pub high : from + 2 * r ≤ length s
+  pub stand : part s from (from + 2 * r) ≡ zeroFields r
 
 -- r separators stand in s: one less than there are parts
 pub record CountsParts (separator : ℕ) (s : Bytes) (r : ℕ) : Type 0 where

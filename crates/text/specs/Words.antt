@@ -40,8 +40,8 @@ pub data WordRead (bs : Bytes) : Word → Type 0 where
 abbrev pub wordsAt : List ℕ → ℕ → Words
 wordsAt names i = record { first = getD names (2 * i) 0; second = getD names (2 * i + 1) 0 }
 
--- r is the first place of the words among the first `known`, or `known`
-pub record PlaceOf (names : List ℕ) (known : ℕ) (words : Words) (r : ℕ) : Type 0 where
+-- r is a place of the words among the first `known`, or `known` where they stand at none of those
+pub record StandsAt (names : List ℕ) (known : ℕ) (words : Words) (r : ℕ) : Type 0 where
   pub high : r ≤ known
-  pub before : (i : ℕ) → i < r → wordsAt names i ≡ words → ⊥
   pub found : r < known → wordsAt names r ≡ words
+  pub nowhere : known ≤ r → (i : ℕ) → i < known → wordsAt names i ≡ words → ⊥

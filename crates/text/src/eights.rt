@@ -2,7 +2,7 @@
 ghost use mathlib.Core.Path.{_≡_};
 ghost use Prim.Native.Nat.{_+_, _-_, _/_, _%_, _^_, _≤_, _<_};
 ghost use lib.ListN.{length};
-ghost use Rattle.text.specs.Scans.{part};
+ghost use Rattle.text.specs.Scans.{part, Zeros};
 ghost use Rattle.text.specs.Words.{number, wordsOf, Numbered};
 use super::Words;
 
@@ -91,4 +91,31 @@ pub fn words_at(bytes: &[u8], from: usize, end: usize) -> Words
         first: eight_bytes(bytes, from),
         second: word_at(bytes, from + 8, end),
     }
+}
+
+/// The fields `0,0,0,0,` as one number.
+const ZEROS: u64 = 0x2c302c302c302c30;
+
+/// How many fields `0`, each with the comma after it, stand at the start of eight bytes.
+fn zeros_of_eight(bytes: &[u8], at: usize) -> usize
+    requires { ⌜ at + 8 ≤ length (now bytes) ⌝ }
+    ensures { λ r. ⌜ (r ≤ 4) × Zeros (now (bytes .entry)) at r ⌝ }
+{
+    widths::place_of(u64::trailing_zeros(eight_bytes(bytes, at) ^ ZEROS)) / 16
+}
+
+/// How many fields `0`, each with the comma after it, stand from a place on. It stops where fewer than eight bytes are left.
+pub fn zeros(bytes: &[u8], from: usize) -> usize
+    requires { ⌜ from ≤ length (now bytes) ⌝ }
+    ensures { λ r. ⌜ Zeros (now (bytes .entry)) from r ⌝ }
+{
+    let mut count: usize = 0;
+    while 8 <= bytes.len() - from - 2 * count {
+        let more = zeros_of_eight(bytes, from + 2 * count);
+        if more < 4 {
+            return count + more;
+        }
+        count += 4;
+    }
+    count
 }

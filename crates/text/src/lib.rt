@@ -8,15 +8,20 @@ ghost use lib.IntN.{negsuc};
 ghost use Rattle.theory.specs.Text.{partsAt, isLower, isUpper, isNameByte, natural, integer};
 ghost use Rattle.theory.specs.Faults.{isUnfit};
 ghost use Rattle.text.specs.Scans.{Finds, CountsParts};
-ghost use Rattle.text.specs.Words.{PacksInto, WordRead, PlaceOf};
+ghost use Rattle.text.specs.Words.{PacksInto, WordRead, StandsAt};
 ghost use Rattle.text.specs.Numbers.{naturalOf, integerOf};
 
 mod block;
 mod eights;
+mod hints;
 mod table;
 
 pub use eights::words_at;
+pub use eights::zeros;
+pub use hints::place_by;
+pub use table::class_of;
 pub use table::class_table;
+pub use table::word_between;
 pub use table::word_end;
 
 /// The first place at or after `from` where `wanted` stands, or the length.
@@ -246,7 +251,7 @@ pub fn read_word(bytes: &[u8]) -> Word
 /// Where the words of a name stand among the first of a table, or how many those are.
 pub fn place(names: &[u64; 64], known: usize, words: Words) -> usize
     requires { ⌜ known ≤ 32 ⌝ }
-    ensures { λ r. ⌜ PlaceOf (now (names .entry)) known words r ⌝ }
+    ensures { λ r. ⌜ StandsAt (now (names .entry)) known words r ⌝ }
 {
     let first = words.first;
     let second = words.second;

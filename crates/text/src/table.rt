@@ -2,7 +2,8 @@
 ghost use Prim.Native.Nat.{_≤_};
 ghost use lib.ListN.{length};
 ghost use Rattle.text.specs.Classes.{Class, Classes};
-ghost use Rattle.text.specs.Scans.{EndsWord};
+ghost use Rattle.text.specs.Scans.{part, EndsWord};
+ghost use Rattle.text.specs.Words.{WordRead};
 use super::Word;
 
 /// Of each byte: 1 for a small letter, 2 for a capital, 3 for a digit or an underscore, 0 for what no name has.
@@ -273,7 +274,7 @@ pub fn class_table() -> [u8; 256]
 }
 
 /// The class of a byte, by the table.
-fn class_of(b: u8, classes: &[u8; 256]) -> u8
+pub fn class_of(b: u8, classes: &[u8; 256]) -> u8
     requires { ⌜ Classes (now classes) ⌝ }
     ensures { λ r. ⌜ Class b r ⌝ }
 {
@@ -293,4 +294,28 @@ pub fn word_end(bytes: &[u8], from: usize, classes: &[u8; 256]) -> usize
         i += 1;
     }
     i
+}
+
+/// As `read_word`, of the bytes between two places, by the table.
+pub fn word_between(bytes: &[u8], from: usize, end: usize, classes: &[u8; 256]) -> Word
+    requires { ⌜ (from ≤ end) × (end ≤ length (now bytes)) × Classes (now classes) ⌝ }
+    ensures { λ r. ⌜ WordRead (part (now (bytes .entry)) from end) r ⌝ }
+{
+    if end <= from {
+        return Word::Neither;
+    }
+    if 16 < end - from {
+        return Word::Neither;
+    }
+    if word_end(bytes, from, classes) < end {
+        return Word::Neither;
+    }
+    let class = class_of(bytes[from], classes);
+    if class == 1 {
+        return Word::Name(super::words_at(bytes, from, end));
+    }
+    if class == 2 {
+        return Word::Variable(super::words_at(bytes, from, end));
+    }
+    Word::Neither
 }

@@ -9,7 +9,7 @@ use lib.Dec.{eqb, ltb}
 use lib.IntN.{ℤ, pos}
 use lib.ListN.{length, drop, replicate, length-append, length-map, length-replicate}
 use lib.Seq.{length-take-le, drop-at}
-use Rattle.integers.proofs.Truth.{eqb-unequal, not-true, eqb-equal, ltb-lt, ltb-ge}
+use Rattle.groundwork.proofs.Truth.{eqb-unequal, not-true, eqb-equal, ltb-lt, ltb-ge}
 use Rattle.theory.specs.Text.{Bytes, linesOf, fieldsOf}
 use Rattle.theory.specs.Forms.{Form}
 use Rattle.theory.specs.Packs.{Pack, variableLimit, textLimit}

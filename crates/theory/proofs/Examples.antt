@@ -8,8 +8,8 @@ use Prim.Native.String.{String}
 use lib.IntN.{ℤ, pos, negsuc}
 use lib.ListN.{replicate}
 use Rattle.theory.specs.Lists.{_∈_, total, every, isSome, isEmpty}
-use Rattle.theory.specs.Text.{bytes, same, among, partsAt, joined, linesOf, isNameByte, isWord, valueBehind, isDecimal, natural, negated, integer}
-use Rattle.theory.specs.Terms.{variable, nil, cons, arity, symbolFrom, symbolIn, tokenOf, firstTerms, behind, behindAll, termsOf, theOnly, readTerm, structural, flagged, size, counted, variables, occurrences}
+use Rattle.theory.specs.Text.{bytes, same, among, partsAt, joined, linesOf, isNameByte, isWord, valueAfter, isDecimal, natural, negated, integer}
+use Rattle.theory.specs.Terms.{variable, nil, cons, arity, symbolFrom, symbolIn, tokenOf, firstTerms, after, afterAll, termsOf, theOnly, readTerm, structural, flagged, size, counted, variables, occurrences}
 use Rattle.theory.specs.Forms.{zeroForm, plus, times, minus, constantForm, formOf}
 use Rattle.theory.specs.Packs.{given, Predicate, Atom, Rule, fromRules, fromClaims, ruleLines, claimLine, headLine, key, sameKey, declaredAs, claimsOn, noClaim}
 use Rattle.theory.specs.Written.{letterOf, termsFrom, kindFrom, predicateFrom, claimFrom, atomFrom, multipliersFrom, nothing, onLast, add, write, writeAll, packOf}
@@ -33,7 +33,7 @@ pub data Answer : Type 0 where
   sized : Measured → Answer
 
 unfoldable pub answerTo : Example → Answer
-unfolding bytes same among every partsAt joined linesOf isNameByte isWord valueBehind isDecimal natural negated integer arity symbolFrom symbolIn tokenOf firstTerms behind behindAll termsOf theOnly readTerm structural flagged total flatten size counted variables occurrences zeroForm plus times minus constantForm formOf key sameKey declaredAs claimsOn letterOf termsFrom kindFrom predicateFrom claimFrom atomFrom multipliersFrom nothing onLast add write writeAll packOf weighted claimForm subgoalForms combined residual numbered atomsVariables ruleVariables residualNumbers isJustified firstOf isSome isUnfit arityIn isGiven givenIn isEmpty noRule lastOf fromRules fromClaims ruleLines claimLine headLine mayStand noClaim residualDue predicateTests claimTests atomTests headTests subgoalTests multiplierTests tests fault multiplierLines refused judge isFinished verdictOf checkOf measureTerm measureOf sizeFrom queryFrom queryOf queryFault unknownsAtMostZero knownPart isUsable numerator boundBy usableFrom impossibles smallest bounded impossibleOr reservation refusal answerOf reserveOf flatMap
+unfolding bytes same among every partsAt joined linesOf isNameByte isWord valueAfter isDecimal natural negated integer arity symbolFrom symbolIn tokenOf firstTerms after afterAll termsOf theOnly readTerm structural flagged total flatten size counted variables occurrences zeroForm plus times minus constantForm formOf key sameKey declaredAs claimsOn letterOf termsFrom kindFrom predicateFrom claimFrom atomFrom multipliersFrom nothing onLast add write writeAll packOf weighted claimForm subgoalForms combined residual numbered atomsVariables ruleVariables residualNumbers isJustified firstOf isSome isUnfit arityIn isGiven givenIn isEmpty noRule lastOf fromRules fromClaims ruleLines claimLine headLine mayStand noClaim residualDue predicateTests claimTests atomTests headTests subgoalTests multiplierTests tests fault multiplierLines refused judge isFinished verdictOf checkOf measureTerm measureOf sizeFrom queryFrom queryOf queryFault unknownsAtMostZero knownPart isUsable numerator boundBy usableFrom impossibles smallest bounded impossibleOr reservation refusal answerOf reserveOf flatMap
 answerTo (check pack area) = checked (checkOf (bytes pack) area)
 answerTo (reserve pack query) = reserved (reserveOf (bytes pack) (bytes query))
 answerTo (measure term) = sized (measureOf (bytes term))
@@ -88,12 +88,12 @@ starred =
 
 -- its only predicate is ruled
 no-given : (x : Predicate) → x ∈ packOf (bytes contradicted) .predicates → x .kind ≡ given → ⊥
-unfolding bytes same every partsAt linesOf isNameByte isWord valueBehind isDecimal natural negated integer arity symbolFrom symbolIn tokenOf firstTerms behind behindAll termsOf theOnly readTerm key sameKey declaredAs claimsOn letterOf termsFrom kindFrom predicateFrom claimFrom atomFrom multipliersFrom nothing onLast add write writeAll packOf
+unfolding bytes same every partsAt linesOf isNameByte isWord valueAfter isDecimal natural negated integer arity symbolFrom symbolIn tokenOf firstTerms after afterAll termsOf theOnly readTerm key sameKey declaredAs claimsOn letterOf termsFrom kindFrom predicateFrom claimFrom atomFrom multipliersFrom nothing onLast add write writeAll packOf
 no-given x m e = let z : _≡_ {A = ℕ} 0 1 = cc (ap (λ (y : Predicate). y .kind) (List·Memᴰ·eq-of-singleton m)) in omega arith
 
 -- and its only rule has a subgoal
 rule-subgoal : (r : Rule) → r ∈ packOf (bytes contradicted) .rules → (a : Atom) × (a ∈ r .subgoals)
-unfolding bytes same every partsAt linesOf isNameByte isWord valueBehind isDecimal natural negated integer arity symbolFrom symbolIn tokenOf firstTerms behind behindAll termsOf theOnly readTerm key sameKey declaredAs claimsOn letterOf termsFrom kindFrom predicateFrom claimFrom atomFrom multipliersFrom nothing onLast add write writeAll packOf
+unfolding bytes same every partsAt linesOf isNameByte isWord valueAfter isDecimal natural negated integer arity symbolFrom symbolIn tokenOf firstTerms after afterAll termsOf theOnly readTerm key sameKey declaredAs claimsOn letterOf termsFrom kindFrom predicateFrom claimFrom atomFrom multipliersFrom nothing onLast add write writeAll packOf
 rule-subgoal r m = (record { name = bytes "k"; terms = cons (variable (bytes "X")) nil }, subst (λ (s : Rule). record { name = bytes "k"; terms = cons (variable (bytes "X")) nil } ∈ s .subgoals) (sym (List·Memᴰ·eq-of-singleton m)) (List·Memᴰ·head refl))
 
 -- so a derivation would need another before it, and so on

@@ -2,6 +2,7 @@
 
 -- rules, keys, claims, variables
 pub mod LastRule
+pub mod RuleCounts
 pub mod Keys
 pub mod ClaimsOn
 pub mod Completeness
@@ -24,6 +25,7 @@ pub mod ClaimLines
 pub mod AtomLines
 pub mod MultiplierLines
 pub mod LineReading
+pub mod LineWriting
 -- the numbers of faults, and the first faulty line
 pub mod FaultNumbers
 pub mod JudgedLines

@@ -2,6 +2,7 @@
 
 -- lists, values that may be missing
 pub mod Every
+pub mod Places
 pub mod Presence
 pub mod Kept
 -- bytes, parts, numbers, names

@@ -3,7 +3,7 @@ use mathlib.Core.Path.{_≡_, refl, sym, _∙_, ap}
 use mathlib.Core.Bool.{Bool, true, false, cond}
 use mathlib.Core.Option.{some, none, Option·some-injective, Option·none-ne-some, Option·some-ne-none}
 use lib.Dec.{eqb}
-use Rattle.integers.proofs.Truth.{eqb-equal}
+use Rattle.groundwork.proofs.Truth.{eqb-equal}
 use Rattle.theory.specs.Text.{Bytes}
 use Rattle.theory.specs.Check.{Numbers, verdictOf, refusalOf}
 use Rattle.theory.specs.Answers.{passedOn}

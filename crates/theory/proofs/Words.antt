@@ -8,7 +8,7 @@ use Prim.Native.Char.{code}
 use native.Mathlib.Omega.{arith}
 use lib.IntN.{ℤ, pos}
 use lib.ListN.{length, replicate}
-use Rattle.integers.proofs.Truth.{by-truth, ltb-ge, or-not-left}
+use Rattle.groundwork.proofs.Truth.{by-truth, ltb-ge, or-not-left}
 use Rattle.theory.specs.Lists.{isEmpty}
 use Rattle.theory.specs.Text.{Bytes}
 use Rattle.theory.specs.Terms.{Term, readTerm, structural, size, variables}

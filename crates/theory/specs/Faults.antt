@@ -10,7 +10,9 @@ use Rattle.theory.specs.Lists.{every, isEmpty, isSome, ending}
 use Rattle.theory.specs.Text.{Bytes, bytes, same, between, isName, natural, integer, fieldsOf}
 use Rattle.theory.specs.Terms.{nil, readTerm, structural}
 use Rattle.theory.specs.Packs.{Kind, given, ruled, Predicate, Claim, Atom, Rule, Pack, noClaim, headAlone, lineLimit, predicateLimit, claimLimit, ruleLimit, subgoalLimit, variableLimit, numberLimit, keyOf, claimKey, atomKey, declaredAs, claimsOn, claimsOnAll, fromRules, fromClaims}
-use Rattle.theory.specs.Written.{Letter, P, C, H, B, M, E, noLetter, lineLetter, field, Written, predicateFrom, claimFrom, atomFrom, multipliersFrom}
+use Rattle.theory.specs.declared.Letter.{Letter}
+use Rattle.theory.specs.declared.Letter.the-variants.{P, C, H, B, M, E, NoLetter}
+use Rattle.theory.specs.Written.{lineLetter, field, Written, predicateFrom, claimFrom, atomFrom, multipliersFrom}
 use Rattle.theory.specs.Residuals.{residual, ruleVariables, residualNumbers, isJustified}
 
 -- ## Tests
@@ -86,7 +88,7 @@ mayStand p H = isComplete p
 mayStand p B = not (isEmpty (p .rules)) && isEmpty (lastRule p .multipliers)
 mayStand p M = not (isComplete p)
 mayStand p E = isComplete p
-mayStand p noLetter = false
+mayStand p NoLetter = false
 
 -- the claim that the next `M` line is for
 abbrev pub claimDue : Pack → Claim
@@ -158,7 +160,7 @@ tests H fields p = headTests fields p
 tests B fields p = subgoalTests fields p
 tests M fields p = multiplierTests fields p
 tests E fields p = test 9 (not (eqb (length fields) 1)) ∷ []
-tests noLetter fields p = []
+tests NoLetter fields p = []
 
 -- The number of the fault of a line, after lines that write w.
 unfoldable pub fault : Written → Bytes → ℕ

@@ -19,15 +19,15 @@ unfoldable pub throughEnd : List Bytes → List Bytes
 throughEnd [] = []
 throughEnd (l ∷ ls) = cond (same l (bytes "E\n")) (l ∷ []) (l ∷ throughEnd ls)
 
-unfoldable pub behindEnd : List Bytes → List Bytes
-behindEnd [] = []
-behindEnd (l ∷ ls) = cond (same l (bytes "E\n")) ls (behindEnd ls)
+unfoldable pub afterEnd : List Bytes → List Bytes
+afterEnd [] = []
+afterEnd (l ∷ ls) = cond (same l (bytes "E\n")) ls (afterEnd ls)
 
 unfoldable pub packPart : Bytes → Bytes
 packPart input = flatten (throughEnd (wholeLines input))
 
 unfoldable pub queries : Bytes → List Bytes
-queries input = linesOf (flatten (behindEnd (wholeLines input)))
+queries input = linesOf (flatten (afterEnd (wholeLines input)))
 
 -- check's numbers and reserve's fields as printed, without byte 10
 unfoldable pub printedNumbers : Numbers → Bytes

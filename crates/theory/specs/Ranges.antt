@@ -10,7 +10,8 @@ use Rattle.theory.specs.Text.{Bytes, linesOf, fieldsOf}
 use Rattle.theory.specs.Terms.{structural}
 use Rattle.theory.specs.Forms.{Form, times}
 use Rattle.theory.specs.Packs.{Claim, Atom, Rule, atomKey, claimsOn}
-use Rattle.theory.specs.Written.{M, lineLetter, nothing, writeAll, multipliersFrom}
+use Rattle.theory.specs.declared.Letter.the-variants.{M}
+use Rattle.theory.specs.Written.{lineLetter, nothing, writeAll, multipliersFrom}
 use Rattle.theory.specs.Residuals.{claimForm, subgoalForms, combined, residual}
 use Rattle.theory.specs.Faults.{fault, lastRule, claimDue}
 use Rattle.theory.specs.Outcomes.{AllFine}

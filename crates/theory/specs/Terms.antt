@@ -79,19 +79,19 @@ firstTerms (suc k) nil = none
 firstTerms (suc k) (cons t ts) = Option·map (λ (p : Terms × Terms). (cons t (p .0), p .1)) (firstTerms k ts)
 
 -- the terms that a token and the terms after it make
-unfoldable pub behind : Token → Terms → Option Terms
-behind (variableNamed x) ts = some (cons (variable x) ts)
-behind (symbolOf f k) ts = Option·map (λ (p : Terms × Terms). cons (symbol f (p .0)) (p .1)) (firstTerms k ts)
-behind noToken ts = none
+unfoldable pub after : Token → Terms → Option Terms
+after (variableNamed x) ts = some (cons (variable x) ts)
+after (symbolOf f k) ts = Option·map (λ (p : Terms × Terms). cons (symbol f (p .0)) (p .1)) (firstTerms k ts)
+after noToken ts = none
 
-unfoldable pub behindAll : Token → Option Terms → Option Terms
-behindAll token none = none
-behindAll token (some ts) = behind token ts
+unfoldable pub afterAll : Token → Option Terms → Option Terms
+afterAll token none = none
+afterAll token (some ts) = after token ts
 
 -- the terms that tokens write, one after another
 unfoldable pub termsOf : List Bytes → Option Terms
 termsOf [] = some nil
-termsOf (w ∷ ws) = behindAll (tokenOf w) (termsOf ws)
+termsOf (w ∷ ws) = afterAll (tokenOf w) (termsOf ws)
 
 unfoldable pub theOnly : Option Terms → Option Term
 theOnly none = none

@@ -82,9 +82,9 @@ abbrev pub isVariable : Bytes → Bool
 isVariable bs = isWord isUpper bs
 
 -- the number that digits write, after digits that write n
-unfoldable pub valueBehind : ℕ → Bytes → ℕ
-valueBehind n [] = n
-valueBehind n (b ∷ bs) = valueBehind (n * 10 + (b - code "0")) bs
+unfoldable pub valueAfter : ℕ → Bytes → ℕ
+valueAfter n [] = n
+valueAfter n (b ∷ bs) = valueAfter (n * 10 + (b - code "0")) bs
 
 -- decimal digits with no leading zeros
 unfoldable pub isDecimal : Bytes → Bool
@@ -94,7 +94,7 @@ isDecimal (b ∷ c ∷ bs) = isDigit b && not (eqb b (code "0")) && every isDigi
 
 -- A number from 0 to a limit, or malformed or out of range. (With limit 8 or 9 it is one digit.)
 unfoldable pub natural : ℕ → Bytes → Option ℕ
-natural limit bs = cond (isDecimal bs && leb (valueBehind 0 bs) limit) (some (valueBehind 0 bs)) none
+natural limit bs = cond (isDecimal bs && leb (valueAfter 0 bs) limit) (some (valueAfter 0 bs)) none
 
 unfoldable pub negated : Option ℕ → Option ℤ
 negated none = none

@@ -5,15 +5,14 @@ use mathlib.Core.Option.{Option·getD}
 use Prim.Native.Nat.{ℕ}
 use lib.IntN.{ℤ, pos}
 use lib.ListN.{getD, drop}
+use Rattle.theory.specs.declared.Letter.{Letter}
+use Rattle.theory.specs.declared.Letter.the-variants.{P, C, H, B, M, E, NoLetter}
 use Rattle.theory.specs.Lists.{ending}
 use Rattle.theory.specs.Text.{Bytes, bytes, same, fieldsOf, linesOf, natural, integer}
 use Rattle.theory.specs.Terms.{Terms, variable, nil, cons, readTerm}
 use Rattle.theory.specs.Packs.{Kind, given, ruled, Predicate, Claim, Atom, Rule, Pack, headAlone, emptyPack, onSubgoals, onMultipliers, onPredicates, onClaims, onRules, numberLimit}
 
 -- what a line is, by its first field
-pub data Letter : Type 0 where
-  P C H B M E noLetter : Letter
-
 unfoldable pub letterOf : Bytes → Letter
 letterOf field =
     cond (same field (bytes "P")) P
@@ -21,7 +20,7 @@ letterOf field =
     (cond (same field (bytes "H")) H
     (cond (same field (bytes "B")) B
     (cond (same field (bytes "M")) M
-    (cond (same field (bytes "E")) E noLetter)))))
+    (cond (same field (bytes "E")) E NoLetter)))))
 
 -- the ith field, from 0
 abbrev pub field : ℕ → List Bytes → Bytes
@@ -78,7 +77,7 @@ add H fields p = onRules (ending (headAlone (atomFrom fields))) p
 add B fields p = onRules (onLast (onSubgoals (ending (atomFrom fields)))) p
 add M fields p = onRules (onLast (onMultipliers (ending (multipliersFrom fields)))) p
 add E fields p = p
-add noLetter fields p = p
+add NoLetter fields p = p
 
 abbrev pub lineLetter : Bytes → Letter
 lineLetter l = letterOf (field 0 (fieldsOf l))

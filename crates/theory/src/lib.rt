@@ -1,4 +1,16 @@
-// The answers of the calls, as types. What each case means is said once, in specs/Answers.antt.
+// The letters of lines and the answers of the calls, as types. What each case means is said once, in specs/Written.antt
+// and specs/Answers.antt.
+
+/// What a line is, by its first field.
+pub enum Letter {
+    P,
+    C,
+    H,
+    B,
+    M,
+    E,
+    NoLetter,
+}
 
 /// What an accepted pack counts: its lines, its rules, its `M` lines.
 pub struct Counts {

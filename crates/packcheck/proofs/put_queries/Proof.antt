@@ -6,11 +6,11 @@ use Rattle.packcheck.proofs.put_queries.Statement.{statement}
 use Rattle.packcheck.proofs.put_queries.Tie as tie
 
 abbrev Inv-loop : tie.InvT-loop
-Inv-loop input from verdict names facts claims known page₀ written len at₀ length₀ page at length =
-    QueriesPut input from verdict names facts claims known page₀ written page at length
+Inv-loop input from verdict names signatures claims known page₀ written len at₀ length₀ page at length =
+    QueriesPut input from verdict names signatures claims known page₀ written page at length
 
 abbrev μ-loop : tie.MeasureT-loop
-μ-loop input from verdict names facts claims known page₀ written len at₀ length₀ page at length = len + 1 - at
+μ-loop input from verdict names signatures claims known page₀ written len at₀ length₀ page at length = len + 1 - at
 
 loop-holds : tie.Need-loop-holds Inv-loop μ-loop
 loop-holds c = search (needs, queries-begin)

@@ -45,8 +45,8 @@ slice-aggregate-put-queries c = search needs
 
 put-queries-requires : tie.Need-put-queries-requires
 put-queries-requires c κs = (
-  c .before .before .before .before .before .before .before .before .before .before .before .before .before .before .before .before .before .before .if1 .left,
-  c .before .before .before .before .before .before .before .before .before .before .before .before .before .before .before .before .before .pack-end .ensures .within,
+  c .before .before .before .before .before .before .before .before .before .before .before .before .before .before .before .if1 .left,
+  c .before .before .before .before .before .before .before .before .before .before .before .before .before .before .pack-end .ensures .within,
   c .before .before .before .before .before .put-numbers2 .ensures .1,
   search needs,
   pack-ready (c .before .before .before .before .before .before .before .before .before .load .ensures),
@@ -55,7 +55,7 @@ put-queries-requires c κs = (
 
 returns-2 : tie.Need-returns-2
 returns-2 c =
-    whole-reply _ (c .before .before .before .before .before .before .before .before .numbers-of2 .result) (c .before .before .before .before .before .before .before .before .before .before .before .before .before .before .before .before .before .before .before .before .if1 .left) (c .before .before .before .before .before .before .before .before .before .before .before .before .before .before .before .before .before .before .before .pack-end .ensures) (pack-held (c .before .before .before .before .before .before .before .before .before .before .before .load .ensures)) (c .before .before .before .before .before .before .before .before .numbers-of2 .ensures) (c .before .before .before .before .before .before .before .put-numbers2 .ensures .0) (c .before .put-queries .ensures) (search needs)
+    whole-reply _ (c .before .before .before .before .before .before .before .before .numbers-of2 .result) (c .before .before .before .before .before .before .before .before .before .before .before .before .before .before .before .before .before .if1 .left) (c .before .before .before .before .before .before .before .before .before .before .before .before .before .before .before .before .pack-end .ensures) (pack-held (c .before .before .before .before .before .before .before .before .before .before .before .load .ensures)) (c .before .before .before .before .before .before .before .before .numbers-of2 .ensures) (c .before .before .before .before .before .before .before .put-numbers2 .ensures .0) (c .before .put-queries .ensures) (search needs)
 
 pub reply-spec : {M : Type 1} → statement M
 reply-spec =

@@ -1,5 +1,6 @@
 -- `packs::check` meets its contract. Assumes nothing.
 use mathlib.Core.Path.{refl}
+use borrow.Author.Needs.{needs}
 use Rattle.packs.proofs.LoadAnswers.{short-area, laid-area, same-area}
 use borrow.Author.Needs.{needs}
 use Rattle.packs.proofs.check.Statement.{statement}
@@ -18,10 +19,10 @@ same-length : tie.Need-same-length
 same-length c = search needs
 
 returns-2 : tie.Need-returns-2
-returns-2 c = laid-area _ _ (c .before .before .before .before .before .before .before .before .before .before .before .before .if1 .left) (c .before .before .before .before .before .load .ensures) (c .before .before .before .before .if2 .taken) (c .before .lay .ensures)
+returns-2 c = laid-area _ _ (c .before .before .before .before .before .before .before .before .before .if1 .left) (c .before .before .before .before .before .load .ensures) (c .before .before .before .before .if2 .taken) (c .before .lay .ensures)
 
 returns-3 : tie.Need-returns-3
-returns-3 c = same-area _ _ (c .before .before .before .before .before .before .before .before .if1 .left) (c .before .load .ensures) (c .if2 .left)
+returns-3 c = same-area _ _ (c .before .before .before .before .before .if1 .left) (c .before .load .ensures) (c .if2 .left)
 
 pub check-spec : {M : Type 1} → statement M
 check-spec =

@@ -1,37 +1,84 @@
 -- `packs::refusal` meets its contract. Assumes nothing.
 use mathlib.Core.Path.{refl}
-use native.Mathlib.Omega.{arith}
 use borrow.Author.Needs.{needs}
-use Rattle.packs.proofs.Refusals.{refuses-line, refuses-claim}
+use Rattle.tables.specs.declared.Fault.the-variants.{UnfitLine, Letter, Name, Declaration, FieldCount, Number, NoTerm, CountLimit, Unjustified}
+use Rattle.packs.proofs.LoadAnswers.{fault-numbers}
 use Rattle.packs.proofs.refusal.Statement.{statement}
 use Rattle.packs.proofs.refusal.Tie as tie
 
+enum-told : tie.Need-enum-told
+enum-told c = search needs
+
+enum-told-2 : tie.Need-enum-told-2
+enum-told-2 c = search needs
+
+enum-told-3 : tie.Need-enum-told-3
+enum-told-3 c = search needs
+
+enum-told-4 : tie.Need-enum-told-4
+enum-told-4 c = search needs
+
+enum-told-5 : tie.Need-enum-told-5
+enum-told-5 c = search needs
+
+enum-told-6 : tie.Need-enum-told-6
+enum-told-6 c = search needs
+
+enum-told-7 : tie.Need-enum-told-7
+enum-told-7 c = search needs
+
+enum-told-8 : tie.Need-enum-told-8
+enum-told-8 c = search needs
+
+enum-told-9 : tie.Need-enum-told-9
+enum-told-9 c = search needs
+
 returns : tie.Need-returns
-returns c = refuses-line 4 (search needs) (λ e. omega arith) refl
+returns c = let start = c .before .before .args in fault-numbers UnfitLine (start .fault) (start .line) (start .rule) (start .claim) (search needs) refl
 
 returns-2 : tie.Need-returns-2
-returns-2 c = refuses-line 5 (search needs) (λ e. omega arith) refl
+returns-2 c = let start = c .before .before .args in fault-numbers Letter (start .fault) (start .line) (start .rule) (start .claim) (search needs) refl
 
 returns-3 : tie.Need-returns-3
-returns-3 c = refuses-line 7 (search needs) (λ e. omega arith) refl
+returns-3 c = let start = c .before .before .args in fault-numbers Name (start .fault) (start .line) (start .rule) (start .claim) (search needs) refl
 
 returns-4 : tie.Need-returns-4
-returns-4 c = refuses-line 8 (search needs) (λ e. omega arith) refl
+returns-4 c = let start = c .before .before .args in fault-numbers Declaration (start .fault) (start .line) (start .rule) (start .claim) (search needs) refl
 
 returns-5 : tie.Need-returns-5
-returns-5 c = refuses-line 9 (search needs) (λ e. omega arith) refl
+returns-5 c = let start = c .before .before .args in fault-numbers FieldCount (start .fault) (start .line) (start .rule) (start .claim) (search needs) refl
 
 returns-6 : tie.Need-returns-6
-returns-6 c = refuses-line 10 (search needs) (λ e. omega arith) refl
+returns-6 c = let start = c .before .before .args in fault-numbers Number (start .fault) (start .line) (start .rule) (start .claim) (search needs) refl
 
 returns-7 : tie.Need-returns-7
-returns-7 c = refuses-line 11 (search needs) (λ e. omega arith) refl
+returns-7 c = let start = c .before .before .args in fault-numbers NoTerm (start .fault) (start .line) (start .rule) (start .claim) (search needs) refl
 
 returns-8 : tie.Need-returns-8
-returns-8 c = refuses-line 12 (search needs) (λ e. omega arith) refl
+returns-8 c = let start = c .before .before .args in fault-numbers CountLimit (start .fault) (start .line) (start .rule) (start .claim) (search needs) refl
 
 returns-9 : tie.Need-returns-9
-returns-9 c = search (needs, refuses-claim)
+returns-9 c = let start = c .before .before .args in fault-numbers Unjustified (start .fault) (start .line) (start .rule) (start .claim) (search needs) refl
 
 pub refusal-spec : {M : Type 1} → statement M
-refusal-spec = tie.close (tie.spec returns returns-2 returns-3 returns-4 returns-5 returns-6 returns-7 returns-8 returns-9)
+refusal-spec =
+    tie.close
+    (tie.spec
+    enum-told
+    enum-told-2
+    enum-told-3
+    enum-told-4
+    enum-told-5
+    enum-told-6
+    enum-told-7
+    enum-told-8
+    enum-told-9
+    returns
+    returns-2
+    returns-3
+    returns-4
+    returns-5
+    returns-6
+    returns-7
+    returns-8
+    returns-9)

@@ -2,7 +2,7 @@
 use native.Mathlib.Omega.{arith}
 use lib.ListN.{length-take}
 use borrow.Author.Needs.{needs}
-use Rattle.integers.proofs.Truth.{not-true, not-false}
+use Rattle.groundwork.proofs.Truth.{not-true, not-false}
 use Rattle.queries.proofs.QueryRanges.{arity-small, arity-fits, place-low, place-fits, second-inside, sizes-few}
 use Rattle.queries.proofs.QueryOpening.{opens-unfit, opens-undeclared, opens-miscounted, opens-unasked, opens-malformed, opens-known, opens-asked}
 use Rattle.queries.proofs.open_query.Statement.{statement}

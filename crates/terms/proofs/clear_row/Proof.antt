@@ -1,12 +1,13 @@
 -- `terms::clear_row` meets its contract: the counts passed are 0, and nothing else has changed. Assumes nothing.
-use Prim.Native.Nat.{_-_}
+use Prim.Native.Nat.{_-_, _≤_}
+use Rattle.terms.proofs.RowStores.{cleared-none, cleared-more, cleared-all}
+use Rattle.terms.specs.Rows.{Cleared}
 use borrow.Author.Needs.{needs}
-use Rattle.terms.proofs.RowStores.{ClearedTo, cleared-none, cleared-more, cleared-all}
 use Rattle.terms.proofs.clear_row.Statement.{statement}
 use Rattle.terms.proofs.clear_row.Tie as tie
 
 abbrev Inv-loop : tie.InvT-loop
-Inv-loop rows₀ base i₀ rows i = ClearedTo rows₀ base rows i
+Inv-loop rows₀ base i₀ rows i = (i ≤ 16) × Cleared rows₀ base rows i
 
 abbrev μ-loop : tie.MeasureT-loop
 μ-loop rows₀ base i₀ rows i = 16 - i
@@ -23,8 +24,8 @@ add-rows-2 c = search needs
 mul-rows : tie.Need-mul-rows Inv-loop μ-loop
 mul-rows c = search needs
 
-element-set-of-rows : tie.Need-element-set-of-rows Inv-loop μ-loop
-element-set-of-rows c = search needs
+element-write-rows : tie.Need-element-write-rows Inv-loop μ-loop
+element-write-rows c = search needs
 
 add-i : tie.Need-add-i Inv-loop μ-loop
 add-i c = search needs
@@ -48,7 +49,7 @@ clear-row-spec =
     add-rows
     add-rows-2
     mul-rows
-    element-set-of-rows
+    element-write-rows
     add-i
     loop-less
     loop-again

@@ -1,15 +1,15 @@
--- `terms::count_occurrences` meets its contract: the variables of the codes passed are counted. Assumes nothing.
+-- `terms::count_occurrences` meets its contract: the variables at the places passed are counted. Assumes nothing.
 use Prim.Native.Nat.{_-_}
-use Rattle.terms.proofs.CodeLoop.{Counting, counting-none, counting-small, counting-fits, counting-more, counting-all}
+use Rattle.terms.proofs.PlaceLoop.{Counting, counting-none, counting-small, counting-more, counting-all}
 use borrow.Author.Needs.{needs}
 use Rattle.terms.proofs.count_occurrences.Statement.{statement}
 use Rattle.terms.proofs.count_occurrences.Tie as tie
 
 abbrev Inv-loop : tie.InvT-loop
-Inv-loop field tokens count names₀ known rows₀ base many₀ i₀ names rows many i = Counting field count names₀ known rows₀ base i many names rows
+Inv-loop field places count names₀ known hints₀ rows₀ base many₀ i₀ names hints rows many i = Counting field places count names₀ known rows₀ base i many names rows
 
 abbrev μ-loop : tie.MeasureT-loop
-μ-loop field tokens count names₀ known rows₀ base many₀ i₀ names rows many i = count - i
+μ-loop field places count names₀ known hints₀ rows₀ base many₀ i₀ names hints rows many i = count - i
 
 clear-row-requires : tie.Need-clear-row-requires Inv-loop μ-loop
 clear-row-requires c κs = search needs
@@ -17,14 +17,23 @@ clear-row-requires c κs = search needs
 loop-holds : tie.Need-loop-holds Inv-loop μ-loop
 loop-holds c = search (needs, counting-none)
 
-mul-count-code : tie.Need-mul-count-code Inv-loop μ-loop
-mul-count-code c = search needs
+mul-place : tie.Need-mul-place Inv-loop μ-loop
+mul-place c = search needs
 
-element-copy-out-count-code : tie.Need-element-copy-out-count-code Inv-loop μ-loop
-element-copy-out-count-code c = search needs
+element-copy-out-place : tie.Need-element-copy-out-place Inv-loop μ-loop
+element-copy-out-place c = search needs
 
-count-code-requires : tie.Need-count-code-requires Inv-loop μ-loop
-count-code-requires c κs = search (needs, counting-fits, counting-small)
+start-of-requires : tie.Need-start-of-requires Inv-loop μ-loop
+start-of-requires c κs = search needs
+
+end-of-requires : tie.Need-end-of-requires Inv-loop μ-loop
+end-of-requires c κs = search needs
+
+words-at-requires : tie.Need-words-at-requires Inv-loop μ-loop
+words-at-requires c κs = let inside = c .before .before .before .before .before .before .before .before .pre .0 .each _ (c .before .before .before .loop-test .taken) .inside in search needs
+
+count-variable-requires : tie.Need-count-variable-requires Inv-loop μ-loop
+count-variable-requires c κs = search (needs, counting-small)
 
 add-i : tie.Need-add-i Inv-loop μ-loop
 add-i c = search needs
@@ -46,9 +55,12 @@ count-occurrences-spec =
     μ-loop
     clear-row-requires
     loop-holds
-    mul-count-code
-    element-copy-out-count-code
-    count-code-requires
+    mul-place
+    element-copy-out-place
+    start-of-requires
+    end-of-requires
+    words-at-requires
+    count-variable-requires
     add-i
     loop-less
     loop-again

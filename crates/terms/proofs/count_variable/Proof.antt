@@ -1,15 +1,24 @@
 -- `terms::count_variable` meets its contract. Assumes nothing.
-use borrow.Author.Needs.{needs}
 use Rattle.terms.specs.Rows.{past}
 use Rattle.terms.proofs.OneOccurrence.{count-fits, counts-known, counts-new, counts-none}
+use borrow.Author.Needs.{needs}
 use Rattle.terms.proofs.count_variable.Statement.{statement}
 use Rattle.terms.proofs.count_variable.Tie as tie
+
+add-result : tie.Need-add-result
+add-result c = search needs
 
 returns : tie.Need-returns
 returns c = search (needs, past)
 
-place-requires : tie.Need-place-requires
-place-requires c κs = search needs
+place-by-requires : tie.Need-place-by-requires
+place-by-requires c κs = search needs
+
+add-result-2 : tie.Need-add-result-2
+add-result-2 c = search needs
+
+returns-2 : tie.Need-returns-2
+returns-2 c = search (needs, counts-none)
 
 add-before : tie.Need-add-before
 add-before c = search needs
@@ -26,23 +35,20 @@ element-copy-out-before c = search needs
 add-rows : tie.Need-add-rows
 add-rows c = search (needs, count-fits)
 
-add-t10 : tie.Need-add-t10
-add-t10 c = search needs
+add-rows-2 : tie.Need-add-rows-2
+add-rows-2 c = search needs
 
-add-t12 : tie.Need-add-t12
-add-t12 c = search needs
+add-rows-3 : tie.Need-add-rows-3
+add-rows-3 c = search needs
 
-mul-t11 : tie.Need-mul-t11
-mul-t11 c = search needs
+mul-rows : tie.Need-mul-rows
+mul-rows c = search needs
 
-element-set-from-rows : tie.Need-element-set-from-rows
-element-set-from-rows c = search needs
-
-returns-2 : tie.Need-returns-2
-returns-2 c = search (needs, counts-known)
+element-write-rows : tie.Need-element-write-rows
+element-write-rows c = search needs
 
 returns-3 : tie.Need-returns-3
-returns-3 c = search (needs, counts-none)
+returns-3 c = search (needs, counts-known)
 
 mul-names : tie.Need-mul-names
 mul-names c = search needs
@@ -65,20 +71,8 @@ mul-names-4 c = search needs
 element-write-names-2 : tie.Need-element-write-names-2
 element-write-names-2 c = search needs
 
-add-rows-2 : tie.Need-add-rows-2
-add-rows-2 c = search needs
-
-add-rows-3 : tie.Need-add-rows-3
-add-rows-3 c = search needs
-
-mul-rows : tie.Need-mul-rows
-mul-rows c = search needs
-
-element-set-of-rows : tie.Need-element-set-of-rows
-element-set-of-rows c = search needs
-
-add-result : tie.Need-add-result
-add-result c = search needs
+add-result-3 : tie.Need-add-result-3
+add-result-3 c = search needs
 
 returns-4 : tie.Need-returns-4
 returns-4 c = search (needs, counts-new)
@@ -87,18 +81,20 @@ pub count-variable-spec : {M : Type 1} → statement M
 count-variable-spec =
     tie.close
     (tie.spec
+    add-result
     returns
-    place-requires
+    place-by-requires
+    add-result-2
+    returns-2
     add-before
     add-before-2
     mul-before
     element-copy-out-before
     add-rows
-    add-t10
-    add-t12
-    mul-t11
-    element-set-from-rows
-    returns-2
+    add-rows-2
+    add-rows-3
+    mul-rows
+    element-write-rows
     returns-3
     mul-names
     mul-names-2
@@ -107,9 +103,5 @@ count-variable-spec =
     add-names
     mul-names-4
     element-write-names-2
-    add-rows-2
-    add-rows-3
-    mul-rows
-    element-set-of-rows
-    add-result
+    add-result-3
     returns-4)

@@ -1,5 +1,5 @@
 -- `terms::has_arity` meets its contract. Assumes nothing.
-use Rattle.integers.proofs.Truth.{not-true, not-false}
+use Rattle.groundwork.proofs.Truth.{not-true, not-false}
 use Rattle.terms.proofs.TokenEnds.{arity-past, no-slash, no-digit, arity-ends}
 use borrow.Author.Needs.{needs}
 use Rattle.terms.proofs.has_arity.Statement.{statement}

@@ -1,5 +1,5 @@
 -- `terms::is_digit` meets its contract. Assumes nothing.
-use Rattle.integers.proofs.Truth.{le-leb, gt-leb}
+use Rattle.groundwork.proofs.Truth.{le-leb, gt-leb}
 use Rattle.terms.proofs.is_digit.Statement.{statement}
 use Rattle.terms.proofs.is_digit.Tie as tie
 

@@ -1,6 +1,6 @@
 -- `terms::measure` meets its contract. Assumes nothing.
-use Rattle.integers.proofs.Truth.{not-true, not-false}
-use Rattle.terms.proofs.Measures.{measure-unfit, measure-short, measure-no-term, measure-few, measure-variable, measure-fits, measure-size}
+use Rattle.groundwork.proofs.Truth.{not-true, not-false}
+use Rattle.terms.proofs.Measures.{measure-unfit, measure-short, measure-no-term, measure-digits, measure-variable, measure-size}
 use borrow.Author.Needs.{needs}
 use Rattle.terms.proofs.measure.Statement.{statement}
 use Rattle.terms.proofs.measure.Tie as tie
@@ -24,10 +24,10 @@ returns-3 : tie.Need-returns-3
 returns-3 c = search (needs, measure-variable, not-false)
 
 sum-of-arities-requires : tie.Need-sum-of-arities-requires
-sum-of-arities-requires c κs = search (needs, measure-few, not-false)
+sum-of-arities-requires c κs = search (needs, measure-digits, not-false)
 
 sized-requires : tie.Need-sized-requires
-sized-requires c κs = search (needs, measure-fits, not-false)
+sized-requires c κs = search needs
 
 returns-4 : tie.Need-returns-4
 returns-4 c = search (needs, measure-size, not-false)

@@ -1,30 +1,27 @@
--- `terms::sum_of_arities` meets its contract: the arities of the codes passed are summed. Assumes nothing.
+-- `terms::sum_of_arities` meets its contract: the arities passed are summed. Assumes nothing.
 use Prim.Native.Nat.{_-_}
-use Rattle.terms.proofs.CodeSums.{Summing, summing-none, summing-more, summing-all}
+use Rattle.terms.proofs.AritySums.{Summing, summing-none, summing-more, summing-all, summing-fits}
 use borrow.Author.Needs.{needs}
 use Rattle.terms.proofs.sum_of_arities.Statement.{statement}
 use Rattle.terms.proofs.sum_of_arities.Tie as tie
 
 abbrev Inv-loop : tie.InvT-loop
-Inv-loop tokens count sum₀ i₀ sum i = Summing tokens count sum i
+Inv-loop arities symbols sum₀ i₀ sum i = Summing arities symbols sum i
 
 abbrev μ-loop : tie.MeasureT-loop
-μ-loop tokens count sum₀ i₀ sum i = count - i
+μ-loop arities symbols sum₀ i₀ sum i = symbols - i
 
 loop-holds : tie.Need-loop-holds Inv-loop μ-loop
 loop-holds c = search (needs, summing-none)
 
-mul-arity-of : tie.Need-mul-arity-of Inv-loop μ-loop
-mul-arity-of c = search needs
+element-copy-out-sixteen-bits : tie.Need-element-copy-out-sixteen-bits Inv-loop μ-loop
+element-copy-out-sixteen-bits c = search needs
 
-element-copy-out-arity-of : tie.Need-element-copy-out-arity-of Inv-loop μ-loop
-element-copy-out-arity-of c = search needs
-
-arity-of-requires : tie.Need-arity-of-requires Inv-loop μ-loop
-arity-of-requires c κs = search needs
+sixteen-bits-requires : tie.Need-sixteen-bits-requires Inv-loop μ-loop
+sixteen-bits-requires c κs = search needs
 
 add-sum : tie.Need-add-sum Inv-loop μ-loop
-add-sum c = search needs
+add-sum c = search (needs, summing-fits)
 
 add-i : tie.Need-add-i Inv-loop μ-loop
 add-i c = search needs
@@ -45,9 +42,8 @@ sum-of-arities-spec =
     Inv-loop
     μ-loop
     loop-holds
-    mul-arity-of
-    element-copy-out-arity-of
-    arity-of-requires
+    element-copy-out-sixteen-bits
+    sixteen-bits-requires
     add-sum
     add-i
     loop-less

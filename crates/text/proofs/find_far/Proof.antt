@@ -7,7 +7,7 @@ use borrow.Author.Needs.{needs}
 use Rattle.theory.proofs.Reading.Separators.{isFree}
 use Rattle.text.specs.Scans.{part}
 use Rattle.text.proofs.Parts.{free-none}
-use Rattle.text.proofs.Blocks.{block-found, block-passed, found-behind}
+use Rattle.text.proofs.Blocks.{block-found, block-passed, found-after}
 use Rattle.text.proofs.find_far.Statement.{statement}
 use Rattle.text.proofs.find_far.Tie as tie
 
@@ -45,7 +45,7 @@ find-requires : tie.Need-find-requires Inv-loop μ-loop
 find-requires c κs = search needs
 
 returns-2 : tie.Need-returns-2 Inv-loop μ-loop
-returns-2 c = search (needs, found-behind)
+returns-2 c = search (needs, found-after)
 
 pub find-far-spec : {M : Type 1} → statement M
 find-far-spec =

@@ -1,5 +1,5 @@
 -- `text::is_lower` meets its contract. Assumes nothing.
-use Rattle.integers.proofs.Truth.{le-leb, gt-leb}
+use Rattle.groundwork.proofs.Truth.{le-leb, gt-leb}
 use Rattle.text.proofs.is_lower.Statement.{statement}
 use Rattle.text.proofs.is_lower.Tie as tie
 

@@ -1,5 +1,5 @@
 -- `text::is_upper` meets its contract. Assumes nothing.
-use Rattle.integers.proofs.Truth.{le-leb, gt-leb}
+use Rattle.groundwork.proofs.Truth.{le-leb, gt-leb}
 use Rattle.text.proofs.is_upper.Statement.{statement}
 use Rattle.text.proofs.is_upper.Tie as tie
 

@@ -1,6 +1,6 @@
 -- `text::pack` meets its contract: from the end, the word is the number of the bytes passed. Assumes nothing.
 use borrow.Author.Needs.{needs}
-use Rattle.integers.proofs.Truth.{not-true, not-false}
+use Rattle.groundwork.proofs.Truth.{not-true, not-false}
 use Rattle.text.proofs.Packing.{summed-times, summed-plus, Packing, packing-none, packing-more, packing-refused, packing-all}
 use Rattle.text.proofs.pack.Statement.{statement}
 use Rattle.text.proofs.pack.Tie as tie

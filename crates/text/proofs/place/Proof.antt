@@ -2,7 +2,7 @@
 use mathlib.Core.Logic.{⊎-elim}
 use Prim.Native.Nat.{_-_}
 use borrow.Author.Needs.{needs}
-use Rattle.text.proofs.Places.{Missed, missed-none, missed-first, missed-second, place-found, place-none}
+use Rattle.text.proofs.Places.{Missed, missed-none, missed-first, missed-second, stands-there, stands-nowhere}
 use Rattle.text.proofs.place.Statement.{statement}
 use Rattle.text.proofs.place.Tie as tie
 
@@ -37,7 +37,7 @@ element-copy-out-if2 : tie.Need-element-copy-out-if2 Inv-loop μ-loop
 element-copy-out-if2 c = search needs
 
 returns : tie.Need-returns Inv-loop μ-loop
-returns c = search (needs, place-found)
+returns c = search (needs, stands-there)
 
 add-i : tie.Need-add-i Inv-loop μ-loop
 add-i c = search needs
@@ -49,7 +49,7 @@ loop-again : tie.Need-loop-again Inv-loop μ-loop
 loop-again c = ⊎-elim (λ w. search (needs, missed-second)) (λ w. search (needs, missed-first)) (c .if1 .came)
 
 returns-2 : tie.Need-returns-2 Inv-loop μ-loop
-returns-2 c = search (needs, place-none)
+returns-2 c = search (needs, stands-nowhere)
 
 pub place-spec : {M : Type 1} → statement M
 place-spec =

@@ -2,7 +2,7 @@
 use native.Mathlib.Omega.{arith}
 use lib.ListN.{length-take, length-drop}
 use borrow.Author.Needs.{needs}
-use Rattle.integers.proofs.Truth.{not-true, not-false}
+use Rattle.groundwork.proofs.Truth.{not-true, not-false}
 use Rattle.text.proofs.WordReading.{read-empty, read-long, read-front-refused, read-back-refused, read-name, read-variable, read-other}
 use Rattle.text.proofs.read_word.Statement.{statement}
 use Rattle.text.proofs.read_word.Tie as tie

@@ -8,7 +8,7 @@ use native.Mathlib.Nat.{zero-add}
 use lib.Dec.{ltb}
 use lib.IntN.{ℤ}
 use lib.ListN.{length, drop}
-use Rattle.integers.proofs.Truth.{ltb-ge, ge-ltb}
+use Rattle.groundwork.proofs.Truth.{ltb-ge, ge-ltb}
 use Rattle.theory.specs.Residuals.{areaNeeded}
 use Rattle.theory.specs.Text.{Bytes, linesOf}
 use Rattle.theory.specs.Packs.{Pack, emptyPack, line, endLine, openLines, packLines, textOf, written, textLimit}

@@ -12,11 +12,13 @@ use Rattle.theory.specs.Lists.{every, isSome, isEmpty, ending}
 use Rattle.theory.specs.Text.{Bytes, isName}
 use Rattle.theory.specs.Terms.{AllWellFormed}
 use Rattle.theory.specs.Packs.{Kind, given, ruled, Predicate, Atom, Pack, ruleLimit, subgoalLimit, variableLimit, atomKey, declaredAs, termFields, headLine, subgoalLine, onSubgoals, onRules, headAlone}
-use Rattle.theory.specs.Written.{Letter, H, B, field, atomFrom, add, onLast}
+use Rattle.theory.specs.declared.Letter.{Letter}
+use Rattle.theory.specs.declared.Letter.the-variants.{H, B}
+use Rattle.theory.specs.Written.{field, atomFrom, add, onLast}
 use Rattle.theory.specs.Residuals.{ruleVariables}
 use Rattle.theory.specs.Faults.{isTerm, arityIn, isGiven, givenIn, lastRule, isComplete, manyVariables, mayStand, atomTests, headTests, subgoalTests, tests}
 use Rattle.theory.specs.Limits.{AtomFits}
-use Rattle.integers.proofs.Truth.{not-true, not-false, never-both, and-left, and-right, and-both, or-not-left, or-not-right, or-neither, eqb-equal, equal-eqb, leb-gt, gt-leb, ltb-ge, ge-ltb}
+use Rattle.groundwork.proofs.Truth.{not-true, not-false, never-both, and-left, and-right, and-both, or-not-left, or-not-right, or-neither, eqb-equal, equal-eqb, leb-gt, gt-leb, ltb-ge, ge-ltb}
 use Rattle.theory.proofs.Judging.Faultless.{Faultless, Adds, Readable}
 use Rattle.theory.proofs.Reading.Letters.{letterField}
 use Rattle.theory.proofs.Reading.PlainFields.{Plain, plain-cons, name-plain, letter-plain}

@@ -7,12 +7,12 @@ use native.Mathlib.Omega.{arith}
 use lib.Dec.{ltb}
 use lib.ListN.{length, getD, List·getD-append}
 use lib.Seq.{getD-append-seam}
-use Rattle.integers.proofs.Truth.{by-truth, ltb-lt, ltb-ge}
+use Rattle.groundwork.proofs.Truth.{by-truth, ltb-lt, ltb-ge}
 use Rattle.theory.specs.Lists.{_∈_, ending}
 use Rattle.theory.specs.Packs.{ruled, Atom, Rule, Pack, subgoalLimit, variableLimit, atomKey, claimsOn, onSubgoals, onMultipliers, headAlone}
 use Rattle.theory.specs.Residuals.{ruleVariables}
 use Rattle.theory.specs.Limits.{AtomFits, MultipliersFit, JustifiedBy}
-use Rattle.integers.proofs.Lists.{member-unempty, length-end, all-end}
+use Rattle.groundwork.proofs.Lists.{member-unempty, length-end, all-end}
 
 -- its own multipliers justify the claim numbered i
 abbrev JustifiedAt : Pack → Rule → ℕ → Type 0

@@ -12,7 +12,7 @@ use Rattle.theory.specs.Packs.{fromRules, fromClaims, Predicate, Claim, 
 use Rattle.theory.specs.Residuals.{ruleVariables}
 use Rattle.theory.specs.Faults.{noRule, lastOf}
 use Rattle.theory.specs.Limits.{JustifiedBy, AtomFits, MultipliersFit, RuleFits, Fits, Justified}
-use Rattle.integers.proofs.Lists.{member-unempty, split-member, split-shorter, grown}
+use Rattle.groundwork.proofs.Lists.{member-unempty, split-member, split-shorter, grown}
 use Rattle.theory.proofs.Judging.LastRule.{lastOf-end, onLast-end}
 use Rattle.theory.proofs.Judging.Completeness.{complete-from-whole, incomplete-from-due}
 use Rattle.theory.proofs.Judging.ClaimsOn.{claims-before}
@@ -67,24 +67,24 @@ module _ (start p : Pack) (fits : Fits p) where
   unfolding fromClaims fromRules flatMap
   predicates-built = grown (λ (ps : List Predicate). Built start (parts ps [] [])) (p .predicates) next
     where
-      next : (before behind : List Predicate) (x : Predicate) → p .predicates ≡ before ++ (x ∷ behind) → Built start (parts before [] []) → Built start (parts (before ++ (x ∷ [])) [] [])
-      next before behind x e built =
-          built-end built (predicateStep x refl (fits .formed .predicates x (split-member before behind x e)) (fits .formed .distinct before behind x e) (le-trans (split-shorter before behind x e) (fits .counts .predicates)))
+      next : (before after : List Predicate) (x : Predicate) → p .predicates ≡ before ++ (x ∷ after) → Built start (parts before [] []) → Built start (parts (before ++ (x ∷ [])) [] [])
+      next before after x e built =
+          built-end built (predicateStep x refl (fits .formed .predicates x (split-member before after x e)) (fits .formed .distinct before after x e) (le-trans (split-shorter before after x e) (fits .counts .predicates)))
 
   claims-built : Built start (parts (p .predicates) [] []) → Built start (parts (p .predicates) (p .claims) [])
   unfolding fromRules flatMap
   claims-built = grown (λ (cs : List Claim). Built start (parts (p .predicates) cs [])) (p .claims) next
     where
-      next : (before behind : List Claim) (c : Claim) → p .claims ≡ before ++ (c ∷ behind) → Built start (parts (p .predicates) before []) → Built start (parts (p .predicates) (before ++ (c ∷ [])) [])
-      next before behind c e built =
+      next : (before after : List Claim) (c : Claim) → p .claims ≡ before ++ (c ∷ after) → Built start (parts (p .predicates) before []) → Built start (parts (p .predicates) (before ++ (c ∷ [])) [])
+      next before after c e built =
           let k = claimKey c in
-          built-end built (claimStep c refl (fits .formed .claims c (split-member before behind c e)) (omega (arith, claims-before before behind c, ap (λ (cs : List Claim). length (claimsOn k cs)) e, fits .counts .claims k)))
+          built-end built (claimStep c refl (fits .formed .claims c (split-member before after c e)) (omega (arith, claims-before before after c, ap (λ (cs : List Claim). length (claimsOn k cs)) e, fits .counts .claims k)))
 
   module _ (justified : Justified p) where
     -- one rule more: its head, then its subgoals, then its multiplier lists
-    rule-built : (before behind : List Rule) (r : Rule) → p .rules ≡ before ++ (r ∷ behind)
+    rule-built : (before after : List Rule) (r : Rule) → p .rules ≡ before ++ (r ∷ after)
         → Built start (parts (p .predicates) (p .claims) before) → Built start (parts (p .predicates) (p .claims) (before ++ (r ∷ [])))
-    rule-built before behind r e built =
+    rule-built before after r e built =
         grown (λ (mss : List (List ℕ)). Open (r .subgoals) mss) (r .multipliers) next-multipliers
         (grown (λ (gs : List Atom). Open gs []) (r .subgoals) next-subgoal head-open)
       where
@@ -92,10 +92,10 @@ module _ (start p : Pack) (fits : Fits p) where
         Open gs mss = Built start (parts (p .predicates) (p .claims) (before ++ (onMultipliers (λ (old : List (List ℕ)). mss) (onSubgoals (λ (old : List Atom). gs) r) ∷ [])))
 
         ruleFits : RuleFits (opening p) r
-        ruleFits = fits .formed .rules r (split-member before behind r e)
+        ruleFits = fits .formed .rules r (split-member before after r e)
 
         kept : (s : Rule) → s ∈ before → s ∈ p .rules
-        kept s m = subst (λ (rs : List Rule). s ∈ rs) (sym e) (Memᴰ·append-left (r ∷ behind) m)
+        kept s m = subst (λ (rs : List Rule). s ∈ rs) (sym e) (Memᴰ·append-left (r ∷ after) m)
 
         head-open : Open [] []
         head-open =
@@ -104,7 +104,7 @@ module _ (start p : Pack) (fits : Fits p) where
             (complete-from-whole (parts (p .predicates) (p .claims) before) (λ s m. le-of-eq (sym (fits .formed .rules s (kept s m) .everyClaim))))
             (ruleFits .head)
             (ruleFits .isRuled)
-            (le-trans (split-shorter before behind r e) (fits .counts .rules))
+            (le-trans (split-shorter before after r e) (fits .counts .rules))
             (le-trans (variables-of-fewer (r .head) [] (r .subgoals)) (ruleFits .fewVariables)))
 
         next-subgoal : (earlier later : List Atom) (a : Atom) → r .subgoals ≡ earlier ++ (a ∷ later) → Open earlier [] → Open (earlier ++ (a ∷ [])) []
@@ -123,7 +123,7 @@ module _ (start p : Pack) (fits : Fits p) where
             built-end opened
             (last-multiplier-step (p .predicates) (p .claims) before _ ms due
             (ruleFits .multipliers ms (split-member earlier later ms h))
-            (subst (JustifiedBy (opening p) r (length earlier)) found (justified .rules r (split-member before behind r e) .every (length earlier) due)))
+            (subst (JustifiedBy (opening p) r (length earlier)) found (justified .rules r (split-member before after r e) .every (length earlier) due)))
 
     pub pack-built : Built start (parts [] [] []) → Built start p
     pack-built built = grown (λ (rs : List Rule). Built start (parts (p .predicates) (p .claims) rs)) (p .rules) rule-built (claims-built (predicates-built built))

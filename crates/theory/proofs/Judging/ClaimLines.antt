@@ -11,11 +11,12 @@ use lib.Seq.{drop-cons}
 use Rattle.theory.specs.Lists.{every, isSome, _∈_, ending}
 use Rattle.theory.specs.Text.{Bytes, bytes, isName, integer, signedDecimal}
 use Rattle.theory.specs.Packs.{Claim, Pack, claimLimit, numberLimit, claimKey, declaredAs, claimsOn, claimLine, onClaims, fromRules}
-use Rattle.theory.specs.Written.{C, field, claimFrom, integerFrom, add}
+use Rattle.theory.specs.declared.Letter.the-variants.{C}
+use Rattle.theory.specs.Written.{field, claimFrom, integerFrom, add}
 use Rattle.theory.specs.Faults.{isClaimNumber, arityIn, mayStand, claimTests, tests}
 use Rattle.theory.specs.Limits.{ClaimFits}
-use Rattle.integers.proofs.Lists.{all-cons}
-use Rattle.integers.proofs.Truth.{not-false, eqb-equal, equal-eqb, leb-gt, gt-leb}
+use Rattle.groundwork.proofs.Lists.{all-cons}
+use Rattle.groundwork.proofs.Truth.{not-false, eqb-equal, equal-eqb, leb-gt, gt-leb}
 use Rattle.theory.proofs.Reading.Every.{every-first, every-rest}
 use Rattle.theory.proofs.Reading.FieldValues.{value-read, values-written, values-within, written-read, written-values}
 use Rattle.theory.proofs.Judging.Faultless.{Faultless, Adds, Readable}

@@ -5,7 +5,7 @@ use mathlib.Core.List.{List, [], _∷_, _++_}
 use Prim.Native.Nat.{ℕ, _+_, _≤_, _<_}
 use native.Mathlib.Omega.{arith}
 use lib.ListN.{length, length-append}
-use Rattle.integers.proofs.Truth.{by-truth}
+use Rattle.groundwork.proofs.Truth.{by-truth}
 use Rattle.theory.specs.Packs.{Claim, Key, sameKey, claimKey, claimsOn}
 use Rattle.theory.proofs.Judging.Keys.{sameKey-refl, sameKey-equal}
 
@@ -41,5 +41,5 @@ fewClaims-end limit cs c few room k = by-truth (λ (b : Bool). length (claimsOn 
     left-out e = omega (arith, length-claimsOn k cs (c ∷ []), ap length (claimsOn-left-out k c [] e), few k)
 
 -- a claim counts among those on its own key
-pub claims-before : (before behind : List Claim) (c : Claim) → length (claimsOn (claimKey c) before) < length (claimsOn (claimKey c) (before ++ (c ∷ behind)))
-claims-before before behind c = omega (arith, length-claimsOn (claimKey c) before (c ∷ behind), ap length (claimsOn-kept (claimKey c) c behind (sameKey-refl (claimKey c))))
+pub claims-before : (before after : List Claim) (c : Claim) → length (claimsOn (claimKey c) before) < length (claimsOn (claimKey c) (before ++ (c ∷ after)))
+claims-before before after c = omega (arith, length-claimsOn (claimKey c) before (c ∷ after), ap length (claimsOn-kept (claimKey c) c after (sameKey-refl (claimKey c))))

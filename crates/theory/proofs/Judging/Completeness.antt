@@ -5,7 +5,7 @@ use mathlib.Core.List.{List, []}
 use Prim.Native.Nat.{_≤_, _<_}
 use lib.Dec.{leb}
 use lib.ListN.{length}
-use Rattle.integers.proofs.Truth.{by-truth, leb-le, leb-gt, le-leb, gt-leb, or-neither, or-not-left, or-not-right}
+use Rattle.groundwork.proofs.Truth.{by-truth, leb-le, leb-gt, le-leb, gt-leb, or-neither, or-not-left, or-not-right}
 use Rattle.theory.specs.Lists.{isEmpty, _∈_}
 use Rattle.theory.specs.Packs.{Claim, Rule, Pack, atomKey, claimsOn}
 use Rattle.theory.specs.Faults.{noRule, lastRule, headClaims, isComplete}

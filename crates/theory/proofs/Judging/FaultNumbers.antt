@@ -4,10 +4,12 @@ use mathlib.Core.Bool.{Bool, true, false, cond, not, _||_}
 use mathlib.Core.List.{List, [], _∷_}
 use Prim.Native.Nat.{ℕ, _<_}
 use native.Mathlib.Omega.{arith}
-use Rattle.integers.proofs.Truth.{by-truth, not-false, or-not-left, or-not-right}
+use Rattle.groundwork.proofs.Truth.{by-truth, not-false, or-not-left, or-not-right}
 use Rattle.theory.specs.Text.{Bytes, fieldsOf}
 use Rattle.theory.specs.Packs.{Pack}
-use Rattle.theory.specs.Written.{Letter, P, C, H, B, M, E, noLetter, lineLetter, Written}
+use Rattle.theory.specs.declared.Letter.{Letter}
+use Rattle.theory.specs.declared.Letter.the-variants.{P, C, H, B, M, E, NoLetter}
+use Rattle.theory.specs.Written.{lineLetter, Written}
 use Rattle.theory.specs.Faults.{Test, test, firstOf, isUnfit, mayStand, predicateTests, claimTests, atomTests, headTests, subgoalTests, multiplierTests, tests, fault}
 use Rattle.theory.proofs.Judging.Tests.{_then_}
 
@@ -29,7 +31,7 @@ tests-below H fields p = omega arith
 tests-below B fields p = omega arith
 tests-below M fields p = omega arith
 tests-below E fields p = omega arith
-tests-below noLetter fields p = tt
+tests-below NoLetter fields p = tt
 
 pub fault-small : (w : Written) (l : Bytes) → fault w l < 14
 unfolding fault
@@ -69,4 +71,4 @@ thirteen-is-m H fields p e = absurd (omega (arith, first-below 13 (headTests fie
 thirteen-is-m B fields p e = absurd (omega (arith, first-below 13 (subgoalTests fields p) (omega arith) (omega arith)))
 thirteen-is-m M fields p e = refl
 thirteen-is-m E fields p e = absurd (omega (arith, first-below 13 (tests E fields p) (omega arith) (omega arith)))
-thirteen-is-m noLetter fields p e = absurd (omega (arith, first-below 13 (tests noLetter fields p) (omega arith) tt))
+thirteen-is-m NoLetter fields p e = absurd (omega (arith, first-below 13 (tests NoLetter fields p) (omega arith) tt))

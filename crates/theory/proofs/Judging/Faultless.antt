@@ -5,7 +5,8 @@ use mathlib.Core.List.{List, _∷_}
 use lib.ListN.{drop}
 use Rattle.theory.specs.Text.{Bytes}
 use Rattle.theory.specs.Packs.{Pack}
-use Rattle.theory.specs.Written.{Letter, field, add}
+use Rattle.theory.specs.declared.Letter.{Letter}
+use Rattle.theory.specs.Written.{field, add}
 use Rattle.theory.specs.Faults.{mayStand, tests}
 use Rattle.theory.proofs.Reading.Letters.{letterField}
 use Rattle.theory.proofs.Reading.PlainFields.{Plain}

@@ -4,8 +4,8 @@ use mathlib.Core.Bool.{true, false}
 use mathlib.Core.List.{List, [], _∷_, map, List·Memᴰ·not-nil, Memᴰ·map}
 use Prim.Native.Nat.{_≤_}
 use lib.ListN.{length}
-use Rattle.integers.proofs.Lists.{all-cons}
-use Rattle.integers.proofs.Truth.{never-both}
+use Rattle.groundwork.proofs.Lists.{all-cons}
+use Rattle.groundwork.proofs.Truth.{never-both}
 use Rattle.theory.specs.Lists.{_∈_}
 use Rattle.theory.specs.Text.{Bytes, fieldsOf}
 use Rattle.theory.specs.Packs.{Pack, emptyPack, lineLimit, line, openLines}
@@ -15,7 +15,7 @@ use Rattle.theory.proofs.Reading.Separators.{joined-of-parts}
 use Rattle.theory.proofs.Judging.Steps.{Run, stay, go}
 use Rattle.theory.proofs.Judging.Reached.{Reached, run-reaches}
 use Rattle.theory.proofs.Judging.Runs.{run-lines, empty-reached}
-use Rattle.theory.proofs.Judging.LineReading.{before, behind, Fine, step, end, fine-from-fault, short-from-fault}
+use Rattle.theory.proofs.Judging.LineReading.{before, after, Fine, step, end, fine-from-fault, short-from-fault}
 use Rattle.theory.proofs.Judging.JudgedRuns.{Few, no-rule-few, few-after}
 
 record FineRun (p : Pack) (ls : List Bytes) (q : Pack) : Type 0 where
@@ -42,7 +42,7 @@ run-first p l ls fields w few (step {q = q} s) is short fine e ih =
       short = all-cons (λ x. length x ≤ lineLimit) short (rest .short);
       few = rest .few;
     }
-run-first p l ls fields w few (end c) is short fine e ih = never-both (ended-stays (behind p) ls refl) e
+run-first p l ls fields w few (end c) is short fine e ih = never-both (ended-stays (after p) ls refl) e
 
 fine-run : (p : Pack) (ls : List Bytes) → Few p → AllFine (before p) ls → writeAll (before p) ls .ended ≡ false → FineRun p ls (writeAll (before p) ls .pack)
 unfolding writeAll

@@ -7,7 +7,7 @@ use native.Mathlib.Omega.{arith}
 use native.Mathlib.Nat.{add-zero}
 use lib.Dec.{eqb}
 use lib.ListN.{length}
-use Rattle.integers.proofs.Truth.{eqb-equal, eqb-unequal}
+use Rattle.groundwork.proofs.Truth.{eqb-equal, eqb-unequal}
 use Rattle.theory.specs.Text.{Bytes}
 use Rattle.theory.specs.Written.{Written, write, writeAll}
 use Rattle.theory.specs.Faults.{fault}

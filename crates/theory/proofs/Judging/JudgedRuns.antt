@@ -7,8 +7,8 @@ use native.Mathlib.Omega.{arith}
 use native.Mathlib.Nat.{add-zero}
 use lib.Dec.{eqb}
 use lib.ListN.{length}
-use Rattle.integers.proofs.Lists.{member-unempty, all-cons}
-use Rattle.integers.proofs.Truth.{never-both, eqb-equal, equal-eqb}
+use Rattle.groundwork.proofs.Lists.{member-unempty, all-cons}
+use Rattle.groundwork.proofs.Truth.{never-both, eqb-equal, equal-eqb}
 use Rattle.theory.specs.Lists.{_∈_, ending}
 use Rattle.theory.specs.Text.{Bytes, fieldsOf}
 use Rattle.theory.specs.Terms.{allVariables}
@@ -22,7 +22,7 @@ use Rattle.theory.proofs.Judging.Steps.{Step, predicateStep, claimStep,
 use Rattle.theory.proofs.Judging.Sections.{no-rules, no-rules-either}
 use Rattle.theory.proofs.Judging.LastRule.{lastOf-end, last-changed}
 use Rattle.theory.proofs.Judging.Completeness.{rule-from-incomplete}
-use Rattle.theory.proofs.Judging.LineReading.{before, behind, Fine, step, end, fine-from-fault, short-from-fault, fault-behind-end, Read, read-fine}
+use Rattle.theory.proofs.Judging.LineReading.{before, after, Fine, step, end, fine-from-fault, short-from-fault, fault-after-end, Read, read-fine}
 
 -- the last rule so far has few enough variables
 abbrev pub Few : Pack → Type 0
@@ -66,17 +66,17 @@ judge-step w k l ls e = go (eqb (fault w l) 0) refl e
     go true h e = (eqb-equal (fault w l) 0 h, e)
     go false h e = never-both (equal-eqb (fault w l) 0 (sym (refused-number w (k + 1) l (fault w l)) ∙ e)) h
 
-judged-end : (p : Pack) (k : ℕ) (ls : List Bytes) → judge (behind p) k ls .returned .number ≡ 0 → ls ≡ []
+judged-end : (p : Pack) (k : ℕ) (ls : List Bytes) → judge (after p) k ls .returned .number ≡ 0 → ls ≡ []
 judged-end p k [] e = refl
-judged-end p k (l ∷ ls) e = absurd (fault-behind-end p l (judge-step (behind p) k l ls e .0))
+judged-end p k (l ∷ ls) e = absurd (fault-after-end p l (judge-step (after p) k l ls e .0))
 
 -- one line more in front
-accepted-behind : (p : Pack) (k : ℕ) (l : Bytes) (ls fields : List Bytes) (w : Written) → Few p → Fine p fields w → line fields ≡ l → length l ≤ lineLimit → judge w k ls .returned .number ≡ 0
+accepted-after : (p : Pack) (k : ℕ) (l : Bytes) (ls fields : List Bytes) (w : Written) → Few p → Fine p fields w → line fields ≡ l → length l ≤ lineLimit → judge w k ls .returned .number ≡ 0
     → ((q : Pack) → Few q → judge (before q) k ls .returned .number ≡ 0 → Accepted q ls) → Accepted p (l ∷ ls)
-accepted-behind p k l ls fields w few (step {q = q} s) is short e ih = after (ih q (few-after s few) e)
+accepted-after p k l ls fields w few (step {q = q} s) is short e ih = longer (ih q (few-after s few) e)
   where
-    after : Accepted q ls → Accepted p (l ∷ ls)
-    after a = record {
+    longer : Accepted q ls → Accepted p (l ∷ ls)
+    longer a = record {
       end-pack = a .end-pack;
       fields = fields ∷ a .fields;
       run = go s (a .run);
@@ -84,7 +84,7 @@ accepted-behind p k l ls fields w few (step {q = q} s) is short e ih = after (ih
       are = rw (← is, a .are);
       short = all-cons (λ x. length x ≤ lineLimit) short (a .short);
     }
-accepted-behind p k l ls fields w few (end c) is short e ih = record {
+accepted-after p k l ls fields w few (end c) is short e ih = record {
   end-pack = p;
   fields = [];
   run = stay;
@@ -98,7 +98,7 @@ unfolding judge
 accepted-from-judge p k [] few e = absurd (omega arith)
 accepted-from-judge p k (l ∷ ls) few e =
     let (faultless, rest) = judge-step (before p) k l ls e in
-    accepted-behind p (k + 1) l ls (fieldsOf l) (write (before p) l) few (fine-from-fault p l few faultless) (joined-of-parts 44 l) (short-from-fault (before p) l faultless) rest (λ q. accepted-from-judge q (k + 1) ls)
+    accepted-after p (k + 1) l ls (fieldsOf l) (write (before p) l) few (fine-from-fault p l few faultless) (joined-of-parts 44 l) (short-from-fault (before p) l faultless) rest (λ q. accepted-from-judge q (k + 1) ls)
 
 -- the verdict on a pack's lines, with the counts
 abbrev pub counted : ℕ → Pack → Judgement
@@ -108,16 +108,16 @@ counted k p = plain (numbers 0 k (length (p .rules)) (multiplierLines (p .rules)
 abbrev Judged : Written → ℕ → List Bytes → Pack → Type 0
 Judged w k ls q = judge w k ls ≡ counted (k + length ls) q
 
-judged-behind : (p q : Pack) (k : ℕ) (fields : List Bytes) (ls : List Bytes) (w : Written) → Read p fields w → Judged w (k + 1) ls q → Judged (before p) k (line fields ∷ ls) q
+judged-after : (p q : Pack) (k : ℕ) (fields : List Bytes) (ls : List Bytes) (w : Written) → Read p fields w → Judged w (k + 1) ls q → Judged (before p) k (line fields ∷ ls) q
 unfolding judge
-judged-behind p q k fields ls w read judged = rw (read .faultless, read .writes, judged) (ap (λ (n : ℕ). counted n q) (omega arith))
+judged-after p q k fields ls w read judged = rw (read .faultless, read .writes, judged) (ap (λ (n : ℕ). counted n q) (omega arith))
 
-judged-last : (q : Pack) (k : ℕ) → Judged (behind q) k [] q
+judged-last : (q : Pack) (k : ℕ) → Judged (after q) k [] q
 unfolding judge
 judged-last q k = rw (add-zero k)
 
 pub judged-run : (p q : Pack) (k : ℕ) (fields : List (List Bytes)) → Run p fields q → isComplete q ≡ true
     → ((l : Bytes) → l ∈ map line (fields ++ (endLine ∷ [])) → length l ≤ lineLimit) → judge (before p) k (map line (fields ++ (endLine ∷ []))) ≡ counted (k + length (map line (fields ++ (endLine ∷ [])))) q
-judged-run p q k fields stay c short = judged-behind p p k endLine [] (behind p) (read-fine p endLine (behind p) (end c) (short _ (List·Memᴰ·head refl))) (judged-last p (k + 1))
+judged-run p q k fields stay c short = judged-after p p k endLine [] (after p) (read-fine p endLine (after p) (end c) (short _ (List·Memᴰ·head refl))) (judged-last p (k + 1))
 judged-run p q k fields (go {q = r} {fields = f} {rest = rest} s run) c short =
-    judged-behind p q k f _ (before r) (read-fine p f (before r) (step s) (short _ (List·Memᴰ·head refl))) (judged-run r q (k + 1) rest run c (λ l m. short l (List·Memᴰ·tail m)))
+    judged-after p q k f _ (before r) (read-fine p f (before r) (step s) (short _ (List·Memᴰ·head refl))) (judged-run r q (k + 1) rest run c (λ l m. short l (List·Memᴰ·tail m)))

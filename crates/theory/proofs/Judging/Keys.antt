@@ -4,7 +4,7 @@ use mathlib.Core.Bool.{true, cond}
 use mathlib.Core.Logic.{_⊎_, inl, inr}
 use mathlib.Core.List.{List, [], _∷_, List·Memᴰ·head, List·Memᴰ·tail, List·Memᴰ·not-nil}
 use mathlib.Core.Option.{some, Option·some-injective, Option·none-ne-some}
-use Rattle.integers.proofs.Truth.{by-truth}
+use Rattle.groundwork.proofs.Truth.{by-truth}
 use Rattle.theory.specs.Lists.{_∈_}
 use Rattle.theory.specs.Packs.{Predicate, Claim, Key, sameKey, keyOf, claimKey, declaredAs, claimsOn}
 use Rattle.theory.proofs.Reading.Bytes.{same-refl, same-equal}

@@ -6,7 +6,7 @@ use Rattle.theory.specs.Lists.{_∈_}
 use Rattle.theory.specs.Packs.{Rule}
 use Rattle.theory.specs.Written.{onLast}
 use Rattle.theory.specs.Faults.{lastOf}
-use Rattle.integers.proofs.Lists.{member-unempty, end-cases}
+use Rattle.groundwork.proofs.Lists.{member-unempty, end-cases}
 
 pub lastOf-end : (before : Rule) (rs : List Rule) (r : Rule) → lastOf before (rs ++ (r ∷ [])) ≡ r
 unfolding lastOf

@@ -9,10 +9,12 @@ use lib.Seq.{drop-cons}
 use Rattle.theory.specs.Lists.{every}
 use Rattle.theory.specs.Text.{Bytes, bytes, same, between, fieldsOf}
 use Rattle.theory.specs.Packs.{Pack, variableLimit, line, endLine, lineLimit}
-use Rattle.theory.specs.Written.{Letter, P, C, H, B, M, E, noLetter, lineLetter, field, Written, add, write}
+use Rattle.theory.specs.declared.Letter.{Letter}
+use Rattle.theory.specs.declared.Letter.the-variants.{P, C, H, B, M, E, NoLetter}
+use Rattle.theory.specs.Written.{lineLetter, field, Written, add, write}
 use Rattle.theory.specs.Residuals.{ruleVariables}
 use Rattle.theory.specs.Faults.{test, isUnfit, lastRule, isComplete, mayStand, predicateTests, claimTests, atomTests, headTests, subgoalTests, multiplierTests, tests, fault}
-use Rattle.integers.proofs.Truth.{not-false, never-both, or-not-left, or-not-right, ltb-ge, eqb-equal}
+use Rattle.groundwork.proofs.Truth.{not-false, never-both, or-not-left, or-not-right, ltb-ge, eqb-equal}
 use Rattle.theory.proofs.Judging.AtomLines.{head-step, subgoal-step, head-readable, subgoal-readable}
 use Rattle.theory.proofs.Judging.ClaimLines.{claim-step, claim-readable}
 use Rattle.theory.proofs.Judging.Faultless.{Faultless, Adds, Readable}
@@ -26,13 +28,13 @@ use Rattle.theory.proofs.Judging.Tests.{Clear, _then_, Numbered, clear-
 abbrev pub before : Pack → Written
 before p = record { pack = p; ended = false }
 
-abbrev pub behind : Pack → Written
-behind p = record { pack = p; ended = true }
+abbrev pub after : Pack → Written
+after p = record { pack = p; ended = true }
 
 -- what a line with no fault is: a step, or the end
 pub data Fine (p : Pack) : List Bytes → Written → Type 0 where
   step : {fields : List Bytes} {q : Pack} → Step p fields q → Fine p fields (before q)
-  end : isComplete p ≡ true → Fine p endLine (behind p)
+  end : isComplete p ≡ true → Fine p endLine (after p)
 
 -- ---- a line without fault
 
@@ -44,7 +46,7 @@ tests-numbered H fields p = omega arith
 tests-numbered B fields p = omega arith
 tests-numbered M fields p = omega arith
 tests-numbered E fields p = omega arith
-tests-numbered noLetter fields p = tt
+tests-numbered NoLetter fields p = tt
 
 -- what the tests say of a line without fault
 record Passed (w : Written) (l : Bytes) : Type 0 where
@@ -84,8 +86,8 @@ fine-letter C p fields few h = step (claim-step p fields h)
 fine-letter H p fields few h = step (head-step p fields h)
 fine-letter B p fields few h = step (subgoal-step p fields h)
 fine-letter M p fields few h = step (multiplier-step p fields few h)
-fine-letter E p fields few h = subst (λ (fs : List Bytes). Fine p fs (behind p)) (end-again p fields h) (end (h .stands))
-fine-letter noLetter p fields few h = never-both (h .stands) refl
+fine-letter E p fields few h = subst (λ (fs : List Bytes). Fine p fs (after p)) (end-again p fields h) (end (h .stands))
+fine-letter NoLetter p fields few h = never-both (h .stands) refl
 
 pub fine-from-fault : (p : Pack) (l : Bytes) → length (ruleVariables (lastRule p .head) (lastRule p .subgoals)) ≤ variableLimit
     → fault (before p) l ≡ 0 → Fine p (fieldsOf l) (write (before p) l)
@@ -105,8 +107,8 @@ unfolding isUnfit
 short-from-fault w l e = ltb-ge lineLimit (length l) (or-not-left _ (not (every (between 32 126) l)) (passed w l e .fit))
 
 -- after `E` nothing may come
-pub fault-behind-end : (p : Pack) (l : Bytes) → fault (behind p) l ≡ 0 → ⊥
-fault-behind-end p l e = never-both refl (passed (behind p) l e .unended)
+pub fault-after-end : (p : Pack) (l : Bytes) → fault (after p) l ≡ 0 → ⊥
+fault-after-end p l e = never-both refl (passed (after p) l e .unended)
 
 -- ---- a line written
 

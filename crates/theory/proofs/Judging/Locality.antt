@@ -10,7 +10,9 @@ use Rattle.theory.specs.Lists.{isEmpty, _∈_}
 use Rattle.theory.specs.Text.{Bytes, fieldsOf}
 use Rattle.theory.specs.Terms.{Measure, structural}
 use Rattle.theory.specs.Packs.{Claim, Atom, Pack, ruleLimit, atomKey, declaredAs, claimsOn, claimsOnAll}
-use Rattle.theory.specs.Written.{Letter, H, B, M, lineLetter, atomFrom, multipliersFrom}
+use Rattle.theory.specs.declared.Letter.{Letter}
+use Rattle.theory.specs.declared.Letter.the-variants.{H, B, M}
+use Rattle.theory.specs.Written.{lineLetter, atomFrom, multipliersFrom}
 use Rattle.theory.specs.Residuals.{subgoalForms, residual}
 use Rattle.theory.specs.Faults.{lastRule, headClaims, isComplete, mayStand, residualDue, atomTests, headTests, subgoalTests, multiplierTests, tests, fault}
 use Rattle.theory.proofs.Judging.LineReading.{before}

@@ -11,11 +11,12 @@ use lib.Seq.{drop-cons}
 use Rattle.theory.specs.Lists.{every, _∈_, ending}
 use Rattle.theory.specs.Text.{Bytes, bytes, natural, decimal}
 use Rattle.theory.specs.Packs.{Pack, variableLimit, numberLimit, claimsOnAll, multiplierLine, onMultipliers, onRules, opening}
-use Rattle.theory.specs.Written.{M, field, multipliersFrom, multiplierFrom, add, onLast}
+use Rattle.theory.specs.declared.Letter.the-variants.{M}
+use Rattle.theory.specs.Written.{field, multipliersFrom, multiplierFrom, add, onLast}
 use Rattle.theory.specs.Residuals.{ruleVariables}
 use Rattle.theory.specs.Faults.{isMultiplier, lastRule, isComplete, residualDue, mayStand, multiplierTests, tests}
 use Rattle.theory.specs.Limits.{MultipliersFit, JustifiedBy}
-use Rattle.integers.proofs.Truth.{not-true, not-false, eqb-equal, equal-eqb}
+use Rattle.groundwork.proofs.Truth.{not-true, not-false, eqb-equal, equal-eqb}
 use Rattle.theory.proofs.Reading.FieldValues.{values-written, values-within, written-read, written-values}
 use Rattle.theory.proofs.Judging.Faultless.{Faultless, Adds, Readable}
 use Rattle.theory.proofs.Reading.Letters.{letterField}

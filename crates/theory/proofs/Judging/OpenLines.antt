@@ -2,7 +2,7 @@
 use mathlib.Core.Path.{_≡_, sym, _∙_, ap}
 use mathlib.Core.List.{List, [], _∷_, _++_, map, flatMap, append-assoc, append-nil, map-append, dropLast}
 use Prim.Native.Nat.{ℕ}
-use Rattle.integers.proofs.Lists.{flatMap-end}
+use Rattle.groundwork.proofs.Lists.{flatMap-end}
 use Rattle.theory.specs.Lists.{ending}
 use Rattle.theory.specs.Text.{Bytes}
 use Rattle.theory.specs.Packs.{Predicate, Claim, Atom, Rule, Pack, predicateLine, claimLine, headLine, subgoalLine, multiplierLine, ruleLines, openLines, onSubgoals, onMultipliers, onPredicates, onClaims, headAlone, onRules, fromRules, fromClaims, fromPredicates}

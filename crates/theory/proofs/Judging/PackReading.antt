@@ -4,19 +4,20 @@ use mathlib.Core.Bool.{true}
 use mathlib.Core.List.{List, [], _∷_, _++_, map, flatMap, map-append, List·Memᴰ·not-nil}
 use Prim.Native.Nat.{ℕ, _≤_}
 use lib.IntN.{ℤ, natAbs}
-use Rattle.integers.proofs.Lists.{flatMap-end, flatMap-single, split-member, grown, all-cons, all-append}
+use Rattle.groundwork.proofs.Lists.{flatMap-end, flatMap-single, split-member, grown, all-cons, all-append}
 use Rattle.theory.specs.Lists.{_∈_, ending}
 use Rattle.theory.specs.Text.{Bytes, bytes, same, isName, linesOf}
 use Rattle.theory.specs.Terms.{AllWellFormed}
 use Rattle.theory.specs.Packs.{Predicate, Claim, Atom, Rule, Pack, numberLimit, predicateLine, claimLine, subgoalLine, multiplierLine, endLine, ruleLines, openLines, line, packLines, written, onSubgoals, onMultipliers, fromRules, fromClaims, fromPredicates}
-use Rattle.theory.specs.Written.{Letter, Written, nothing, write, writeAll, packOf}
+use Rattle.theory.specs.declared.Letter.{Letter}
+use Rattle.theory.specs.Written.{Written, nothing, write, writeAll, packOf}
 use Rattle.theory.specs.Limits.{PredicateFits, Fits}
 use Rattle.theory.proofs.Judging.AtomLines.{head-adds, subgoal-adds}
 use Rattle.theory.proofs.Judging.ClaimLines.{claim-adds}
 use Rattle.theory.proofs.Judging.Faultless.{Adds}
 use Rattle.theory.proofs.Judging.LastRule.{onLast-end}
 use Rattle.theory.proofs.Reading.Letters.{letterField}
-use Rattle.theory.proofs.Judging.LineReading.{before, behind, end-adds, writes-line}
+use Rattle.theory.proofs.Judging.LineReading.{before, after, end-adds, writes-line}
 use Rattle.theory.proofs.Judging.MultiplierLines.{multiplier-adds}
 use Rattle.theory.proofs.Reading.PlainFields.{line-free}
 use Rattle.theory.proofs.Judging.PredicateLines.{predicate-adds}
@@ -121,7 +122,7 @@ rule-leads ps cs earlier r spelled =
     multipliers : (mss : List (List ℕ)) (ms : List ℕ) → ms ∈ r .multipliers → Lead (before (begun (r .subgoals) mss)) (multiplierLine ms ∷ []) (before (begun (r .subgoals) (mss ++ (ms ∷ []))))
     multipliers mss ms m = rw (← onLast-end (onMultipliers (ending ms)) earlier (rule (r .subgoals) mss)) (lead-line (multiplier-adds ms (spelled .multipliers ms m) (begun (r .subgoals) mss)))
 
-pack-leads : (p : Pack) → Spelled p → Lead nothing (openLines p ++ (endLine ∷ [])) (behind p)
+pack-leads : (p : Pack) → Spelled p → Lead nothing (openLines p ++ (endLine ∷ [])) (after p)
 unfolding fromPredicates fromClaims fromRules nothing letterField same bytes
 pack-leads p spelled =
     let ps = p .predicates in

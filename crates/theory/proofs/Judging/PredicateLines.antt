@@ -10,10 +10,11 @@ use lib.Seq.{drop-cons}
 use Rattle.theory.specs.Lists.{every, isSome, ending}
 use Rattle.theory.specs.Text.{Bytes, bytes, natural, decimal}
 use Rattle.theory.specs.Packs.{Kind, given, ruled, Predicate, Pack, predicateLimit, keyOf, declaredAs, kindLetter, predicateLine, onPredicates, fromClaims}
-use Rattle.theory.specs.Written.{P, field, predicateFrom, add}
+use Rattle.theory.specs.declared.Letter.the-variants.{P}
+use Rattle.theory.specs.Written.{field, predicateFrom, add}
 use Rattle.theory.specs.Faults.{isKind, mayStand, predicateTests, tests}
 use Rattle.theory.specs.Limits.{PredicateFits}
-use Rattle.integers.proofs.Truth.{not-false, and-left, and-right, and-both, eqb-equal, leb-gt, gt-leb}
+use Rattle.groundwork.proofs.Truth.{not-false, and-left, and-right, and-both, eqb-equal, leb-gt, gt-leb}
 use Rattle.theory.proofs.Reading.Bytes.{isFieldByte}
 use Rattle.theory.proofs.Reading.FieldValues.{value-read, kind-written, written-kind, written-is-kind}
 use Rattle.theory.proofs.Judging.Faultless.{Faultless, Adds, Readable}

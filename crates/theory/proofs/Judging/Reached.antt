@@ -13,7 +13,7 @@ use Rattle.theory.specs.Packs.{Predicate, Claim, Rule, Pack, predicateLi
 use Rattle.theory.specs.Faults.{noRule, lastRule, isComplete}
 use Rattle.theory.specs.Limits.{PredicateFits, ClaimFits}
 use Rattle.theory.specs.Written.{onLast}
-use Rattle.integers.proofs.Lists.{member-unempty, length-end, all-end, end-split, dropLast-end, dropLast-member}
+use Rattle.groundwork.proofs.Lists.{member-unempty, length-end, all-end, end-split, dropLast-end, dropLast-member}
 use Rattle.theory.proofs.Judging.Sections.{no-claims, no-rules, no-rules-either}
 use Rattle.theory.proofs.Judging.LastRule.{last-parts, onLast-parts, last-member, last-cases}
 use Rattle.theory.proofs.Judging.Completeness.{IsWhole, whole-from-complete, rule-from-incomplete, due-from-incomplete}
@@ -37,7 +37,7 @@ pub record Reached (p : Pack) : Type 0 where
   pub fewRules : length (p .rules) ≤ ruleLimit
 
 distinct-end : (ps : List Predicate) (x : Predicate) → Distinct ps → declaredAs (keyOf x) ps ≡ none → Distinct (ps ++ (x ∷ []))
-distinct-end ps x distinct new before behind y e = cases (end-split ps before behind y x e)
+distinct-end ps x distinct new before after y e = cases (end-split ps before after y x e)
   where
     cases : ((before ≡ ps) × (y ≡ x)) ⊎ ((rest : List Predicate) × (ps ≡ before ++ (y ∷ rest))) → declaredAs (keyOf y) before ≡ none
     cases (inl last) = rw (last .0, last .1) new

@@ -13,7 +13,7 @@ use Rattle.theory.specs.Forms.{Form}
 use Rattle.theory.specs.Packs.{variableLimit}
 use Rattle.theory.specs.Residuals.{residualNumbers, isJustified}
 use Rattle.theory.specs.Limits.{NonNegative}
-use Rattle.integers.proofs.Order.{nonneg-test, test-nonneg}
+use Rattle.groundwork.proofs.Order.{nonneg-test, test-nonneg}
 use Rattle.theory.proofs.Reading.Every.{every-first, every-cons, every-member, members-every, every-append, every-taken, every-take, every-replicate}
 
 -- the numbers that are not zeros put after

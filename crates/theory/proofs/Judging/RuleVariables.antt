@@ -10,7 +10,7 @@ use Rattle.theory.specs.Text.{Bytes, among}
 use Rattle.theory.specs.Terms.{allVariables}
 use Rattle.theory.specs.Packs.{Atom}
 use Rattle.theory.specs.Residuals.{numbered, atomsVariables, ruleVariables}
-use Rattle.integers.proofs.Lists.{length-end}
+use Rattle.groundwork.proofs.Lists.{length-end}
 
 pub numbered-length : (seen xs : List Bytes) → length seen ≤ length (numbered seen xs)
 unfolding numbered
@@ -31,10 +31,10 @@ unfolding atomsVariables
 atomsVariables-append [] rest = refl
 atomsVariables-append (a ∷ first) rest = ap (λ (l : List Bytes). allVariables (a .terms) ++ l) (atomsVariables-append first rest) ∙ sym (append-assoc (allVariables (a .terms)) (atomsVariables first) (atomsVariables rest))
 
-pub variables-of-more : (head : Atom) (before behind : List Atom) → ruleVariables head (before ++ behind) ≡ numbered (ruleVariables head before) (atomsVariables behind)
+pub variables-of-more : (head : Atom) (before after : List Atom) → ruleVariables head (before ++ after) ≡ numbered (ruleVariables head before) (atomsVariables after)
 unfolding ruleVariables
-variables-of-more head before behind = ap (numbered []) (atomsVariables-append (head ∷ before) behind) ∙ numbered-append [] (atomsVariables (head ∷ before)) (atomsVariables behind)
+variables-of-more head before after = ap (numbered []) (atomsVariables-append (head ∷ before) after) ∙ numbered-append [] (atomsVariables (head ∷ before)) (atomsVariables after)
 
-pub variables-of-fewer : (head : Atom) (before behind : List Atom) → length (ruleVariables head before) ≤ length (ruleVariables head (before ++ behind))
-variables-of-fewer head before behind =
-    subst (λ (l : List Bytes). length (ruleVariables head before) ≤ length l) (sym (variables-of-more head before behind)) (numbered-length (ruleVariables head before) (atomsVariables behind))
+pub variables-of-fewer : (head : Atom) (before after : List Atom) → length (ruleVariables head before) ≤ length (ruleVariables head (before ++ after))
+variables-of-fewer head before after =
+    subst (λ (l : List Bytes). length (ruleVariables head before) ≤ length l) (sym (variables-of-more head before after)) (numbered-length (ruleVariables head before) (atomsVariables after))

@@ -9,7 +9,7 @@ use Rattle.theory.specs.Text.{Bytes}
 use Rattle.theory.specs.Packs.{Rule, Pack, claimsOn, openLines, opening, emptyPack, fromRules, fromClaims, fromPredicates}
 use Rattle.theory.specs.Faults.{isComplete}
 use Rattle.theory.specs.Limits.{RuleFits, Fits, Justified, ShortLines, ShortText}
-use Rattle.integers.proofs.Lists.{split-member}
+use Rattle.groundwork.proofs.Lists.{split-member}
 use Rattle.theory.proofs.Judging.Completeness.{IsWhole, complete-from-whole}
 use Rattle.theory.proofs.Judging.OpenLines.{run-adds}
 use Rattle.theory.proofs.Judging.Begun.{Begun}

@@ -2,11 +2,11 @@
 use mathlib.Core.Path.{_≡_, refl, sym, _∙_, ap}
 use mathlib.Core.Bool.{Bool, true, _&&_}
 use mathlib.Core.List.{List, [], _∷_, _++_, map, flatMap}
-use Rattle.integers.proofs.Truth.{and-left, and-right}
+use Rattle.groundwork.proofs.Truth.{and-left, and-right}
 use Rattle.theory.specs.Lists.{isEmpty}
 use Rattle.theory.specs.Text.{Bytes}
 use Rattle.theory.specs.Packs.{Pack, Rule, claimLine, ruleLines, fromRules, fromClaims}
-use Rattle.theory.specs.Written.{P, C}
+use Rattle.theory.specs.declared.Letter.the-variants.{P, C}
 use Rattle.theory.specs.Faults.{mayStand}
 use Rattle.theory.proofs.Reading.Presence.{is-empty, empty-is}
 

@@ -16,6 +16,15 @@ infixr 10 _then_
 abbrev pub _then_ : {X Y : Type 0} → X → Y → X × Y
 _then_ x y = (x, y)
 
+-- one test in front
+pub first-passed : (n : ℕ) (finds : Bool) (ts : List Test) → finds ≡ false → firstOf (test n finds ∷ ts) ≡ firstOf ts
+unfolding firstOf
+first-passed n finds ts e = rw e
+
+pub first-found : (n : ℕ) (finds : Bool) (ts : List Test) → finds ≡ true → firstOf (test n finds ∷ ts) ≡ n
+unfolding firstOf
+first-found n finds ts e = rw e
+
 -- no test has the number that says there is no fault
 abbrev pub Numbered : List Test → Type 0
 Numbered [] = Unit {0}

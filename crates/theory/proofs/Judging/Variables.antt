@@ -4,8 +4,8 @@ use mathlib.Core.Logic.{⊎-elim}
 use mathlib.Core.Bool.{true, false, cond, _||_}
 use mathlib.Core.List.{List, [], _∷_, _++_}
 use mathlib.Core.List.{List·Memᴰ·head, List·Memᴰ·tail, Memᴰ·append-left, Memᴰ·append-right, Memᴰ·cast}
-use Rattle.integers.proofs.Lists.{end-cases}
-use Rattle.integers.proofs.Truth.{by-truth, never-both, or-not-left, or-not-right}
+use Rattle.groundwork.proofs.Lists.{end-cases}
+use Rattle.groundwork.proofs.Truth.{by-truth, never-both, or-not-left, or-not-right}
 use Rattle.theory.specs.Lists.{_∈_}
 use Rattle.theory.specs.Text.{Bytes, same, among}
 use Rattle.theory.specs.Terms.{allVariables}
@@ -32,12 +32,12 @@ pub data Once : List Bytes → Type 0 where
   once-none : Once []
   once-more : {x : Bytes} {xs : List Bytes} → (x ∈ xs → ⊥) → Once xs → Once (x ∷ xs)
 
-once-behind : {xs : List Bytes} (x : Bytes) → Once xs → (x ∈ xs → ⊥) → Once (xs ++ (x ∷ []))
-once-behind x once-none new = once-more new once-none
-once-behind x (once-more {x = y} {xs = xs} apart rest) new =
+once-after : {xs : List Bytes} (x : Bytes) → Once xs → (x ∈ xs → ⊥) → Once (xs ++ (x ∷ []))
+once-after x once-none new = once-more new once-none
+once-after x (once-more {x = y} {xs = xs} apart rest) new =
     once-more
     (λ m. ⊎-elim apart (λ e. new (List·Memᴰ·head (sym e))) (end-cases xs m))
-    (once-behind x rest (λ m. new (List·Memᴰ·tail m)))
+    (once-after x rest (λ m. new (List·Memᴰ·tail m)))
 
 -- ---- numbered
 
@@ -45,7 +45,7 @@ pub numbered-once : (seen xs : List Bytes) → Once seen → Once (numbered seen
 unfolding numbered
 numbered-once seen [] once = once
 numbered-once seen (x ∷ xs) once = numbered-once (cond (among x seen) seen (seen ++ (x ∷ []))) xs
-    (by-truth (λ b. Once (cond b seen (seen ++ (x ∷ [])))) (among x seen) (λ h. once) (λ h. once-behind x once (not-among x seen h)))
+    (by-truth (λ b. Once (cond b seen (seen ++ (x ∷ [])))) (among x seen) (λ h. once) (λ h. once-after x once (not-among x seen h)))
 
 -- what was seen stays
 pub seen-numbered : (seen ys : List Bytes) {x : Bytes} → x ∈ seen → x ∈ numbered seen ys

@@ -4,7 +4,7 @@ use mathlib.Core.Bool.{Bool, true, false, not, _&&_, false≢true}
 use mathlib.Core.List.{[], _∷_}
 use Prim.Native.Nat.{ℕ, _≤_}
 use lib.Dec.{eqb, leb}
-use Rattle.integers.proofs.Truth.{and-left, and-right, and-both, eqb-equal, eqb-same, leb-le, le-leb, never-both}
+use Rattle.groundwork.proofs.Truth.{and-left, and-right, and-both, eqb-equal, eqb-same, leb-le, le-leb, never-both}
 use Rattle.theory.specs.Lists.{every}
 use Rattle.theory.specs.Text.{Bytes, same, between}
 use Rattle.theory.proofs.Reading.Every.{every-within}

@@ -6,9 +6,9 @@ use Prim.Native.Nat.{ℕ, zero, suc, _+_, _-_, _*_, _/_, _%_, _≤_, _<_}
 use native.Mathlib.Nat.{zero-add}
 use native.Mathlib.Omega.{arith}
 use lib.Dec.{eqb, ltb}
-use Rattle.integers.proofs.Truth.{and-left, and-right, and-both, not-true, eqb-unequal, eqb-different, ltb-lt, ltb-ge, lt-ltb, ge-ltb}
+use Rattle.groundwork.proofs.Truth.{and-left, and-right, and-both, not-true, eqb-unequal, eqb-different, ltb-lt, ltb-ge, lt-ltb, ge-ltb}
 use Rattle.theory.specs.Lists.{every}
-use Rattle.theory.specs.Text.{Bytes, isDigit, isDecimal, valueBehind, lastDigits, decimal}
+use Rattle.theory.specs.Text.{Bytes, isDigit, isDecimal, valueAfter, lastDigits, decimal}
 use Rattle.theory.proofs.Reading.Bytes.{between-from, between-low, between-high}
 use Rattle.theory.proofs.Reading.Every.{every-append}
 
@@ -65,8 +65,8 @@ digits-by-tens P one more (suc k) n h = go (ltb n 10) refl (digits-by-tens P one
 
 -- ---- what is written has the value
 
-value-snoc : (n : ℕ) (bs : Bytes) (b : ℕ) → valueBehind n (bs ++ (b ∷ [])) ≡ valueBehind n bs * 10 + (b - 48)
-unfolding valueBehind
+value-snoc : (n : ℕ) (bs : Bytes) (b : ℕ) → valueAfter n (bs ++ (b ∷ [])) ≡ valueAfter n bs * 10 + (b - 48)
+unfolding valueAfter
 value-snoc n [] b = refl
 value-snoc n (c ∷ bs) b = value-snoc (n * 10 + (c - 48)) bs b
 
@@ -79,16 +79,16 @@ decimal-digits (b ∷ c ∷ bs) h =
 
 -- decimal digits that write a number, with no leading zeros
 record Writes (n : ℕ) (bs : Bytes) : Type 0 where
-  value : valueBehind 0 bs ≡ n
+  value : valueAfter 0 bs ≡ n
   formed : isDecimal bs ≡ true
 
 writes-one : (d : ℕ) → d < 10 → Writes d (digit d ∷ [])
-unfolding isDecimal valueBehind
+unfolding isDecimal valueAfter
 writes-one d h = record { value = omega arith; formed = digit-is d h }
 
 -- one digit more after a number that is not 0
-formed-snoc : (bs : Bytes) (b : ℕ) → isDecimal bs ≡ true → 0 < valueBehind 0 bs → isDigit b ≡ true → isDecimal (bs ++ (b ∷ [])) ≡ true
-unfolding isDecimal valueBehind every
+formed-snoc : (bs : Bytes) (b : ℕ) → isDecimal bs ≡ true → 0 < valueAfter 0 bs → isDigit b ≡ true → isDecimal (bs ++ (b ∷ [])) ≡ true
+unfolding isDecimal valueAfter every
 formed-snoc [] b h k d = absurd (false≢true h)
 formed-snoc (c ∷ []) b h k d =
     and-both (leads c) (every isDigit (b ∷ [])) (and-both (isDigit c) (not (eqb c 48)) h (rw (eqb-different c 48 (λ q. omega arith)))) (and-both (isDigit b) true d refl)
@@ -103,7 +103,7 @@ decimal-writes : (n : ℕ) → Writes n (decimal n)
 unfolding decimal
 decimal-writes n = digits-by-tens Writes writes-one writes-more (suc n) n (omega arith)
 
-pub value-of-decimal : (n : ℕ) → valueBehind 0 (decimal n) ≡ n
+pub value-of-decimal : (n : ℕ) → valueAfter 0 (decimal n) ≡ n
 value-of-decimal n = decimal-writes n .value
 
 pub decimal-formed : (n : ℕ) → isDecimal (decimal n) ≡ true
@@ -124,26 +124,26 @@ decimal-more n d h k =
     digits-more m m (omega arith) ∙ ap₂ (λ (bs : Bytes) (b : ℕ). bs ++ (b ∷ [])) (ap (lastDigits m) tenth ∙ digits-enough m (suc n) n (omega arith) (omega arith)) (ap digit last)
 
 -- digits after a number's own digits
-decimal-behind : (n : ℕ) (bs : Bytes) → 0 < n → every isDigit bs ≡ true → decimal (valueBehind n bs) ≡ decimal n ++ bs
-unfolding valueBehind every
-decimal-behind n [] h k = sym (append-nil (decimal n))
-decimal-behind n (b ∷ bs) h k =
+decimal-after : (n : ℕ) (bs : Bytes) → 0 < n → every isDigit bs ≡ true → decimal (valueAfter n bs) ≡ decimal n ++ bs
+unfolding valueAfter every
+decimal-after n [] h k = sym (append-nil (decimal n))
+decimal-after n (b ∷ bs) h k =
     let d : isDigit b ≡ true = and-left (isDigit b) (every isDigit bs) k in
     let next : decimal (n * 10 + (b - 48)) ≡ decimal n ++ (b ∷ []) = decimal-more n (b - 48) h (digit-small b d) ∙ ap (λ (c : ℕ). decimal n ++ (c ∷ [])) (digit-back b d) in
-    decimal-behind (n * 10 + (b - 48)) bs (omega arith) (and-right (isDigit b) (every isDigit bs) k)
+    decimal-after (n * 10 + (b - 48)) bs (omega arith) (and-right (isDigit b) (every isDigit bs) k)
     ∙ (ap (λ (front : Bytes). front ++ bs) next ∙ append-assoc (decimal n) (b ∷ []) bs)
 
-decimal-of-digit : (b : ℕ) → isDigit b ≡ true → decimal (valueBehind 0 (b ∷ [])) ≡ b ∷ []
-unfolding valueBehind
+decimal-of-digit : (b : ℕ) → isDigit b ≡ true → decimal (valueAfter 0 (b ∷ [])) ≡ b ∷ []
+unfolding valueAfter
 decimal-of-digit b h = rw (zero-add (b - 48)) (decimal-one (b - 48) (digit-small b h) ∙ ap (λ (c : ℕ). c ∷ []) (digit-back b h))
 
-pub decimal-of-value : (bs : Bytes) → isDecimal bs ≡ true → decimal (valueBehind 0 bs) ≡ bs
-unfolding isDecimal valueBehind every
+pub decimal-of-value : (bs : Bytes) → isDecimal bs ≡ true → decimal (valueAfter 0 bs) ≡ bs
+unfolding isDecimal valueAfter every
 decimal-of-value [] h = absurd (false≢true h)
 decimal-of-value (b ∷ []) h = decimal-of-digit b h
 decimal-of-value (b ∷ c ∷ bs) h =
     let first : leads b ≡ true = and-left (leads b) (every isDigit (c ∷ bs)) h in
     let d : isDigit b ≡ true = and-left (isDigit b) (not (eqb b 48)) first in
-    let large : 0 < valueBehind 0 (b ∷ []) = omega (arith, between-low 48 57 b d, eqb-unequal b 48 (not-true (eqb b 48) (and-right (isDigit b) (not (eqb b 48)) first))) in
-    decimal-behind (valueBehind 0 (b ∷ [])) (c ∷ bs) large (and-right (leads b) (every isDigit (c ∷ bs)) h)
+    let large : 0 < valueAfter 0 (b ∷ []) = omega (arith, between-low 48 57 b d, eqb-unequal b 48 (not-true (eqb b 48) (and-right (isDigit b) (not (eqb b 48)) first))) in
+    decimal-after (valueAfter 0 (b ∷ [])) (c ∷ bs) large (and-right (leads b) (every isDigit (c ∷ bs)) h)
     ∙ ap (λ (front : Bytes). front ++ (c ∷ bs)) (decimal-of-digit b d)

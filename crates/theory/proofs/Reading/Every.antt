@@ -6,7 +6,7 @@ use Prim.Native.Nat.{ℕ, zero, suc, _≤_}
 use native.Mathlib.Omega.{arith}
 use lib.ListN.{length, take, replicate}
 use Rattle.theory.specs.Lists.{every, _∈_}
-use Rattle.integers.proofs.Truth.{and-left, and-right, and-both}
+use Rattle.groundwork.proofs.Truth.{and-left, and-right, and-both}
 
 module _ {A : Type 0} (test : A → Bool) where
   pub every-first : (a : A) (l : List A) → every test (a ∷ l) ≡ true → test a ≡ true

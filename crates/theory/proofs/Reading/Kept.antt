@@ -3,7 +3,7 @@ use mathlib.Core.Path.{_≡_, refl}
 use mathlib.Core.Bool.{Bool, true, false, cond}
 use mathlib.Core.Logic.{_⊎_, inl, inr}
 use mathlib.Core.List.{List, _∷_, List·Memᴰ·head, List·Memᴰ·tail}
-use Rattle.integers.proofs.Truth.{never-both}
+use Rattle.groundwork.proofs.Truth.{never-both}
 use Rattle.theory.specs.Lists.{_∈_}
 
 module _ {A : Type 0} where

@@ -3,8 +3,10 @@ use mathlib.Core.Path.{_≡_, refl}
 use mathlib.Core.Bool.{cond}
 use mathlib.Core.List.{[]}
 use Rattle.theory.specs.Text.{Bytes, bytes, same}
-use Rattle.theory.specs.Written.{Letter, P, C, H, B, M, E, noLetter, letterOf}
-use Rattle.integers.proofs.Truth.{by-truth}
+use Rattle.theory.specs.declared.Letter.{Letter}
+use Rattle.theory.specs.declared.Letter.the-variants.{P, C, H, B, M, E, NoLetter}
+use Rattle.theory.specs.Written.{letterOf}
+use Rattle.groundwork.proofs.Truth.{by-truth}
 use Rattle.theory.proofs.Reading.Bytes.{same-equal}
 
 -- the field that is a letter; the empty field is none
@@ -15,7 +17,7 @@ letterField H = bytes "H"
 letterField B = bytes "B"
 letterField M = bytes "M"
 letterField E = bytes "E"
-letterField noLetter = []
+letterField NoLetter = []
 
 pub letter-of-field : (letter : Letter) → letterOf (letterField letter) ≡ letter
 unfolding letterOf letterField same bytes
@@ -25,10 +27,10 @@ letter-of-field H = refl
 letter-of-field B = refl
 letter-of-field M = refl
 letter-of-field E = refl
-letter-of-field noLetter = refl
+letter-of-field NoLetter = refl
 
 -- a case split on the letter of a field that keeps what the field then is
-pub by-letter : (Q : Letter → Type 0) (f : Bytes) → ((letter : Letter) → f ≡ letterField letter → Q letter) → Q noLetter → Q (letterOf f)
+pub by-letter : (Q : Letter → Type 0) (f : Bytes) → ((letter : Letter) → f ≡ letterField letter → Q letter) → Q NoLetter → Q (letterOf f)
 unfolding letterOf letterField
 by-letter Q f lettered other =
     branch (bytes "P") P _ (lettered P)

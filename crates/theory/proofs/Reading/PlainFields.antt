@@ -9,10 +9,11 @@ use lib.IntN.{ℤ}
 use Rattle.theory.specs.Lists.{every, _∈_}
 use Rattle.theory.specs.Text.{Bytes, bytes, between, isName, decimal, signedDecimal, fieldsOf}
 use Rattle.theory.specs.Packs.{line, lineLimit}
-use Rattle.theory.specs.Written.{Letter, P, C, H, B, M, E, noLetter}
+use Rattle.theory.specs.declared.Letter.{Letter}
+use Rattle.theory.specs.declared.Letter.the-variants.{P, C, H, B, M, E, NoLetter}
 use Rattle.theory.specs.Faults.{isUnfit}
-use Rattle.integers.proofs.Lists.{all-cons}
-use Rattle.integers.proofs.Truth.{and-left, or-neither, ge-ltb}
+use Rattle.groundwork.proofs.Lists.{all-cons}
+use Rattle.groundwork.proofs.Truth.{and-left, or-neither, ge-ltb}
 use Rattle.theory.proofs.Reading.Bytes.{isFieldByte, token-field}
 use Rattle.theory.proofs.Reading.Every.{every-within}
 use Rattle.theory.proofs.Reading.Letters.{letterField}
@@ -49,7 +50,7 @@ letter-plain H = refl
 letter-plain B = refl
 letter-plain M = refl
 letter-plain E = refl
-letter-plain noLetter = refl
+letter-plain NoLetter = refl
 
 pub fields-of-line : (fields : List Bytes) → (fields ≡ [] → ⊥) → Plain fields → fieldsOf (line fields) ≡ fields
 fields-of-line [] some plain = absurd (some refl)

@@ -6,7 +6,7 @@ use mathlib.Core.Option.{Option, some, none}
 use Rattle.theory.specs.Lists.{isSome, isEmpty}
 use Rattle.theory.specs.Packs.{Predicate}
 use Rattle.theory.specs.Faults.{arityIn}
-use Rattle.integers.proofs.Truth.{never-both}
+use Rattle.groundwork.proofs.Truth.{never-both}
 
 module _ {A : Type 0} where
   pub some-is : (o : Option A) (a : A) → o ≡ some a → isSome o ≡ true

@@ -4,8 +4,8 @@ use mathlib.Core.Bool.{Bool, true, false, cond, not, false≢true}
 use mathlib.Core.List.{List, [], _∷_, _++_, List·Memᴰ·head, List·Memᴰ·tail, List·Memᴰ·not-nil}
 use Prim.Native.Nat.{ℕ}
 use lib.Dec.{eqb}
-use Rattle.integers.proofs.Lists.{all-cons}
-use Rattle.integers.proofs.Truth.{by-truth, never-both, and-both, not-true, eqb-equal, eqb-same}
+use Rattle.groundwork.proofs.Lists.{all-cons}
+use Rattle.groundwork.proofs.Truth.{by-truth, never-both, and-both, not-true, eqb-equal, eqb-same}
 use Rattle.theory.specs.Lists.{every, _∈_}
 use Rattle.theory.specs.Text.{Bytes, onFirst, partsAt, joined, linesOf}
 use Rattle.theory.specs.Packs.{textOf}
@@ -160,17 +160,17 @@ text-of-lines (b ∷ c ∷ bs) h =
     (λ e. ap₂ _∷_ (sym (eqb-equal b 10 e)) (text-of-lines (c ∷ bs) h))
     (λ _. text-onFirst b (linesOf (c ∷ bs)) (cut-cons 10 linesOf lines-cut c bs) ∙ ap (λ (rest : Bytes). b ∷ rest) (text-of-lines (c ∷ bs) h))
 
-finished-behind : (l : Bytes) (b : ℕ) (bs : Bytes) → isFinished (b ∷ bs) ≡ true → isFinished (l ++ b ∷ bs) ≡ true
+finished-after : (l : Bytes) (b : ℕ) (bs : Bytes) → isFinished (b ∷ bs) ≡ true → isFinished (l ++ b ∷ bs) ≡ true
 unfolding isFinished
-finished-behind [] b bs h = h
-finished-behind (x ∷ []) b bs h = h
-finished-behind (x ∷ y ∷ l) b bs h = finished-behind (y ∷ l) b bs h
+finished-after [] b bs h = h
+finished-after (x ∷ []) b bs h = h
+finished-after (x ∷ y ∷ l) b bs h = finished-after (y ∷ l) b bs h
 
 finished-below : (ls : List Bytes) → isFinished (10 ∷ textOf ls) ≡ true
 unfolding isFinished textOf
 finished-below [] = refl
-finished-below (l ∷ ls) = finished-behind (10 ∷ l) 10 (textOf ls) (finished-below ls)
+finished-below (l ∷ ls) = finished-after (10 ∷ l) 10 (textOf ls) (finished-below ls)
 
 pub finished-text : (l : Bytes) (ls : List Bytes) → isFinished (textOf (l ∷ ls)) ≡ true
 unfolding textOf
-finished-text l ls = finished-behind l 10 (textOf ls) (finished-below ls)
+finished-text l ls = finished-after l 10 (textOf ls) (finished-below ls)

@@ -8,9 +8,9 @@ use native.Mathlib.Omega.{arith}
 use lib.Dec.{eqb, leb}
 use lib.IntN.{ℤ, pos, negsuc, natAbs}
 use lib.ListN.{length}
-use Rattle.integers.proofs.Truth.{by-truth, and-left, and-right, and-both, eqb-equal, eqb-different, leb-le, le-leb}
+use Rattle.groundwork.proofs.Truth.{by-truth, and-left, and-right, and-both, eqb-equal, eqb-different, leb-le, le-leb}
 use Rattle.theory.specs.Lists.{every}
-use Rattle.theory.specs.Text.{Bytes, between, isLower, isUpper, isDigit, isNameByte, isWord, isName, isVariable, isDecimal, valueBehind, natural, negated, integer, decimal, signedDecimal}
+use Rattle.theory.specs.Text.{Bytes, between, isLower, isUpper, isDigit, isNameByte, isWord, isName, isVariable, isDecimal, valueAfter, natural, negated, integer, decimal, signedDecimal}
 use Rattle.theory.proofs.Reading.Bytes.{isTokenByte, between-low, between-high}
 use Rattle.theory.proofs.Reading.Every.{every-within}
 use Rattle.theory.proofs.Reading.Separators.{isFree, free-from}
@@ -24,13 +24,13 @@ natural-of-decimal limit n h = rw (decimal-formed n, value-of-decimal n, le-leb 
 
 natural-reads : (limit : ℕ) (bs : Bytes) (n : ℕ) → natural limit bs ≡ some n → (bs ≡ decimal n) × (n ≤ limit)
 unfolding natural
-natural-reads limit bs n = by-truth (λ (c : Bool). cond c (some (valueBehind 0 bs)) none ≡ some n → (bs ≡ decimal n) × (n ≤ limit)) (isDecimal bs && leb (valueBehind 0 bs) limit) good (λ _ e. absurd (Option·none-ne-some n e))
+natural-reads limit bs n = by-truth (λ (c : Bool). cond c (some (valueAfter 0 bs)) none ≡ some n → (bs ≡ decimal n) × (n ≤ limit)) (isDecimal bs && leb (valueAfter 0 bs) limit) good (λ _ e. absurd (Option·none-ne-some n e))
   where
-    good : (isDecimal bs && leb (valueBehind 0 bs) limit) ≡ true → some (valueBehind 0 bs) ≡ some n → (bs ≡ decimal n) × (n ≤ limit)
+    good : (isDecimal bs && leb (valueAfter 0 bs) limit) ≡ true → some (valueAfter 0 bs) ≡ some n → (bs ≡ decimal n) × (n ≤ limit)
     good t e =
-        let value : valueBehind 0 bs ≡ n = Option·some-injective (valueBehind 0 bs) n e in
-        let formed : isDecimal bs ≡ true = and-left (isDecimal bs) (leb (valueBehind 0 bs) limit) t in
-        let small : valueBehind 0 bs ≤ limit = leb-le (valueBehind 0 bs) limit (and-right (isDecimal bs) (leb (valueBehind 0 bs) limit) t) in
+        let value : valueAfter 0 bs ≡ n = Option·some-injective (valueAfter 0 bs) n e in
+        let formed : isDecimal bs ≡ true = and-left (isDecimal bs) (leb (valueAfter 0 bs) limit) t in
+        let small : valueAfter 0 bs ≤ limit = leb-le (valueAfter 0 bs) limit (and-right (isDecimal bs) (leb (valueAfter 0 bs) limit) t) in
         (sym (decimal-of-value bs formed) ∙ ap decimal value, omega arith)
 
 pub decimal-of-natural : (limit : ℕ) (bs : Bytes) (n : ℕ) → natural limit bs ≡ some n → bs ≡ decimal n

@@ -13,24 +13,24 @@ use Rattle.theory.proofs.Reading.Separators.{joined-of-parts}
 -- ---- parts with separators between them
 
 -- the lengths of parts, each with the separator before it
-unfoldable pub lengthsBehind : List Bytes → ℕ
-lengthsBehind [] = 0
-lengthsBehind (part ∷ parts) = suc (length part) + lengthsBehind parts
+unfoldable pub lengthsAfter : List Bytes → ℕ
+lengthsAfter [] = 0
+lengthsAfter (part ∷ parts) = suc (length part) + lengthsAfter parts
 
-pub joined-length : (separator : ℕ) (first : Bytes) (parts : List Bytes) → length (joined separator (first ∷ parts)) ≡ length first + lengthsBehind parts
-unfolding joined lengthsBehind
+pub joined-length : (separator : ℕ) (first : Bytes) (parts : List Bytes) → length (joined separator (first ∷ parts)) ≡ length first + lengthsAfter parts
+unfolding joined lengthsAfter
 joined-length separator first [] = omega arith
 joined-length separator first (next ∷ parts) =
     omega (arith, length-append first (separator ∷ joined separator (next ∷ parts)), joined-length separator next parts)
 
-pub count-behind : (parts : List Bytes) → length parts ≤ lengthsBehind parts
-unfolding lengthsBehind
-count-behind [] = omega arith
-count-behind (part ∷ parts) = omega (arith, count-behind parts)
+pub count-after : (parts : List Bytes) → length parts ≤ lengthsAfter parts
+unfolding lengthsAfter
+count-after [] = omega arith
+count-after (part ∷ parts) = omega (arith, count-after parts)
 
 pub joined-count : (separator : ℕ) (parts : List Bytes) → length parts ≤ suc (length (joined separator parts))
 joined-count separator [] = omega arith
-joined-count separator (part ∷ parts) = omega (arith, joined-length separator part parts, count-behind parts)
+joined-count separator (part ∷ parts) = omega (arith, joined-length separator part parts, count-after parts)
 
 pub parts-count : (separator : ℕ) (bs : Bytes) → length (partsAt separator bs) ≤ suc (length bs)
 parts-count separator bs = omega (arith, joined-count separator (partsAt separator bs), ap length (joined-of-parts separator bs))
@@ -47,12 +47,12 @@ tokens-written t = joined-count (code " ") (tokens t)
 
 -- ---- the terms of a line
 
-pub terms-length : (ts : Terms) → tokenCount ts ≤ lengthsBehind (termFields ts)
-unfolding lengthsBehind termFields allTokens
+pub terms-length : (ts : Terms) → tokenCount ts ≤ lengthsAfter (termFields ts)
+unfolding lengthsAfter termFields allTokens
 terms-length nil = omega arith
 terms-length (cons t ts) = omega (arith, length-append (tokens t) (allTokens ts), tokens-written t, terms-length ts)
 
 -- a head's or a subgoal's line
 pub atom-line-length : (letter : Bytes) (a : Atom) → tokenCount (a .terms) ≤ length (line (letter ∷ a .name ∷ termFields (a .terms)))
-unfolding lengthsBehind
+unfolding lengthsAfter
 atom-line-length letter a = omega (arith, terms-length (a .terms), joined-length (code ",") letter (a .name ∷ termFields (a .terms)))

@@ -7,12 +7,12 @@ use Prim.Native.Nat.{ℕ, zero, suc, _≤_}
 use Rattle.theory.specs.Lists.{every, _∈_}
 use Rattle.theory.specs.Text.{Bytes, partsAt, joined}
 use Rattle.theory.specs.Terms.{Term, variable, symbol, Terms, nil, cons, arity, symbolToken, tokens, allTokens, writtenTerm, WellFormed, AllWellFormed}
-use Rattle.theory.specs.Terms.{Token, tokenOf, firstTerms, behind, behindAll, termsOf, theOnly, readTerm}
+use Rattle.theory.specs.Terms.{Token, tokenOf, firstTerms, after, afterAll, termsOf, theOnly, readTerm}
 use Rattle.theory.proofs.Reading.Bytes.{isFieldByte, isTokenByte, token-field}
 use Rattle.theory.proofs.Reading.Separators.{AllFree, free-from, parts-of-joined, joined-of-parts, every-joined}
 use Rattle.theory.proofs.Reading.Spelling.{variable-bytes}
 use Rattle.theory.proofs.Reading.Tokens.{ReadAs, as-variable, as-symbol, as-none, token-of-variable, token-of-symbol, read-as, symbol-bytes}
-use Rattle.integers.proofs.Lists.{all-cons, all-append}
+use Rattle.groundwork.proofs.Lists.{all-cons, all-append}
 
 -- ---- terms after terms
 
@@ -53,7 +53,7 @@ first-terms-cut (suc k) (cons t ts) = one-more (first-terms-cut k ts)
 -- ---- tokens written, then read
 
 mutual
-  unfolding tokens termsOf behind behindAll appended
+  unfolding tokens termsOf after afterAll appended
 
   terms-of-tokens : (t : Term) → WellFormed t → (ws : List Bytes) (us : Terms) → termsOf ws ≡ some us → termsOf (tokens t ++ ws) ≡ some (cons t us)
   terms-of-tokens (variable x) h ws us e = rw (e, token-of-variable x h)
@@ -70,23 +70,23 @@ data Reads (ws : List Bytes) : Option Terms → Type 0 where
   reads : (ts : Terms) → ws ≡ allTokens ts → AllWellFormed ts → Reads ws (some ts)
   reads-none : Reads ws none
 
-behind-reads : (w : Bytes) (ws : List Bytes) (us : Terms) (token : Token) → ReadAs w token → ws ≡ allTokens us → AllWellFormed us → Reads (w ∷ ws) (behind token us)
-unfolding behind tokens
-behind-reads w ws us token (as-variable named) e h = reads (cons (variable w) us) (ap (λ l. w ∷ l) e) (named, h)
-behind-reads w ws us token (as-symbol {f = f} {k = k} is named few) e h = with-arguments (first-terms-cut k us) is few e h
+after-reads : (w : Bytes) (ws : List Bytes) (us : Terms) (token : Token) → ReadAs w token → ws ≡ allTokens us → AllWellFormed us → Reads (w ∷ ws) (after token us)
+unfolding after tokens
+after-reads w ws us token (as-variable named) e h = reads (cons (variable w) us) (ap (λ l. w ∷ l) e) (named, h)
+after-reads w ws us token (as-symbol {f = f} {k = k} is named few) e h = with-arguments (first-terms-cut k us) is few e h
   where
     with-arguments : {k : ℕ} {us : Terms} {o : Option (Terms × Terms)} → Cut k us o → w ≡ symbolToken f k → k ≤ 9 → ws ≡ allTokens us → AllWellFormed us → Reads (w ∷ ws) (Option·map (λ (p : Terms × Terms). cons (symbol f (p .0)) (p .1)) o)
     with-arguments (cut ts vs) is few e h = let both = formed-appended ts vs h in reads (cons (symbol f ts) vs) (rw (is, e, tokens-appended ts vs)) ((named, few, both .0), both .1)
     with-arguments too-few is few e h = reads-none
-behind-reads w ws us token as-none e h = reads-none
+after-reads w ws us token as-none e h = reads-none
 
 terms-of-reads : (ws : List Bytes) → Reads ws (termsOf ws)
-unfolding termsOf behindAll allTokens
+unfolding termsOf afterAll allTokens
 terms-of-reads [] = reads nil refl tt
 terms-of-reads (w ∷ ws) = in-front (terms-of-reads ws)
   where
-    in-front : {o : Option Terms} → Reads ws o → Reads (w ∷ ws) (behindAll (tokenOf w) o)
-    in-front (reads us e h) = behind-reads w ws us (tokenOf w) (read-as w) e h
+    in-front : {o : Option Terms} → Reads ws o → Reads (w ∷ ws) (afterAll (tokenOf w) o)
+    in-front (reads us e h) = after-reads w ws us (tokenOf w) (read-as w) e h
     in-front reads-none = reads-none
 
 -- ---- the bytes of tokens

@@ -5,7 +5,7 @@ use mathlib.Core.List.{List, [], _∷_, _++_, List·Memᴰ·head, List·Memᴰ·
 use mathlib.Core.Option.{Option, some, none}
 use Prim.Native.Nat.{ℕ, _≤_}
 use lib.Dec.{eqb}
-use Rattle.integers.proofs.Truth.{by-truth, never-both, and-not-right}
+use Rattle.groundwork.proofs.Truth.{by-truth, never-both, and-not-right}
 use Rattle.theory.specs.Lists.{every}
 use Rattle.theory.specs.Text.{Bytes, partsAt, joined, isName, isVariable, natural, decimal}
 use Rattle.theory.specs.Terms.{symbolToken, Token, variableNamed, symbolOf, noToken, symbolFrom, symbolIn, tokenOf}
@@ -20,10 +20,10 @@ pub token-of-variable : (x : Bytes) → isVariable x ≡ true → tokenOf x ≡ 
 unfolding tokenOf
 token-of-variable x h = rw h
 
-slash-not-free : (before behind : Bytes) → isFree 47 (before ++ 47 ∷ behind) ≡ false
+slash-not-free : (before after : Bytes) → isFree 47 (before ++ 47 ∷ after) ≡ false
 unfolding every
-slash-not-free [] behind = refl
-slash-not-free (b ∷ before) behind = and-not-right (not (eqb b 47)) _ (slash-not-free before behind)
+slash-not-free [] after = refl
+slash-not-free (b ∷ before) after = and-not-right (not (eqb b 47)) _ (slash-not-free before after)
 
 -- a symbol's token is no variable: it has a `/`
 symbol-no-variable : (f : Bytes) (k : ℕ) → isVariable (symbolToken f k) ≡ false

@@ -6,7 +6,7 @@ use mathlib.Core.Option.{Option, some, none, Option·map, Option·getD, map-eq-s
 use Prim.Native.Nat.{ℕ, _≤_, _<_}
 use native.Mathlib.Omega.{arith}
 use lib.ListN.{drop}
-use Rattle.integers.proofs.Truth.{by-truth}
+use Rattle.groundwork.proofs.Truth.{by-truth}
 use Rattle.theory.specs.Lists.{_∈_}
 use Rattle.theory.specs.Text.{Bytes, bytes, same, natural, fieldsOf}
 use Rattle.theory.specs.Reserve.{sizeFrom, queryFrom, queryOf}

@@ -7,7 +7,7 @@ use Prim.Native.Char.{code}
 use native.Mathlib.Omega.{arith}
 use lib.IntN.{pos}
 use lib.Signed.{_≤ℤ_, ltZ-yes, ltZ-no, clashℤ}
-use Rattle.integers.proofs.Truth.{true-from, holds-from, fails-from, by-truth}
+use Rattle.groundwork.proofs.Truth.{true-from, holds-from, fails-from, by-truth}
 use Rattle.theory.specs.Lists.{_∈_}
 use Rattle.theory.specs.Packs.{Claim, Pack, claimsOn}
 use Rattle.theory.specs.Reserve.{Query, queryKey, numerator, Fields, fields, Usable, usableFrom, impossibles, smallest, bounded, impossibleOr, reservation}

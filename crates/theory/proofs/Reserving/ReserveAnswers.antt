@@ -8,7 +8,7 @@ use Prim.Native.Char.{code}
 use native.Mathlib.Omega.{arith}
 use lib.Dec.{eqb}
 use lib.ListN.{length, drop, length-map, length-drop}
-use Rattle.integers.proofs.Truth.{by-truth, never-both, eqb-equal, eqb-unequal, not-false, and-right, or-not-left, or-not-right}
+use Rattle.groundwork.proofs.Truth.{by-truth, never-both, eqb-equal, eqb-unequal, not-false, and-right, or-not-left, or-not-right}
 use Rattle.theory.specs.Lists.{isSome, _∈_}
 use Rattle.theory.specs.Text.{Bytes, bytes, same, isName, natural, lastDigits, decimal, fieldsOf}
 use Rattle.theory.specs.Packs.{Predicate, Pack, declaredAs}

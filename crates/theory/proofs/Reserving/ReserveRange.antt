@@ -9,8 +9,8 @@ use native.Mathlib.Omega.{arith}
 use lib.Dec.{eqb}
 use lib.IntN.{ℤ, pos, natAbs, _*ℤ_}
 use lib.ListN.{length}
-use Rattle.integers.proofs.Magnitude.{natAbs-add, natAbs-mul}
-use Rattle.integers.proofs.Truth.{by-truth, eqb-equal}
+use Rattle.groundwork.proofs.Magnitude.{natAbs-add, natAbs-mul}
+use Rattle.groundwork.proofs.Truth.{by-truth, eqb-equal}
 use Rattle.theory.specs.Lists.{_∈_}
 use Rattle.theory.specs.Text.{Bytes}
 use Rattle.theory.specs.Packs.{Claim, Pack, numberLimit}

@@ -9,8 +9,8 @@ use native.Mathlib.Omega.{arith}
 use lib.Dec.{eqb, ltb}
 use lib.IntN.{pos}
 use lib.Signed.{ltZ}
-use Rattle.integers.proofs.Lists.{getD-member, all-cons}
-use Rattle.integers.proofs.Truth.{by-truth, ltb-lt, ltb-ge, eqb-equal, eqb-unequal}
+use Rattle.groundwork.proofs.Lists.{getD-member, all-cons}
+use Rattle.groundwork.proofs.Truth.{by-truth, ltb-lt, ltb-ge, eqb-equal, eqb-unequal}
 use Rattle.theory.specs.Lists.{_∈_}
 use Rattle.theory.specs.Packs.{Claim, noClaim}
 use Rattle.theory.specs.Reserve.{Query, isUsable, numerator, boundBy, Usable, usableFrom, impossibles, smallest}
@@ -29,8 +29,8 @@ entry n c = record { number = n; claim = c }
 numbered-first : (k : ℕ) (c : Claim) (cs : List Claim) → NumberedFrom k (c ∷ cs) k c
 numbered-first k c cs = let place : k - k ≡ 0 = omega arith in record { low = omega arith; high = omega arith; is = rw place }
 
-numbered-behind : (k : ℕ) (d : Claim) (cs : List Claim) (n : ℕ) (c : Claim) → NumberedFrom (k + 1) cs n c → NumberedFrom k (d ∷ cs) n c
-numbered-behind k d cs n c h =
+numbered-after : (k : ℕ) (d : Claim) (cs : List Claim) (n : ℕ) (c : Claim) → NumberedFrom (k + 1) cs n c → NumberedFrom k (d ∷ cs) n c
+numbered-after k d cs n c h =
     let place : n - k ≡ suc (n - (k + 1)) = omega (arith, h .low) in
     record { low = omega (arith, h .low); high = omega (arith, h .high); is = rw place (h .is) }
 
@@ -63,7 +63,7 @@ module _ (q : Query) where
 
       step : (u ∈ usableFrom (k + 1) q cs → Wanted cs (k + 1) u) → ((u ≡ entry k d) × (isUsable q d ≡ true)) ⊎ (u ∈ usableFrom (k + 1) q cs) → Wanted (d ∷ cs) k u
       step below (inl here) = subst (Wanted (d ∷ cs) k) (sym (here .0)) (numbered-first k d cs, here .1)
-      step below (inr there) = let found = below there in (numbered-behind k d cs (u .number) (u .claim) (found .0), found .1)
+      step below (inr there) = let found = below there in (numbered-after k d cs (u .number) (u .claim) (found .0), found .1)
 
 -- ---- their order
 

@@ -4,8 +4,8 @@ use mathlib.Core.List.{List, [], _∷_, List·Memᴰ·head, List·Memᴰ·tail}
 use Prim.Native.Nat.{ℕ}
 use lib.IntN.{pos}
 use lib.Signed.{_≤ℤ_}
-use Rattle.integers.proofs.Order.{nonneg-pos, add-nonneg, mul-nonneg, nonneg-of-rest}
-use Rattle.integers.proofs.Lists.{member-getD}
+use Rattle.groundwork.proofs.Order.{nonneg-pos, add-nonneg, mul-nonneg, nonneg-of-rest}
+use Rattle.groundwork.proofs.Lists.{member-getD}
 use Rattle.theory.specs.Lists.{_∈_}
 use Rattle.theory.specs.Text.{Bytes}
 use Rattle.theory.specs.Terms.{Measure, structural, size, Substitution}

@@ -7,8 +7,8 @@ use native.Mathlib.Omega.{arith}
 use native.Mathlib.Nat.{mul-le-mul, mul-le-mul-left, mul-le-mul-right, le-trans}
 use lib.IntN.{ℤ, pos, negsuc, natAbs, _+ℤ_, _*ℤ_}
 use lib.ListN.{length, length-append}
-use Rattle.integers.proofs.Truth.{by-truth}
-use Rattle.integers.proofs.Magnitude.{natAbs-add, natAbs-mul}
+use Rattle.groundwork.proofs.Truth.{by-truth}
+use Rattle.groundwork.proofs.Magnitude.{natAbs-add, natAbs-mul}
 use Rattle.theory.specs.Lists.{_∈_, total}
 use Rattle.theory.specs.Text.{Bytes, same}
 use Rattle.theory.specs.Terms.{Term, Terms, variable, symbol, nil, cons, arity, tokens, allTokens, WellFormed, AllWellFormed, Measure, structural, flagged, size, argumentSizes, counted, argumentsCounted, occurrences}

@@ -8,14 +8,15 @@ use native.Mathlib.Omega.{arith}
 use native.Mathlib.Nat.{le-trans}
 use lib.IntN.{ℤ, pos}
 use lib.ListN.{length, take, drop, length-take, take-append-drop}
-use Rattle.integers.proofs.Truth.{not-true}
-use Rattle.integers.proofs.Lists.{flatMap-member, length-flatMap, getD-member}
+use Rattle.groundwork.proofs.Truth.{not-true}
+use Rattle.groundwork.proofs.Lists.{flatMap-member, length-flatMap, getD-member}
 use Rattle.theory.specs.Lists.{_∈_}
 use Rattle.theory.specs.Text.{Bytes, fieldsOf}
 use Rattle.theory.specs.Terms.{AllWellFormed, structural}
 use Rattle.theory.specs.Forms.{Form}
 use Rattle.theory.specs.Packs.{Claim, Atom, Rule, Pack, lineLimit, claimLimit, subgoalLimit, numberLimit, noClaim, atomKey, claimsOn, headLine, subgoalLine, claimLine, predicateLine, ruleLines, line, fromRules, fromClaims, fromPredicates, opening}
-use Rattle.theory.specs.Written.{M, lineLetter, Written, nothing, writeAll, multipliersFrom}
+use Rattle.theory.specs.declared.Letter.the-variants.{M}
+use Rattle.theory.specs.Written.{lineLetter, Written, nothing, writeAll, multipliersFrom}
 use Rattle.theory.specs.Residuals.{claimForm, subgoalForms}
 use Rattle.theory.specs.Faults.{fault, noRule, lastRule, headClaims, claimDue, mayStand, multiplierTests, tests, isComplete}
 use Rattle.theory.specs.Limits.{MultipliersFit}

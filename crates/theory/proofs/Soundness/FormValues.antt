@@ -5,9 +5,9 @@ use Prim.Native.Nat.{ℕ}
 use native.Mathlib.Omega.{arith}
 use lib.IntN.{ℤ, pos, negsuc, _+ℤ_, _-ℤ_, _*ℤ_}
 use lib.Signed.{_≤ℤ_}
-use Rattle.integers.proofs.Difference.{diff-eq, to-diff, by-diff}
-use Rattle.integers.proofs.Ring.{*ℤ-distrib-left, *ℤ-distrib-right, *ℤ-assoc, neg-as-times, +ℤ-middle}
-use Rattle.integers.proofs.Order.{nonneg-pos, add-nonneg, mul-nonneg}
+use Rattle.groundwork.proofs.Difference.{diff-eq, to-diff, by-diff}
+use Rattle.groundwork.proofs.Ring.{*ℤ-distrib-left, *ℤ-distrib-right, *ℤ-assoc, neg-as-times, +ℤ-middle}
+use Rattle.groundwork.proofs.Order.{nonneg-pos, add-nonneg, mul-nonneg}
 use Rattle.theory.specs.Lists.{_∈_}
 use Rattle.theory.specs.Text.{Bytes}
 use Rattle.theory.specs.Forms.{Form, zeroForm, plus, times, minus, constantForm, valueAt}

@@ -8,7 +8,7 @@ use Prim.Native.Nat.{ℕ, suc, _+_}
 use native.Mathlib.Omega.{arith}
 use lib.IntN.{ℤ, pos, _+ℤ_}
 use lib.ListN.{length}
-use Rattle.integers.proofs.Truth.{by-truth}
+use Rattle.groundwork.proofs.Truth.{by-truth}
 use Rattle.theory.specs.Lists.{_∈_, total}
 use Rattle.theory.specs.Text.{Bytes, same}
 use Rattle.theory.specs.Terms.{Term, Terms, variable, symbol, nil, cons, arity, Measure, flagged, size, argumentSizes, counted, argumentsCounted, variables, allVariables, occurrences, AllGround, IsGround, Substitution, under, allUnder}

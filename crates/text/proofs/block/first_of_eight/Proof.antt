@@ -1,6 +1,6 @@
 -- `text::block::first_of_eight` meets its contract. Assumes nothing.
 use borrow.Author.Needs.{needs}
-use Rattle.text.proofs.Blocks.{in-front, behind}
+use Rattle.text.proofs.Blocks.{in-front, after}
 use Rattle.text.proofs.block.first_of_eight.Statement.{statement}
 use Rattle.text.proofs.block.first_of_eight.Tie as tie
 
@@ -20,7 +20,7 @@ add-result : tie.Need-add-result
 add-result c = search needs
 
 returns-2 : tie.Need-returns-2
-returns-2 c = search (needs, behind)
+returns-2 c = search (needs, after)
 
 pub first-of-eight-spec : {M : Type 1} → statement M
 first-of-eight-spec =

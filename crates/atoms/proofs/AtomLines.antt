@@ -1,0 +1,81 @@
+-- `H` and `B` lines: their faults from the terms on, and what their terms leave when all are read.
+use mathlib.Core.Path.{_≡_, sym, _∙_, ap}
+use mathlib.Core.Bool.{Bool, true, cond}
+use mathlib.Core.List.{List, []}
+use Prim.Native.Nat.{ℕ, _≤_, _<_}
+use native.Mathlib.Omega.{arith}
+use lib.Dec.{ltb}
+use lib.ListN.{length, getD, drop, length-drop}
+use lib.Seq.{take-length}
+use Rattle.groundwork.proofs.Truth.{by-truth, ltb-lt, ltb-ge, lt-ltb, ge-ltb}
+use Rattle.theory.specs.Lists.{every}
+use Rattle.theory.specs.Text.{Bytes, fieldsOf}
+use Rattle.theory.specs.Terms.{arity, allVariables}
+use Rattle.theory.specs.Packs.{Pack, Key}
+use Rattle.theory.specs.Written.{Written, termsFrom}
+use Rattle.theory.specs.Residuals.{numbered}
+use Rattle.theory.specs.Faults.{isTerm, firstOf, atomTests}
+use Rattle.theory.proofs.Reading.Places.{places-every, not-every}
+use Rattle.theory.proofs.Reading.TermFields.{terms-arity}
+use Rattle.terms.specs.Rows.{Holds as HoldsVariables}
+use Rattle.tables.specs.declared.State.{State}
+use Rattle.tables.specs.declared.Opened.{Opened}
+use Rattle.tables.specs.declared.Fault.{Fault}
+use Rattle.tables.specs.declared.Fault.the-variants.{NoTerm}
+use Rattle.tables.specs.declared.Fielding.{Fielding}
+use Rattle.tables.specs.declared.Fielding.the-variants.{Misread}
+use Rattle.tables.specs.Faults.{numberOf}
+use Rattle.tables.specs.Tables.{Tables, rowPlace, predicateAt, AtomStands, Holds, Safe}
+use Rattle.tables.specs.Lines.{OldPredicate, at}
+use Rattle.tables.proofs.Outcomes.{field-fails}
+use Rattle.atoms.specs.Fields.{FieldTerm, known, ProgressTerms}
+
+-- ---- faults
+
+module _ (isRefused isPastLimit : Bool) (fields : List Bytes) (p : Pack) where
+  pub atom-limit : every isTerm (drop 2 fields) ≡ true → firstOf (drop 3 (atomTests isRefused isPastLimit fields p)) ≡ cond isPastLimit 12 0
+  unfolding firstOf atomTests
+  atom-limit good = rw good
+
+  pub atom-fault : {atom index many : ℕ} {names₀ names rows₀ rows : List ℕ} {r : Fielding} {f : Fault} → index < length (drop 2 fields) → FieldTerm atom index (at (drop 2 fields) index) many names₀ rows₀ r names rows → r ≡ Misread f
+      → firstOf (drop 3 (atomTests isRefused isPastLimit fields p)) ≡ numberOf f
+  unfolding firstOf atomTests
+  atom-fault {index = index} inside done bad =
+      let found = field-fails (done .known) NoTerm (isTerm (at (drop 2 fields) index)) (done .answer) bad in
+      rw (not-every isTerm (drop 2 fields) [] index inside (found .0)) (ap numberOf (found .1))
+
+-- ---- as many terms as the predicate has arguments
+
+module _ {k : Key} {line : Bytes} {w : Written} {o : Opened} (named : OldPredicate k 2 line w o) where
+  pub count-terms : arity (termsFrom (drop 2 (fieldsOf line))) ≡ predicateAt (w .pack .predicates) (o .predicate) .arguments
+  count-terms = omega (arith, terms-arity (drop 2 (fieldsOf line)), length-drop 2 (fieldsOf line), named .full)
+
+  pub few-terms : {t : Tables} {s : State} → Holds t s w → Safe t s → length (drop 2 (fieldsOf line)) ≤ 8
+  few-terms {s = s} holds safe =
+      let below : o .predicate < s .predicates = omega (arith, named .below, holds .declares .count) in
+      omega (arith, terms-arity (drop 2 (fieldsOf line)), count-terms, holds .declares .arity (o .predicate) below, safe .signatures .arity (o .predicate) (omega (arith, safe .state .predicates)))
+
+-- ---- all terms are read
+
+-- the atom's rows stand over these variables, if they are few
+pub record Finished (atom : ℕ) (fs all : List Bytes) (many : ℕ) (variables rows₀ rows : List ℕ) : Type 0 where
+  pub good : every isTerm fs ≡ true
+  pub past : ltb 16 many ≡ ltb 16 (length all)
+  pub count : many ≤ 16 → many ≡ length all
+  pub holds : many ≤ 16 → HoldsVariables variables all
+  pub stands : many ≤ 16 → AtomStands rows atom all (termsFrom fs)
+  pub before : (i : ℕ) → i < rowPlace atom 0 → getD rows i 0 ≡ getD rows₀ i 0
+
+pub finished : {atom : ℕ} {seen fs all : List Bytes} {many : ℕ} {variables rows₀ rows : List ℕ} → length fs ≤ 8 → all ≡ numbered seen (allVariables (termsFrom fs)) → ProgressTerms atom seen fs (length fs) many variables rows₀ rows
+    → Finished atom fs all many variables rows₀ rows
+finished {seen = seen} {fs = fs} {all = all} {many = many} short is done = record {
+  good = places-every isTerm fs [] (done .good);
+  past = rw same (by-truth (λ b. ltb 16 many ≡ b) (ltb 16 (length (known seen fs (length fs)))) (λ h. lt-ltb 16 many (omega (arith, done .many-more (ltb-lt _ _ h)))) (λ h. ge-ltb 16 many (omega (arith, ltb-ge 16 (length (known seen fs (length fs))) h, done .few (ltb-ge _ _ h)))));
+  count = λ h. rw same (done .few (done .holds h .few));
+  holds = λ h. rw same (done .holds h);
+  stands = λ h. rw same record { few = omega (arith, terms-arity fs); row = λ k inside. done .row h k (omega (arith, terms-arity fs)) };
+  before = done .before;
+}
+  where
+    same : all ≡ known seen fs (length fs)
+    same = is ∙ ap (λ gs. numbered seen (allVariables (termsFrom gs))) (sym (take-length fs))

@@ -1,0 +1,206 @@
+-- Terms that are read one by one into rows: a row over a rule's first variables, and over all of them when more come.
+use mathlib.Core.Path.{_≡_, refl, sym, _∙_, ap}
+use mathlib.Core.Bool.{true}
+use mathlib.Core.List.{List, [], _∷_, _++_, append-assoc, append-nil, Memᴰ·append-left, Memᴰ·append-right}
+use mathlib.Core.Option.{some, Option·getD}
+use Prim.Native.Nat.{ℕ, zero, suc, _+_, _≤_, _<_}
+use native.Mathlib.Omega.{arith}
+use borrow.Author.Count.{below-more}
+use lib.Dec.{ltb}
+use lib.IntN.{pos}
+use lib.ListN.{length, getD, set, take}
+use lib.Seq.{take-suc, length-take-le, getD-take, getD-set-same, getD-set-other}
+use Rattle.groundwork.proofs.Lists.{member-getD}
+use Rattle.groundwork.proofs.Truth.{by-truth, ltb-lt, ltb-ge}
+use Rattle.theory.specs.Lists.{_∈_}
+use Rattle.theory.specs.Text.{Bytes}
+use Rattle.theory.specs.Terms.{Term, Terms, variable, nil, cons, arity, readTerm, structural, occurrences, variables, allVariables}
+use Rattle.theory.specs.Forms.{formOf}
+use Rattle.theory.specs.Written.{termsFrom}
+use Rattle.theory.specs.Residuals.{numbered}
+use Rattle.theory.specs.Faults.{isTerm}
+use Rattle.theory.proofs.Reading.FieldValues.{value-read}
+use Rattle.theory.proofs.Judging.RuleVariables.{numbered-append, numbered-length}
+use Rattle.theory.proofs.Reading.TermFields.{terms-arity}
+use Rattle.theory.proofs.Judging.Variables.{Once, member-numbered}
+use Rattle.theory.proofs.Soundness.StructuralSizes.{structural-counted}
+use Rattle.terms.proofs.Numbering.{place-once, numbered-place}
+use Rattle.terms.proofs.Counting.{occurrences-absent}
+use Rattle.terms.specs.Rows.{Holds as HoldsVariables, RowCounts, CountedFrom, Counted}
+use Rattle.tables.specs.declared.Fielding.{Fielding}
+use Rattle.tables.specs.declared.Fielding.the-variants.{Read}
+use Rattle.tables.specs.Tables.{rowPlace, argument, RowStands, AtomStands}
+use Rattle.tables.specs.Lines.{at}
+use Rattle.atoms.specs.Fields.{FieldTerm, known, ProgressTerms}
+use Rattle.atoms.proofs.TermFields.{t-read}
+
+-- ---- the terms of some fields
+
+abbrev pub termFrom : Bytes → Term
+termFrom f = Option·getD (readTerm f) (variable [])
+
+pub argument-from : (fs : List Bytes) (k : ℕ) → k < length fs → argument (termsFrom fs) k ≡ termFrom (at fs k)
+unfolding argument termsFrom
+argument-from [] k inside = absurd (omega arith)
+argument-from (f ∷ fs) zero inside = refl
+argument-from (f ∷ fs) (suc k) inside = argument-from fs k (omega arith)
+
+variables-end : (fs : List Bytes) (f : Bytes) → allVariables (termsFrom (fs ++ (f ∷ []))) ≡ allVariables (termsFrom fs) ++ variables (termFrom f)
+unfolding termsFrom allVariables
+variables-end [] f = append-nil (variables (termFrom f))
+variables-end (g ∷ fs) f = ap (λ xs. variables (termFrom g) ++ xs) (variables-end fs f) ∙ sym (append-assoc (variables (termFrom g)) (allVariables (termsFrom fs)) (variables (termFrom f)))
+
+-- one term more
+pub known-more : (seen fs : List Bytes) (index : ℕ) → index < length fs → known seen fs (suc index) ≡ numbered (known seen fs index) (variables (termFrom (at fs index)))
+known-more seen fs index inside =
+    ap (λ gs. numbered seen (allVariables (termsFrom gs))) (take-suc fs index [] inside)
+    ∙ ap (numbered seen) (variables-end (take index fs) (at fs index))
+    ∙ numbered-append seen (allVariables (termsFrom (take index fs))) (variables (termFrom (at fs index)))
+
+argument-variable : (ts : Terms) (k : ℕ) → k < arity ts → (x : Bytes) → x ∈ variables (argument ts k) → x ∈ allVariables ts
+unfolding argument arity allVariables
+argument-variable nil k inside x m = absurd (omega arith)
+argument-variable (cons t ts) zero inside x m = Memᴰ·append-left (allVariables ts) m
+argument-variable (cons t ts) (suc k) inside x m = Memᴰ·append-right (variables t) (argument-variable ts k (omega arith) x m)
+
+-- a term read has its variables among those known
+known-variable : (seen fs : List Bytes) (index k : ℕ) → k < index → index ≤ length fs → (x : Bytes) → x ∈ variables (argument (termsFrom fs) k) → x ∈ known seen fs index
+known-variable seen fs index k before inside x m =
+    let read = take index fs in
+    let within : k < length read = omega (arith, length-take-le index fs inside) in
+    let same : argument (termsFrom fs) k ≡ argument (termsFrom read) k = argument-from fs k (omega arith) ∙ ap termFrom (sym (getD-take index fs k [] before)) ∙ sym (argument-from read k within) in
+    member-numbered seen (allVariables (termsFrom read)) (argument-variable (termsFrom read) k (omega (arith, terms-arity read)) x (rw same at m))
+
+-- ---- a row when more variables come
+
+-- a term's form has for each variable how often it occurs
+form-counts : (t : Term) (x : Bytes) → formOf structural t .coefficient x ≡ pos (occurrences x (variables t))
+unfolding formOf
+form-counts t x = ap (λ xs. pos (occurrences x xs)) (structural-counted t)
+
+-- the variables of a term are among those of which its row tells: those that come later do not occur in it
+module _ (xs ys : List Bytes) (once : Once (numbered xs ys)) (few : length (numbered xs ys) ≤ 16) where
+  later-elsewhere : (i : ℕ) → length xs ≤ i → i < length (numbered xs ys) → getD (numbered xs ys) i [] ∈ xs → ⊥
+  later-elsewhere i later inside m =
+      let found = member-getD [] m in
+      let low = found .1 in
+      let same = place-once once (found .0) i (omega (arith, numbered-length xs ys)) inside (numbered-place xs ys (found .0) low ∙ found .2) in
+      omega arith
+
+  row-over-more : (rows : List ℕ) (base : ℕ) (t : Term) → ((x : Bytes) → x ∈ variables t → x ∈ xs) → RowStands rows base xs t → RowStands rows base (numbered xs ys) t
+  row-over-more rows base t within row = record {
+    constant = row .constant;
+    coefficient = λ i inside. by-truth (λ b. pos (getD rows (base + 1 + i) 0) ≡ formOf structural t .coefficient (getD (numbered xs ys) i [])) (ltb i (length xs))
+        (λ h. rw (numbered-place xs ys i (ltb-lt _ _ h)) (row .coefficient i (ltb-lt _ _ h)))
+        (λ h. ap pos (row .beyond i (ltb-ge _ _ h) (omega arith) ∙ sym (occurrences-absent _ (variables t) (λ m. later-elsewhere i (ltb-ge _ _ h) inside (within _ m)))) ∙ sym (form-counts t _));
+    beyond = λ i outside small. row .beyond i (omega (arith, numbered-length xs ys)) small;
+  }
+
+row-same : (rows₀ rows : List ℕ) (base : ℕ) (xs : List Bytes) (t : Term) → length xs ≤ 16 → ((i : ℕ) → base ≤ i → i < base + 17 → getD rows i 0 ≡ getD rows₀ i 0) → RowStands rows₀ base xs t → RowStands rows base xs t
+row-same rows₀ rows base xs t few same row = record {
+  constant = ap pos (same base (omega arith) (omega arith)) ∙ row .constant;
+  coefficient = λ i inside. ap pos (same (base + 1 + i) (omega arith) (omega arith)) ∙ row .coefficient i inside;
+  beyond = λ i outside small. same (base + 1 + i) (omega arith) (omega arith) ∙ row .beyond i outside small;
+}
+
+-- an atom's rows stay where the numbers stay up to another atom's
+pub atom-over-more : (xs ys : List Bytes) → Once (numbered xs ys) → length (numbered xs ys) ≤ 16 → (rows₀ rows : List ℕ) (atom later : ℕ) (ts : Terms) → atom < later
+    → ((i : ℕ) → i < rowPlace later 0 → getD rows i 0 ≡ getD rows₀ i 0) → ((x : Bytes) → x ∈ allVariables ts → x ∈ xs) → AtomStands rows₀ atom xs ts → AtomStands rows atom (numbered xs ys) ts
+atom-over-more xs ys once few rows₀ rows atom later ts before same within stands = record {
+  few = stands .few;
+  row = λ k inside. row-over-more xs ys once few rows (rowPlace atom k) (argument ts k) (λ x m. within x (argument-variable ts k inside x m))
+      (row-same rows₀ rows (rowPlace atom k) xs (argument ts k) (omega (arith, numbered-length xs ys)) (λ i low high. same i (omega (arith, stands .few))) (stands .row k inside));
+}
+
+-- ---- the terms of a line, one by one
+
+pub terms-begin : (atom : ℕ) (seen fs : List Bytes) {many : ℕ} {variables : List ℕ} (rows : List ℕ) → HoldsVariables variables seen → many ≡ length seen → ProgressTerms atom seen fs 0 many variables rows rows
+unfolding termsFrom allVariables numbered
+terms-begin atom seen fs rows holds count = record {
+  good = λ i h. absurd (omega arith);
+  few = λ h. count;
+  many-more = λ h. absurd (omega (arith, holds .few));
+  holds = λ h. holds;
+  row = λ h k inside. absurd (omega arith);
+  before = λ i h. refl;
+}
+
+-- what the field of a term leaves, after the variables known so far
+module _ {atom index : ℕ} {field : Bytes} {many : ℕ} {names₀ rows₀ : List ℕ} {r : Fielding} {names rows : List ℕ} (done : FieldTerm atom index field many names₀ rows₀ r names rows) (size : length rows₀ ≡ 1224)
+    (room : rowPlace atom index < 1224) (n : ℕ) (fine : r ≡ Read n) (t : Term) (reads : readTerm field ≡ some t) where
+  abbrev base : ℕ
+  base = rowPlace atom index
+
+  counted : Counted field names₀ many rows₀ base n names (done .counts)
+  counted = rw (t-read done fine .1) at (done .counted (t-read done fine .0))
+
+  stored : rows ≡ set (done .counts) base (done .constant)
+  stored = done .stored (t-read done fine .0)
+
+  elsewhere : (i : ℕ) → (i ≡ base → ⊥) → getD rows i 0 ≡ getD (done .counts) i 0
+  elsewhere i other = ap (λ l. getD l i 0) stored ∙ getD-set-other (done .counts) base i (done .constant) 0 other
+
+  kept-below : (i : ℕ) → i < base → getD rows i 0 ≡ getD rows₀ i 0
+  kept-below i below = elsewhere i (omega arith) ∙ counted .others i .0 (omega arith)
+
+  row-counted : (all : List Bytes) → RowCounts (done .counts) base all (variables t) → RowStands rows base all t
+  unfolding formOf
+  row-counted all row = record {
+    constant = ap pos (ap (λ l. getD l base 0) stored ∙ getD-set-same (done .counts) base (done .constant) 0 (omega (arith, counted .size)) ∙ done .summed (t-read done fine .0) .is t reads);
+    coefficient = λ i inside. ap pos (elsewhere (base + 1 + i) (omega arith) ∙ row .counts i inside) ∙ sym (form-counts t _);
+    beyond = λ i outside small. elsewhere (base + 1 + i) (omega arith) ∙ row .zeros i small outside;
+  }
+
+  -- past the limit nothing but the count is claimed
+  counted-after : (known : List Bytes) → (length known ≤ 16 → many ≡ length known) → (16 < length known → many ≡ 17) → (many ≤ 16 → HoldsVariables names₀ known) → CountedFrom field known base n names (done .counts) t
+  counted-after known few full holds = by-truth (λ b. CountedFrom field known base n names (done .counts) t) (ltb 16 (length known))
+      (λ h.
+      let past = ltb-lt 16 (length known) h in
+      let is : n ≡ 17 = counted .full (omega (arith, full past)) in
+      record {
+        few = λ k. absurd (omega (arith, numbered-length known (variables t)));
+        many = λ k. is;
+        holds = λ k. absurd (omega arith);
+        row = λ k. absurd (omega arith);
+      })
+      (λ h.
+      let within = ltb-ge 16 (length known) h in
+      let count = few within in
+      counted .from known (holds (omega arith)) (sym count) size t reads)
+
+module _ {atom : ℕ} {seen fs : List Bytes} {index many : ℕ} {names₀ names rows₀ rows₁ rows : List ℕ} {r : Fielding} {n : ℕ} where
+  pub term-field : atom ≤ 8 → index < 8 → index < length fs → length rows₁ ≡ 1224 → ProgressTerms atom seen fs index many names₀ rows₀ rows₁ → FieldTerm atom index (at fs index) many names₀ rows₁ r names rows → r ≡ Read n
+      → ProgressTerms atom seen fs (suc index) n names rows₀ rows
+  term-field low place inside size before done fine = record {
+    good = λ i h. below-more (λ j. isTerm (at fs j) ≡ true) index (before .good) (t-read done fine .0) i (omega arith);
+    few = rw (known-more seen fs index inside) (left .few);
+    many-more = rw (known-more seen fs index inside) (left .many);
+    holds = rw (known-more seen fs index inside) (left .holds);
+    row = λ h k lower. rw (known-more seen fs index inside) (below-more Stands index (earlier h) (latest h) k (omega arith));
+    before = λ i h. kept i (omega arith) ∙ before .before i h;
+  }
+    where
+      t : Term
+      t = termFrom (at fs index)
+
+      reads : readTerm (at fs index) ≡ some t
+      reads = value-read readTerm (variable []) (at fs index) (t-read done fine .0)
+
+      left : CountedFrom (at fs index) (known seen fs index) (rowPlace atom index) n names (done .counts) t
+      left = counted-after done size (omega arith) n fine t reads (known seen fs index) (before .few) (before .many-more) (before .holds)
+
+      kept : (i : ℕ) → i < rowPlace atom index → getD rows i 0 ≡ getD rows₁ i 0
+      kept = kept-below done size (omega arith) n fine t reads
+
+      Stands : ℕ → Type 0
+      Stands k = RowStands rows (rowPlace atom k) (numbered (known seen fs index) (variables t)) (argument (termsFrom fs) k)
+
+      earlier : n ≤ 16 → (k : ℕ) → k < index → Stands k
+      earlier h k lower =
+          let holds = left .holds h in
+          let fewer : length (known seen fs index) ≤ 16 = omega (arith, holds .few, numbered-length (known seen fs index) (variables t)) in
+          row-over-more (known seen fs index) (variables t) (holds .once) (holds .few) rows (rowPlace atom k) (argument (termsFrom fs) k) (known-variable seen fs index k lower (omega arith))
+          (row-same rows₁ rows (rowPlace atom k) (known seen fs index) (argument (termsFrom fs) k) fewer (λ i low high. kept i (omega arith)) (before .row (omega (arith, before .few fewer)) k lower))
+
+      latest : n ≤ 16 → Stands index
+      latest h = rw (argument-from fs index inside) (row-counted done size (omega arith) n fine t reads (numbered (known seen fs index) (variables t)) (left .row h))

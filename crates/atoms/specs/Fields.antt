@@ -1,0 +1,57 @@
+-- The fields of `H` and `B` lines: whether each is a term, and the row that it leaves; and what those read so far have left.
+use mathlib.Core.Path.{_≡_}
+use mathlib.Core.Bool.{true, cond}
+use mathlib.Core.List.{List}
+use Prim.Native.Nat.{ℕ, suc, _≤_, _<_}
+use lib.ListN.{length, getD, set, take, drop}
+use Rattle.theory.specs.Text.{Bytes, fieldsOf}
+use Rattle.theory.specs.Terms.{allVariables}
+use Rattle.theory.specs.Written.{termsFrom, Written}
+use Rattle.theory.specs.Residuals.{numbered, ruleVariables}
+use Rattle.theory.specs.Faults.{isTerm, lastRule}
+use Rattle.terms.specs.Tokens.{ConstantRead}
+use Rattle.terms.specs.Rows.{Counted, Holds as HoldsVariables}
+use Rattle.tables.specs.declared.Fault.the-variants.{NoTerm}
+use Rattle.tables.specs.declared.Fielding.{Fielding}
+use Rattle.tables.specs.declared.Fielding.the-variants.{Read, Misread}
+use Rattle.tables.specs.declared.State.{State}
+use Rattle.tables.specs.Tables.{Tables, rowPlace, SafeRows, argument, RowStands}
+use Rattle.tables.specs.Lines.{at}
+
+-- which atom of the rule the next subgoal is, or the eighth one's rows for a ninth
+pub record SubgoalAtom (subgoals r : ℕ) : Type 0 where
+  pub next : subgoals < 8 → r ≡ suc subgoals
+  pub high : r ≤ 8
+
+-- a term, into the row of an atom's argument
+pub record FieldTerm (atom index : ℕ) (field : Bytes) (many : ℕ) (names₀ rows₀ : List ℕ) (r : Fielding) (names rows : List ℕ) : Type 0 where
+  pub known : ℕ
+  pub answer : r ≡ cond (isTerm field) (Read known) (Misread NoTerm)
+  pub counts : List ℕ
+  pub constant : ℕ
+  pub counted : isTerm field ≡ true → Counted field names₀ many rows₀ (rowPlace atom index) known names counts
+  pub summed : isTerm field ≡ true → ConstantRead field constant
+  pub stored : isTerm field ≡ true → rows ≡ set counts (rowPlace atom index) constant
+  pub sizes : (length names ≡ length names₀) × (length rows ≡ length rows₀)
+  pub high : known ≤ 17
+  pub small : SafeRows rows₀ → SafeRows rows
+
+-- ## The first fields
+
+-- the variables after those seen, with the first terms read
+abbrev pub known : List Bytes → List Bytes → ℕ → List Bytes
+known seen fs index = numbered seen (allVariables (termsFrom (take index fs)))
+
+-- the terms of an atom's line, after variables that were seen; rows₀ at the line's beginning
+pub record ProgressTerms (atom : ℕ) (seen fs : List Bytes) (index many : ℕ) (variables rows₀ rows : List ℕ) : Type 0 where
+  pub good : (i : ℕ) → i < index → isTerm (at fs i) ≡ true
+  pub few : length (known seen fs index) ≤ 16 → many ≡ length (known seen fs index)
+  pub many-more : 16 < length (known seen fs index) → many ≡ 17
+  pub holds : many ≤ 16 → HoldsVariables variables (known seen fs index)
+  pub row : many ≤ 16 → (k : ℕ) → k < index → RowStands rows (rowPlace atom k) (known seen fs index) (argument (termsFrom fs) k)
+  pub before : (i : ℕ) → i < rowPlace atom 0 → getD rows i 0 ≡ getD rows₀ i 0
+
+-- those of a subgoal's line, after the rule's variables so far, where the tables were t at its beginning; of a ninth subgoal, which is refused when its line is done, only that they are terms
+pub record ProgressSubgoal (line : Bytes) (w : Written) (s : State) (t : Tables) (index many : ℕ) (variables rows : List ℕ) : Type 0 where
+  pub terms : s .subgoals < 8 → ProgressTerms (suc (s .subgoals)) (ruleVariables (lastRule (w .pack) .head) (lastRule (w .pack) .subgoals)) (drop 2 (fieldsOf line)) index many variables (t .rows) rows
+  pub good : (i : ℕ) → i < index → isTerm (at (drop 2 (fieldsOf line)) i) ≡ true

@@ -1,0 +1,18 @@
+-- `certificates::i16_to_i32` meets its contract. Assumes nothing.
+use mathlib.Core.Path.{refl}
+use borrow.Author.Needs.{needs}
+use mir.Facts.{sfits-widen}
+use mir.Syntax.{w16, w32}
+use mir.Val.{SFits}
+use Rattle.forms.proofs.Fits.{widened}
+use Rattle.certificates.proofs.i16_to_i32.Statement.{statement}
+use Rattle.certificates.proofs.i16_to_i32.Tie as tie
+
+cast-result : tie.Need-cast-result
+cast-result c = let wide : SFits w32 (c .args .z) = sfits-widen tt (c .fits .z) in search needs
+
+returns : tie.Need-returns
+returns c = widened w16 w32 (c .args .z) _ tt (c .fits .z) refl
+
+pub i16-to-i32-spec : {M : Type 1} → statement M
+i16-to-i32-spec = tie.close (tie.spec cast-result returns)

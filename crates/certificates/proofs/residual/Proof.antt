@@ -1,0 +1,53 @@
+-- `certificates::residual` meets its contract. The loop's invariant: the form is the sum of the atoms passed.
+use mathlib.Core.Path.{_≡_}
+use Prim.Native.Nat.{_+_, _-_, _≤_}
+use native.Mathlib.Omega.{arith}
+use borrow.Author.Needs.{needs}
+use Rattle.certificates.specs.Sums.{Partial}
+use Rattle.certificates.proofs.Sums.{no-atoms}
+use Rattle.certificates.proofs.residual.Statement.{statement}
+use Rattle.certificates.proofs.residual.Tie as tie
+
+abbrev Inv-loop : tie.InvT-loop
+Inv-loop weights rows subgoals form₀ atom₀ form atom = (atom ≤ subgoals + 1) × Partial weights rows atom form
+
+abbrev μ-loop : tie.MeasureT-loop
+μ-loop weights rows subgoals form₀ atom₀ form atom = subgoals + 1 - atom
+
+zero-requires : tie.Need-zero-requires Inv-loop μ-loop
+zero-requires c κs = search needs
+
+loop-holds : tie.Need-loop-holds Inv-loop μ-loop
+loop-holds c = (search needs, no-atoms (c .zero .ensures))
+
+with-atom-requires : tie.Need-with-atom-requires Inv-loop μ-loop
+with-atom-requires c κs = search needs
+
+add-atom : tie.Need-add-atom Inv-loop μ-loop
+add-atom c = search needs
+
+loop-less : tie.Need-loop-less Inv-loop μ-loop
+loop-less c = search needs
+
+loop-again : tie.Need-loop-again Inv-loop μ-loop
+loop-again c = search needs
+
+returns : tie.Need-returns Inv-loop μ-loop
+returns c =
+    let last = c .before .loop in
+    let all : last .atom ≡ c .before .before .before .args .subgoals + 1 = omega arith in
+    rw all at (last .inv .1 .sums)
+
+pub residual-spec : {M : Type 1} → statement M
+residual-spec =
+    tie.close
+    (tie.spec
+    Inv-loop
+    μ-loop
+    zero-requires
+    loop-holds
+    with-atom-requires
+    add-atom
+    loop-less
+    loop-again
+    returns)

@@ -1,0 +1,73 @@
+-- `certificates::weigh_head` meets its contract. The loop's invariant: the weights passed are the claim's weights, and all else is as it was.
+use Prim.Native.Nat.{_-_, _≤_}
+use native.Mathlib.Omega.{arith}
+use borrow.Author.Needs.{needs}
+use lib.IntN.{pos}
+use mir.Syntax.{w16, w32}
+use Rattle.groundwork.proofs.Stretches.{Stored, from, stored-none, stored-front, stored-more}
+use Rattle.forms.proofs.Fits.{widened}
+use Rattle.certificates.proofs.weigh_head.Statement.{statement}
+use Rattle.certificates.proofs.weigh_head.Tie as tie
+
+abbrev Inv-loop : tie.InvT-loop
+Inv-loop claims place weights₀ i₀ weights i = (i ≤ 9) × Stored (pos 0) (from claims place) 0 weights₀ weights i
+
+abbrev μ-loop : tie.MeasureT-loop
+μ-loop claims place weights₀ i₀ weights i = 9 - i
+
+loop-holds : tie.Need-loop-holds Inv-loop μ-loop
+loop-holds c = (search needs, stored-none)
+
+add-i16-to-i32 : tie.Need-add-i16-to-i32 Inv-loop μ-loop
+add-i16-to-i32 c = search needs
+
+mul-i16-to-i32 : tie.Need-mul-i16-to-i32 Inv-loop μ-loop
+mul-i16-to-i32 c = search needs
+
+element-copy-out-i16-to-i32 : tie.Need-element-copy-out-i16-to-i32 Inv-loop μ-loop
+element-copy-out-i16-to-i32 c = search needs
+
+i16-to-i32-requires : tie.Need-i16-to-i32-requires Inv-loop μ-loop
+i16-to-i32-requires c κs = search needs
+
+mul-t12 : tie.Need-mul-t12 Inv-loop μ-loop
+mul-t12 c = search needs
+
+element-set-from-weights : tie.Need-element-set-from-weights Inv-loop μ-loop
+element-set-from-weights c = search needs
+
+add-i : tie.Need-add-i Inv-loop μ-loop
+add-i c = search needs
+
+loop-less : tie.Need-loop-less Inv-loop μ-loop
+loop-less c = search needs
+
+loop-again : tie.Need-loop-again Inv-loop μ-loop
+loop-again c = (
+  search needs,
+  stored-more _ _ (c .before .before .before .loop .inv .1) (omega arith) (omega arith)
+      (widened w16 w32 _ (c .i16-to-i32 .result) tt (record { sfits = c .before .i16-to-i32-arg .given }) (c .i16-to-i32 .ensures)),
+)
+
+returns : tie.Need-returns Inv-loop μ-loop
+returns c =
+    let stored = c .before .loop .inv .1 in
+    record { size = stored .size; weight = λ i less. stored-front stored i (omega arith); above = λ i over. stored .above i (omega arith) }
+
+pub weigh-head-spec : {M : Type 1} → statement M
+weigh-head-spec =
+    tie.close
+    (tie.spec
+    Inv-loop
+    μ-loop
+    loop-holds
+    add-i16-to-i32
+    mul-i16-to-i32
+    element-copy-out-i16-to-i32
+    i16-to-i32-requires
+    mul-t12
+    element-set-from-weights
+    add-i
+    loop-less
+    loop-again
+    returns)

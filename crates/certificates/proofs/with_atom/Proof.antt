@@ -1,0 +1,114 @@
+-- `certificates::with_atom` meets its contract. The loop's invariant: the rows passed are added.
+use mathlib.Core.Logic.{⊎-elim}
+use Prim.Native.Nat.{_-_, _≤_}
+use native.Mathlib.Omega.{arith}
+use borrow.Author.Needs.{needs}
+use Rattle.certificates.proofs.Sums.{RowsAdded, constant-requires, rows-none, row-times, row-plus, row-added, row-skipped, atom-done}
+use Rattle.certificates.proofs.with_atom.Statement.{statement}
+use Rattle.certificates.proofs.with_atom.Tie as tie
+
+abbrev Inv-loop : tie.InvT-loop
+Inv-loop weights rows atom form₀ k₀ form k = (k ≤ 8) × RowsAdded weights rows atom form k
+
+abbrev μ-loop : tie.MeasureT-loop
+μ-loop weights rows atom form₀ k₀ form k = 8 - k
+
+mul-i32-to-i64 : tie.Need-mul-i32-to-i64 Inv-loop μ-loop
+mul-i32-to-i64 c = search needs
+
+mul-i32-to-i64-2 : tie.Need-mul-i32-to-i64-2 Inv-loop μ-loop
+mul-i32-to-i64-2 c = search needs
+
+element-copy-out-i32-to-i64 : tie.Need-element-copy-out-i32-to-i64 Inv-loop μ-loop
+element-copy-out-i32-to-i64 c = search needs
+
+i32-to-i64-requires : tie.Need-i32-to-i64-requires Inv-loop μ-loop
+i32-to-i64-requires c κs = search needs
+
+with-constant-requires : tie.Need-with-constant-requires Inv-loop μ-loop
+with-constant-requires c κs = let pre = c .before .before .pre in constant-requires (pre .1) (pre .0) (pre .2) (c .i32-to-i64 .ensures)
+
+loop-holds : tie.Need-loop-holds Inv-loop μ-loop
+loop-holds c = let pre = c .before .before .before .pre in (search needs, rows-none (pre .1) (pre .0) (pre .2) (c .before .i32-to-i64 .ensures) (c .with-constant .ensures))
+
+mul-weight : tie.Need-mul-weight Inv-loop μ-loop
+mul-weight c = search needs
+
+add-weight : tie.Need-add-weight Inv-loop μ-loop
+add-weight c = search needs
+
+add-weight-2 : tie.Need-add-weight-2 Inv-loop μ-loop
+add-weight-2 c = search needs
+
+mul-weight-2 : tie.Need-mul-weight-2 Inv-loop μ-loop
+mul-weight-2 c = search needs
+
+element-copy-out-weight : tie.Need-element-copy-out-weight Inv-loop μ-loop
+element-copy-out-weight c = search needs
+
+row-place-requires : tie.Need-row-place-requires Inv-loop μ-loop
+row-place-requires c κs = search needs
+
+form-at-requires : tie.Need-form-at-requires Inv-loop μ-loop
+form-at-requires c κs = search needs
+
+i32-to-i64-requires-2 : tie.Need-i32-to-i64-requires-2 Inv-loop μ-loop
+i32-to-i64-requires-2 c κs = search needs
+
+times-requires : tie.Need-times-requires Inv-loop μ-loop
+times-requires c κs =
+    let pre = c .before .before .before .before .before .before .before .before .before .before .pre in
+    row-times (pre .1) (pre .0) (omega arith) (c .before .before .row-place .ensures) (c .before .form-at .ensures) (c .i32-to-i642 .ensures)
+
+plus-requires : tie.Need-plus-requires Inv-loop μ-loop
+plus-requires c κs =
+    let pre = c .before .before .before .before .before .before .before .before .before .before .before .pre in
+    let added = c .before .before .before .before .before .before .before .loop .inv .1 in
+    row-plus (pre .1) (pre .0) (omega arith) (c .before .before .before .row-place .ensures) (c .before .before .form-at .ensures) (c .before .i32-to-i642 .ensures) (c .times .ensures) added
+
+add-k : tie.Need-add-k Inv-loop μ-loop
+add-k c = search needs
+
+loop-less : tie.Need-loop-less Inv-loop μ-loop
+loop-less c = search needs
+
+loop-again : tie.Need-loop-again Inv-loop μ-loop
+loop-again c =
+    let pre = c .before .before .before .before .before .before .before .pre in
+    let added = c .before .before .before .loop .inv .1 in (
+      search needs,
+      ⊎-elim
+          (λ way. row-added (pre .1) (pre .0) (omega arith) (way .1 .ensures) (way .2 .ensures) (way .3 .ensures) (way .4 .ensures) added (way .5 .ensures) (way .6))
+          (λ way. row-skipped (pre .1) (pre .0) (omega arith) added (way .0 .left) (way .1))
+          (c .if1 .came),
+    )
+
+returns : tie.Need-returns Inv-loop μ-loop
+returns c = atom-done (c .before .loop .inv .1) (omega arith)
+
+pub with-atom-spec : {M : Type 1} → statement M
+with-atom-spec =
+    tie.close
+    (tie.spec
+    Inv-loop
+    μ-loop
+    mul-i32-to-i64
+    mul-i32-to-i64-2
+    element-copy-out-i32-to-i64
+    i32-to-i64-requires
+    with-constant-requires
+    loop-holds
+    mul-weight
+    add-weight
+    add-weight-2
+    mul-weight-2
+    element-copy-out-weight
+    row-place-requires
+    form-at-requires
+    i32-to-i64-requires-2
+    times-requires
+    plus-requires
+    add-k
+    loop-less
+    loop-again
+    returns)

@@ -1,0 +1,8 @@
+-- What the functions' proofs cite.
+pub mod PredicateFields
+pub mod ClaimFields
+pub mod Laying
+-- What each line does to the tables, against what it writes.
+pub mod ClaimTable
+pub mod PredicateLines
+pub mod ClaimLines

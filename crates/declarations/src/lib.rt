@@ -1,0 +1,143 @@
+// `P` and `C` lines: a predicate, a claim. What their fields and their ends do.
+ghost use mathlib.Core.Path.{_≡_};
+ghost use Prim.Native.Nat.{_+_, _≤_, _<_};
+ghost use lib.IntN.{natAbs};
+ghost use lib.ListN.{length};
+ghost use Rattle.tables.specs.Tables.{SafeSignatures};
+ghost use Rattle.declarations.specs.Fields.{FieldP, FieldC};
+ghost use Rattle.declarations.specs.Ends.{ClosesP, Laid, ClosesC};
+use forms::Form;
+use tables::Claims;
+use tables::Closing;
+use tables::Fault;
+use tables::Fielding;
+use tables::Names;
+use tables::Opened;
+use tables::Signatures;
+use tables::State;
+use text::Integer;
+use text::Natural;
+
+fn small_number(n: u32) -> u8
+    requires { ⌜ n ≤ 8 ⌝ }
+    ensures { λ r. ⌜ r ≡ n ⌝ }
+{
+    n as u8
+}
+
+/// A field of a `P` line: the arity, then the kind. `small` holds both, the kind as 1 if the predicate is given.
+pub fn field_predicate(index: usize, field: &[u8], small: &mut [u8; 2], many: usize) -> Fielding
+    requires { ⌜ (index < 2) × (length (now small) ≡ 2) ⌝ }
+    ensures { λ r. ⌜ FieldP index (now (field .entry)) many (now (small .entry)) r (now (small .exit)) ⌝ }
+{
+    if index == 0 {
+        let arity = text::read_natural(field, 8);
+        match arity {
+            Natural::Whole(n) => {
+                small[0] = small_number(n);
+                return Fielding::Read(many);
+            }
+            Natural::NoNatural => return Fielding::Misread(Fault::Number),
+        }
+    }
+    if field.len() != 1 {
+        return Fielding::Misread(Fault::Number);
+    }
+    let kind = field[0];
+    if kind == b'G' {
+        small[1] = 1;
+        return Fielding::Read(many);
+    }
+    if kind == b'R' {
+        small[1] = 0;
+        return Fielding::Read(many);
+    }
+    Fielding::Misread(Fault::Number)
+}
+
+fn narrow(z: i64) -> i16
+    requires { ⌜ natAbs z ≤ 9999 ⌝ }
+    ensures { λ r. ⌜ r ≡ z ⌝ }
+{
+    z as i16
+}
+
+/// A field of a `C` line: a number of the claim.
+pub fn field_claim(index: usize, field: &[u8], row: &mut [i16; 9], many: usize) -> Fielding
+    requires { ⌜ (index < 9) × (length (now row) ≡ 9) ⌝ }
+    ensures { λ r. ⌜ FieldC index (now (field .entry)) many (now (row .entry)) r (now (row .exit)) ⌝ }
+{
+    let number = text::read_integer(field, 9999);
+    match number {
+        Integer::Signed(z) => {
+            row[index] = narrow(z);
+            Fielding::Read(many)
+        }
+        Integer::NoInteger => Fielding::Misread(Fault::Number),
+    }
+}
+
+/// The end of a `P` line: the predicate is put after the others.
+pub fn close_predicate(
+    o: Opened,
+    state: State,
+    small: &[u8; 2],
+    names: &mut Names,
+    signatures: &mut Signatures,
+) -> Closing
+    ensures { λ r. ⌜ ClosesP o state (now (small .entry)) (now (names .entry)) (now (signatures .entry)) r (now (names .exit)) (now (signatures .exit)) ⌝ }
+{
+    let known = state.predicates;
+    if 32 <= known {
+        return Closing::Misclosed(Fault::CountLimit);
+    }
+    let words = o.words;
+    names[2 * known] = words.first;
+    names[2 * known + 1] = words.second;
+    signatures[known] = small[0];
+    signatures[32 + known] = small[1];
+    let mut next = state;
+    next.predicates = known + 1;
+    Closing::Done(next)
+}
+
+/// Lays a claim's numbers into the table, zeros after the last.
+fn lay(claims: &mut Claims, at: usize, row: &[i16; 9], arity: usize)
+    requires { ⌜ (at + 9 ≤ 4608) × (length (now claims) ≡ 4608) ⌝ }
+    ensures { λ r. ⌜ Laid (now (claims .entry)) at (now (row .entry)) arity (now (claims .exit)) ⌝ }
+{
+    let mut i: usize = 0;
+    while i < 9 {
+        if i <= arity {
+            let z = row[i];
+            claims[at + i] = z;
+        } else {
+            claims[at + i] = 0;
+        }
+        i += 1;
+    }
+}
+
+/// The end of a `C` line: the claim is put after the others on its predicate.
+pub fn close_claim(
+    o: Opened,
+    state: State,
+    row: &[i16; 9],
+    signatures: &mut Signatures,
+    claims: &mut Claims,
+) -> Closing
+    requires { ⌜ (o .predicate < 32) × (SafeSignatures (now signatures)) × (length (now claims) ≡ 4608) ⌝ }
+    ensures { λ r. ⌜ ClosesC o state (now (row .entry)) (now (signatures .entry)) (now (claims .entry)) r (now (signatures .exit)) (now (claims .exit)) ⌝ }
+{
+    let p = o.predicate;
+    let count = widths::wide(signatures[64 + p]);
+    if Form::CLAIMS <= count {
+        return Closing::Misclosed(Fault::CountLimit);
+    }
+    let arity = widths::wide(signatures[p]);
+    lay(claims, tables::claim_place(p, count), row, arity);
+    signatures[64 + p] = widths::byte(count + 1);
+    let mut next = state;
+    next.claimed = true;
+    Closing::Done(next)
+}

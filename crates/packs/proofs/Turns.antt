@@ -1,0 +1,101 @@
+-- One turn of the loop over lines, by what its calls answer: what the loops' proof cites.
+use mathlib.Core.Path.{_≡_, refl, ap, subst⁻¹}
+use mathlib.Core.List.{List}
+use Prim.Native.Nat.{ℕ, _+_, _-_, _≤_, _<_}
+use native.Mathlib.Omega.{arith}
+use lib.IntN.{ℤ}
+use lib.ListN.{length}
+use mir.Syntax.{w64}
+use mir.Val.{Fits}
+use Rattle.theory.specs.Text.{Bytes}
+use Rattle.theory.specs.Written.{Written}
+use Rattle.text.specs.Scans.{part, partsFrom, Finds}
+use Rattle.forms.specs.declared.Form.{Form}
+use Rattle.tables.specs.declared.State.{State}
+use Rattle.tables.specs.declared.Fault.{Fault}
+use Rattle.tables.specs.declared.Opened.{Opened}
+use Rattle.tables.specs.declared.Opening.{Opening}
+use Rattle.tables.specs.declared.Opening.the-variants.{Line, Misopened}
+use Rattle.tables.specs.declared.Fielding.{Fielding}
+use Rattle.tables.specs.declared.Fielding.the-variants.{Read, Misread}
+use Rattle.tables.specs.declared.Closing.{Closing}
+use Rattle.tables.specs.declared.Closing.the-variants.{Done, Misclosed}
+use Rattle.tables.specs.Faults.{numberOf}
+use Rattle.tables.specs.Tables.{Tables, Holds}
+use Rattle.tables.specs.Lines.{Passed, SafeOpened}
+use Rattle.tables.proofs.Outlines.{outline}
+use Rattle.opening.specs.Opening.{Opens}
+use Rattle.certificates.specs.Sums.{Summable, SumsTo}
+use Rattle.packs.specs.declared.Ending.the-variants.{Stopped}
+use Rattle.packs.specs.Steps.{Stores, FieldReady, FieldDone, variablesBefore, Tabled, CloseReady, CloseDone}
+use Rattle.packs.specs.Between.{FieldsRead, LineJudged, LinesRead}
+use Rattle.packs.specs.Loading.{LoadsLines}
+use Rattle.packs.proofs.Steps.{close-ready}
+use Rattle.packs.proofs.FieldLoop.{emptied, fields-begin, fields-ready, fields-fault, fields-early, fields-more, fields-all}
+use Rattle.packs.proofs.LineEnds.{unweighed, unclosed, closedTables, closable, closed}
+use Rattle.packs.proofs.JudgedLines.{refused-line, refused-opening}
+use Rattle.packs.proofs.LineLoop.{lines-more, lines-refused}
+
+module _ {text : Bytes} {start : State} {t₀ : Tables} {s : State} {t : Tables} {weights : List ℤ} {number at : ℕ} (read : LinesRead text start t₀ s t weights number at) where
+  pub turn-begins : {line : Bytes} {o : Opened} {many : ℕ} → many ≡ variablesBefore (o .letter) s → FieldsRead (o .letter) line t s o many (o .from) 0 (emptied t weights)
+  turn-begins {line} {o} is = subst⁻¹ (λ (n : ℕ). FieldsRead (o .letter) line t s o n (o .from) 0 (emptied t weights)) is (fields-begin (o .letter) (read .safe) (read .clear))
+
+  module _ {end : ℕ} (inside : at < length text) (finds : Finds text 10 at end) {r : Opening} (opens : Opens (part text at end) (t .names) (t .signatures) s r) where
+    -- refused when it is opened
+    pub turn-unopened : {f : Fault} → r ≡ Misopened f → {form : Form} {names signatures : List ℕ} {claims : List ℤ} → LoadsLines text start t₀ (record { ending = Stopped f; line = number + 1; state = s; residual = form }) names signatures claims
+    turn-unopened {f} e =
+        lines-refused read inside finds (refused-opening (unweighed (read .clear) (read .safe .rows)) opens f e) refl
+        (λ is. absurd (omega (arith, opens .early f e, ap numberOf is)))
+
+    module _ {o : Opened} (opened : r ≡ Line o) where
+      safe-opened : SafeOpened (part text at end) s o
+      safe-opened = opens .safe o opened
+
+      passed : (w : Written) → Holds t s w → Passed (o .letter) (part text at end) s w o
+      passed w holds = opens .tells w (outline t s w holds) .passed o opened
+
+      module _ {many from index : ℕ} {x₀ : Stores} (fields : FieldsRead (o .letter) (part text at end) t s o many from index x₀) where
+        module _ {stop : ℕ} (within : from ≤ length (part text at end)) (found : Finds (part text at end) 44 from stop) where
+          pub turn-ready : FieldReady (o .letter) index (part (part text at end) from stop) s many (t .claims) (t .slots) x₀
+          turn-ready = fields-ready (read .safe) (safe-opened .short) (o .letter) (safe-opened .few) fields within found
+
+          pub turn-index-fits : Fits w64 (index + 1)
+          turn-index-fits = omega (arith, fields .low, safe-opened .short)
+
+          pub turn-from-fits : Fits w64 (stop + 1)
+          turn-from-fits = omega (arith, found .high, safe-opened .short)
+
+          module _ {field : Fielding} {x : Stores} (done : FieldDone (o .letter) index (part (part text at end) from stop) s many (t .claims) (t .slots) x₀ field x) where
+            pub turn-more : {n : ℕ} → field ≡ Read n → FieldsRead (o .letter) (part text at end) t s o n (stop + 1) (index + 1) x
+            turn-more = fields-more (read .safe) (safe-opened .short) (o .letter) (safe-opened .few) fields within found x done
+
+            -- refused at a field
+            pub turn-misread : {f : Fault} → field ≡ Misread f → {form : Form} {names signatures : List ℕ} {claims : List ℤ} → LoadsLines text start t₀ (record { ending = Stopped f; line = number + 1; state = s; residual = form }) names signatures claims
+            turn-misread {f} bad =
+                let early = fields-early (read .safe) (safe-opened .short) (o .letter) (safe-opened .few) fields within found x done f bad in
+                lines-refused read inside finds {t₁ = t}
+                (refused-line f (omega (arith, early)) (unweighed (read .clear) (read .safe .rows)) (λ w holds. fields-fault (read .safe) (safe-opened .short) (o .letter) (safe-opened .few) fields within found x done f bad w holds (passed w holds)))
+                refl
+                (λ is. absurd (omega (arith, early, ap numberOf is)))
+
+        module _ (past : length (part text at end) < from) where
+          all : index ≡ length (partsFrom 44 (part text at end) (o .from))
+          all = fields-all (read .safe) (safe-opened .short) (o .letter) (safe-opened .few) fields past
+
+          pub turn-closable : CloseReady (o .letter) o s (x₀ .rows) (unclosed t x₀)
+          turn-closable = close-ready (closable (read .safe) (o .letter) fields (safe-opened .few) (safe-opened .place) (safe-opened .due) all)
+
+          module _ {close : Closing} {y : Tabled} (done : CloseDone (o .letter) o s many (x₀ .small) (x₀ .row) (x₀ .rows) (unclosed t x₀) close y) where
+            judged : LineJudged (part text at end) s t close (closedTables x₀ y) (y .weights)
+            judged = closed (read .safe) (o .letter) fields (safe-opened .few) (safe-opened .place) (safe-opened .due) all passed (done .of (o .letter) refl)
+
+            pub turn-done : {next : State} → close ≡ Done next → LinesRead text start t₀ next (closedTables x₀ y) (y .weights) (number + 1) (end + 1)
+            turn-done = lines-more read inside finds judged
+
+            pub turn-summable : Summable (y .weights) (x₀ .rows)
+            turn-summable = judged .summable
+
+            -- refused at its end
+            pub turn-refused : {f : Fault} → close ≡ Misclosed f → {form : Form} → SumsTo (y .weights) (x₀ .rows) (s .subgoals + 1) form → {names signatures : List ℕ} {claims : List ℤ}
+                → LoadsLines text start t₀ (record { ending = Stopped f; line = number + 1; state = s; residual = form }) names signatures claims
+            turn-refused bad sums = lines-refused read inside finds judged bad (λ is. sums)

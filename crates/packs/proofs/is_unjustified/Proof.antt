@@ -1,0 +1,84 @@
+-- `packs::is_unjustified` meets its contract. Assumes nothing.
+use mathlib.Core.Path.{refl}
+use borrow.Author.Needs.{needs}
+use Rattle.tables.specs.declared.Fault.the-variants.{UnfitLine, Letter, Name, Declaration, FieldCount, Number, NoTerm, CountLimit, Unjustified}
+use Rattle.packs.proofs.LoadAnswers.{fault-flag}
+use Rattle.packs.proofs.is_unjustified.Statement.{statement}
+use Rattle.packs.proofs.is_unjustified.Tie as tie
+
+enum-told : tie.Need-enum-told
+enum-told c = search needs
+
+enum-told-2 : tie.Need-enum-told-2
+enum-told-2 c = search needs
+
+enum-told-3 : tie.Need-enum-told-3
+enum-told-3 c = search needs
+
+enum-told-4 : tie.Need-enum-told-4
+enum-told-4 c = search needs
+
+enum-told-5 : tie.Need-enum-told-5
+enum-told-5 c = search needs
+
+enum-told-6 : tie.Need-enum-told-6
+enum-told-6 c = search needs
+
+enum-told-7 : tie.Need-enum-told-7
+enum-told-7 c = search needs
+
+enum-told-8 : tie.Need-enum-told-8
+enum-told-8 c = search needs
+
+enum-told-9 : tie.Need-enum-told-9
+enum-told-9 c = search needs
+
+returns : tie.Need-returns
+returns c = fault-flag UnfitLine (c .before .before .args .fault) (search needs) refl
+
+returns-2 : tie.Need-returns-2
+returns-2 c = fault-flag Letter (c .before .before .args .fault) (search needs) refl
+
+returns-3 : tie.Need-returns-3
+returns-3 c = fault-flag Name (c .before .before .args .fault) (search needs) refl
+
+returns-4 : tie.Need-returns-4
+returns-4 c = fault-flag Declaration (c .before .before .args .fault) (search needs) refl
+
+returns-5 : tie.Need-returns-5
+returns-5 c = fault-flag FieldCount (c .before .before .args .fault) (search needs) refl
+
+returns-6 : tie.Need-returns-6
+returns-6 c = fault-flag Number (c .before .before .args .fault) (search needs) refl
+
+returns-7 : tie.Need-returns-7
+returns-7 c = fault-flag NoTerm (c .before .before .args .fault) (search needs) refl
+
+returns-8 : tie.Need-returns-8
+returns-8 c = fault-flag CountLimit (c .before .before .args .fault) (search needs) refl
+
+returns-9 : tie.Need-returns-9
+returns-9 c = fault-flag Unjustified (c .before .before .args .fault) (search needs) refl
+
+pub is-unjustified-spec : {M : Type 1} → statement M
+is-unjustified-spec =
+    tie.close
+    (tie.spec
+    enum-told
+    enum-told-2
+    enum-told-3
+    enum-told-4
+    enum-told-5
+    enum-told-6
+    enum-told-7
+    enum-told-8
+    enum-told-9
+    returns
+    returns-2
+    returns-3
+    returns-4
+    returns-5
+    returns-6
+    returns-7
+    returns-8
+    returns-9)

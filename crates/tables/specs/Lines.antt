@@ -1,0 +1,106 @@
+-- A line by its steps: opened, when its tests up to the count of fields are done; its fields read; closed.
+use mathlib.Core.Path.{_≡_}
+use mathlib.Core.Bool.{true, false}
+use mathlib.Core.List.{List, []}
+use mathlib.Core.Option.{some, none}
+use Prim.Native.Nat.{ℕ, _+_, _≤_, _<_}
+use lib.ListN.{length, getD, drop}
+use Rattle.theory.specs.declared.Letter.{Letter}
+use Rattle.theory.specs.declared.Letter.the-variants.{P, C, H, B, M, E, NoLetter}
+use Rattle.theory.specs.Text.{Bytes, isName, fieldsOf}
+use Rattle.theory.specs.Packs.{Key, keyOf, claimKey, atomKey, declaredAs}
+use Rattle.theory.specs.Written.{lineLetter, field, predicateFrom, claimFrom, atomFrom, Written, write}
+use Rattle.theory.specs.Faults.{firstOf, mayStand, tests, fault}
+use Rattle.text.specs.Scans.{partsFrom}
+use Rattle.text.specs.Words.{wordsOf}
+use Rattle.tables.specs.declared.State.{State}
+use Rattle.tables.specs.declared.Opened.{Opened}
+use Rattle.tables.specs.declared.Closing.{Closing}
+use Rattle.tables.specs.declared.Closing.the-variants.{Done}
+use Rattle.tables.specs.Faults.{closingNumber}
+use Rattle.tables.specs.Tables.{Tables, predicateAt, Holds}
+
+-- ## Opened
+
+-- the fields in front of those that are read one by one
+abbrev pub skipped : Letter → ℕ
+skipped P = 2
+skipped C = 2
+skipped H = 2
+skipped B = 2
+skipped M = 1
+skipped E = 1
+skipped NoLetter = 1
+
+-- how many of a letter's tests the opening does
+abbrev pub opening : Letter → ℕ
+opening P = 3
+opening C = 3
+opening H = 3
+opening B = 3
+opening M = 1
+opening E = 1
+opening NoLetter = 0
+
+-- the most fields that are read one by one
+abbrev pub most : Letter → State → ℕ
+most P s = 2
+most C s = 9
+most H s = 8
+most B s = 8
+most M s = s .slots
+most E s = 0
+most NoLetter s = 0
+
+-- a predicate that is not declared yet, in a line of four fields
+pub record NewPredicate (line : Bytes) (w : Written) (o : Opened) : Type 0 where
+  pub named : isName (field 1 (fieldsOf line)) ≡ true
+  pub isNew : declaredAs (keyOf (predicateFrom (fieldsOf line))) (w .pack .predicates) ≡ none
+  pub four : length (fieldsOf line) ≡ 4
+  pub words : o .words ≡ wordsOf (field 1 (fieldsOf line))
+
+-- the predicate declared under a key, in a line with a field for each argument and some more
+pub record OldPredicate (k : Key) (more : ℕ) (line : Bytes) (w : Written) (o : Opened) : Type 0 where
+  pub named : isName (field 1 (fieldsOf line)) ≡ true
+  pub below : o .predicate < length (w .pack .predicates)
+  pub declared : declaredAs k (w .pack .predicates) ≡ some (predicateAt (w .pack .predicates) (o .predicate))
+  pub is : keyOf (predicateAt (w .pack .predicates) (o .predicate)) ≡ k
+  pub full : length (fieldsOf line) ≡ predicateAt (w .pack .predicates) (o .predicate) .arguments + more
+
+abbrev pub NamedFor : Letter → Bytes → State → Written → Opened → Type 0
+NamedFor P line s w o = NewPredicate line w o
+NamedFor C line s w o = OldPredicate (claimKey (claimFrom (fieldsOf line))) 3 line w o
+NamedFor H line s w o = OldPredicate (atomKey (atomFrom (fieldsOf line))) 2 line w o
+NamedFor B line s w o = OldPredicate (atomKey (atomFrom (fieldsOf line))) 2 line w o
+NamedFor M line s w o = length (fieldsOf line) ≡ s .slots + 1
+NamedFor E line s w o = length (fieldsOf line) ≡ 1
+NamedFor NoLetter line s w o = ⊥
+
+-- a line of a letter that has passed these tests: the others decide
+pub record Passed (letter : Letter) (line : Bytes) (s : State) (w : Written) (o : Opened) : Type 0 where
+  pub first : lineLetter line ≡ letter
+  pub short : length line ≤ 1024
+  pub unended : w .ended ≡ false
+  pub stands : mayStand (w .pack) letter ≡ true
+  pub left : fault w line ≡ firstOf (drop (opening letter) (tests letter (fieldsOf line) (w .pack)))
+  pub rest : partsFrom 44 line (o .from) ≡ drop (skipped letter) (fieldsOf line)
+  pub named : NamedFor letter line s w o
+
+-- what holds of an opened line whatever the lines before it write
+pub record SafeOpened (line : Bytes) (s : State) (o : Opened) : Type 0 where
+  pub short : length line ≤ 1024
+  pub few : length (partsFrom 44 line (o .from)) ≤ most (o .letter) s
+  pub place : (o .letter ≡ P → ⊥) → o .predicate < 32
+  pub due : o .letter ≡ M → s .multipliers < 16
+
+-- ## Its fields, from 0
+
+abbrev pub at : List Bytes → ℕ → Bytes
+at fs i = getD fs i []
+
+-- ## Closed
+
+-- a line that is read whole, after lines that write w: its fault, and the tables after it
+pub record ClosedFor (line : Bytes) (w : Written) (r : Closing) (t : Tables) : Type 0 where
+  pub answer : fault w line ≡ closingNumber r
+  pub holds : (next : State) → r ≡ Done next → Holds t next (write w line)
