@@ -6,33 +6,6 @@ use Rattle.theory.specs.Answers.{reservedFields}
 use Rattle.answers.proofs.fields_of.Statement.{statement}
 use Rattle.answers.proofs.fields_of.Tie as tie
 
-enum-known-reservation : tie.Need-enum-known-reservation
-enum-known-reservation c = search needs
-
-enum-told : tie.Need-enum-told
-enum-told c = search needs
-
-enum-known-reservation-2 : tie.Need-enum-known-reservation-2
-enum-known-reservation-2 c = search needs
-
-enum-known-reservation-3 : tie.Need-enum-known-reservation-3
-enum-known-reservation-3 c = search needs
-
-refusal-numbers-requires : tie.Need-refusal-numbers-requires
-refusal-numbers-requires c κs = search needs
-
-refused-requires : tie.Need-refused-requires
-refused-requires c κs = search needs
-
-enum-known-reservation-4 : tie.Need-enum-known-reservation-4
-enum-known-reservation-4 c = search needs
-
-query-number-requires : tie.Need-query-number-requires
-query-number-requires c κs = search needs
-
-refused-requires-2 : tie.Need-refused-requires-2
-refused-requires-2 c κs = search needs
-
 returns : tie.Need-returns
 returns c = ap reservedFields (sym (c .before .reservation .given .1))
 
@@ -50,19 +23,6 @@ returns-5 c = c .refused2 .ensures ∙ ap (λ n. fields 82 n 0) (c .before .quer
 
 pub fields-of-spec : {M : Type 1} → statement M
 fields-of-spec =
-    tie.close
-    (tie.spec
-    enum-known-reservation
-    enum-told
-    enum-known-reservation-2
-    enum-known-reservation-3
-    refusal-numbers-requires
-    refused-requires
-    enum-known-reservation-4
-    query-number-requires
-    refused-requires-2
-    returns
-    returns-2
-    returns-3
-    returns-4
-    returns-5)
+    tie.close (tie.spec (λ c. search needs) (λ c. search needs) (λ c. search needs) (λ c. search needs)
+    (λ c κs. search needs) (λ c κs. search needs) (λ c. search needs) (λ c κs. search needs) (λ c κs. search needs)
+    returns returns-2 returns-3 returns-4 returns-5)

@@ -5,18 +5,6 @@ use Rattle.theory.specs.Answers.{measuredOf}
 use Rattle.answers.proofs.measured_of.Statement.{statement}
 use Rattle.answers.proofs.measured_of.Tie as tie
 
-enum-known-measurement : tie.Need-enum-known-measurement
-enum-known-measurement c = search needs
-
-enum-told : tie.Need-enum-told
-enum-told c = search needs
-
-enum-told-2 : tie.Need-enum-told-2
-enum-told-2 c = search needs
-
-enum-told-3 : tie.Need-enum-told-3
-enum-told-3 c = search needs
-
 returns : tie.Need-returns
 returns c = ap measuredOf (sym (c .before .measurement .given .1))
 
@@ -31,13 +19,5 @@ returns-4 c = ap measuredOf (sym (c .enum-told3 .given .1))
 
 pub measured-of-spec : {M : Type 1} → statement M
 measured-of-spec =
-    tie.close
-    (tie.spec
-    enum-known-measurement
-    enum-told
-    enum-told-2
-    enum-told-3
-    returns
-    returns-2
-    returns-3
-    returns-4)
+    tie.close (tie.spec (λ c. search needs) (λ c. search needs) (λ c. search needs) (λ c. search needs) returns
+    returns-2 returns-3 returns-4)

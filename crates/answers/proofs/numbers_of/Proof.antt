@@ -5,15 +5,6 @@ use Rattle.theory.specs.Answers.{numbersOf}
 use Rattle.answers.proofs.numbers_of.Statement.{statement}
 use Rattle.answers.proofs.numbers_of.Tie as tie
 
-enum-known-verdict : tie.Need-enum-known-verdict
-enum-known-verdict c = search needs
-
-enum-known-verdict-2 : tie.Need-enum-known-verdict-2
-enum-known-verdict-2 c = search needs
-
-refusal-numbers-requires : tie.Need-refusal-numbers-requires
-refusal-numbers-requires c κs = search needs
-
 returns : tie.Need-returns
 returns c = ap numbersOf (sym (c .before .verdict .given .1))
 
@@ -22,5 +13,4 @@ returns-2 c = c .refusal-numbers .ensures ∙ ap numbersOf (sym (c .before .befo
 
 pub numbers-of-spec : {M : Type 1} → statement M
 numbers-of-spec =
-    tie.close
-    (tie.spec enum-known-verdict enum-known-verdict-2 refusal-numbers-requires returns returns-2)
+    tie.close (tie.spec (λ c. search needs) (λ c. search needs) (λ c κs. search needs) returns returns-2)

@@ -15,42 +15,6 @@ abbrev μ-loop : tie.MeasureT-loop
 loop-holds : tie.Need-loop-holds Inv-loop μ-loop
 loop-holds c = search (needs, slots-none)
 
-claim-place-requires : tie.Need-claim-place-requires Inv-loop μ-loop
-claim-place-requires c κs = search needs
-
-short-requires : tie.Need-short-requires Inv-loop μ-loop
-short-requires c κs = search needs
-
-add-slots : tie.Need-add-slots Inv-loop μ-loop
-add-slots c = search needs
-
-mul-slots : tie.Need-mul-slots Inv-loop μ-loop
-mul-slots c = search needs
-
-element-write-slots : tie.Need-element-write-slots Inv-loop μ-loop
-element-write-slots c = search needs
-
-short-requires-2 : tie.Need-short-requires-2 Inv-loop μ-loop
-short-requires-2 c κs = search needs
-
-add-slots-2 : tie.Need-add-slots-2 Inv-loop μ-loop
-add-slots-2 c = search needs
-
-add-slots-3 : tie.Need-add-slots-3 Inv-loop μ-loop
-add-slots-3 c = search needs
-
-mul-slots-2 : tie.Need-mul-slots-2 Inv-loop μ-loop
-mul-slots-2 c = search needs
-
-element-write-slots-2 : tie.Need-element-write-slots-2 Inv-loop μ-loop
-element-write-slots-2 c = search needs
-
-add-j : tie.Need-add-j Inv-loop μ-loop
-add-j c = search needs
-
-loop-less : tie.Need-loop-less Inv-loop μ-loop
-loop-less c = search needs
-
 loop-again : tie.Need-loop-again Inv-loop μ-loop
 loop-again c = search (needs, slots-more)
 
@@ -59,22 +23,6 @@ returns c = search (needs, slots-all)
 
 pub add-slots-spec : {M : Type 1} → statement M
 add-slots-spec =
-    tie.close
-    (tie.spec
-    Inv-loop
-    μ-loop
-    loop-holds
-    claim-place-requires
-    short-requires
-    add-slots
-    mul-slots
-    element-write-slots
-    short-requires-2
-    add-slots-2
-    add-slots-3
-    mul-slots-2
-    element-write-slots-2
-    add-j
-    loop-less
-    loop-again
-    returns)
+    tie.close (tie.spec Inv-loop μ-loop loop-holds (λ c κs. search needs) (λ c κs. search needs) (λ c. search needs)
+    (λ c. search needs) (λ c. search needs) (λ c κs. search needs) (λ c. search needs) (λ c. search needs)
+    (λ c. search needs) (λ c. search needs) (λ c. search needs) (λ c. search needs) loop-again returns)

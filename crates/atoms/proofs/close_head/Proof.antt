@@ -4,17 +4,12 @@ use Rattle.atoms.proofs.Ends.{head-refused, head-done}
 use Rattle.atoms.proofs.close_head.Statement.{statement}
 use Rattle.atoms.proofs.close_head.Tie as tie
 
-is-past-requires : tie.Need-is-past-requires
-is-past-requires c κs = search needs
-
 returns : tie.Need-returns
 returns c = search (needs, head-refused)
-
-add-next : tie.Need-add-next
-add-next c = search needs
 
 returns-2 : tie.Need-returns-2
 returns-2 c = search (needs, head-done)
 
 pub close-head-spec : {M : Type 1} → statement M
-close-head-spec = tie.close (tie.spec is-past-requires returns add-next returns-2)
+close-head-spec =
+    tie.close (tie.spec (λ c κs. search needs) returns (λ c. search needs) returns-2)

@@ -6,20 +6,8 @@ use Rattle.atoms.proofs.Ends.{room-left, subgoal-refused, subgoal-done}
 use Rattle.atoms.proofs.close_subgoal.Statement.{statement}
 use Rattle.atoms.proofs.close_subgoal.Tie as tie
 
-is-past-requires : tie.Need-is-past-requires
-is-past-requires c κs = search needs
-
 returns : tie.Need-returns
 returns c = search (needs, subgoal-refused)
-
-add-wide : tie.Need-add-wide
-add-wide c = search needs
-
-element-copy-out-wide : tie.Need-element-copy-out-wide
-element-copy-out-wide c = search needs
-
-wide-requires : tie.Need-wide-requires
-wide-requires c κs = search needs
 
 add-slots-requires : tie.Need-add-slots-requires
 add-slots-requires c κs =
@@ -43,14 +31,5 @@ returns-2 c = search (needs, subgoal-done)
 
 pub close-subgoal-spec : {M : Type 1} → statement M
 close-subgoal-spec =
-    tie.close
-    (tie.spec
-    is-past-requires
-    returns
-    add-wide
-    element-copy-out-wide
-    wide-requires
-    add-slots-requires
-    add-next
-    add-next-2
-    returns-2)
+    tie.close (tie.spec (λ c κs. search needs) returns (λ c. search needs) (λ c. search needs) (λ c κs. search needs)
+    add-slots-requires add-next add-next-2 returns-2)

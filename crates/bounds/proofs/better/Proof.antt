@@ -22,4 +22,5 @@ returns-4 c =
     better-kept (args .best) (args .u) (args .claim) (c .before .before .before .before .before .if1 .left) (c .before .before .before .if2 .left) (c .if3 .left)
 
 pub better-spec : {M : Type 1} → statement M
-better-spec = tie.close (tie.spec returns returns-2 returns-3 returns-4)
+better-spec =
+    tie.close (tie.spec returns returns-2 returns-3 returns-4)

@@ -4,9 +4,6 @@ use Rattle.bounds.proofs.Numbers.{blocked-unknown, blocked-known}
 use Rattle.bounds.proofs.is_blocked.Statement.{statement}
 use Rattle.bounds.proofs.is_blocked.Tie as tie
 
-is-positive-requires : tie.Need-is-positive-requires
-is-positive-requires c κs = search needs
-
 returns : tie.Need-returns
 returns c =
     let start = c .before .before in
@@ -16,4 +13,5 @@ returns-2 : tie.Need-returns-2
 returns-2 c = blocked-known (c .before .args .number) (c .before .args .size) (c .if1 .left)
 
 pub is-blocked-spec : {M : Type 1} → statement M
-is-blocked-spec = tie.close (tie.spec is-positive-requires returns returns-2)
+is-blocked-spec =
+    tie.close (tie.spec (λ c κs. search needs) returns returns-2)

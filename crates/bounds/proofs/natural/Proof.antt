@@ -7,8 +7,6 @@ use Rattle.bounds.proofs.natural.Tie as tie
 cast-result : tie.Need-cast-result
 cast-result c = natural-fits (c .args .z) (c .fits .z) (c .pre)
 
-returns : tie.Need-returns
-returns c = search needs
-
 pub natural-spec : {M : Type 1} → statement M
-natural-spec = tie.close (tie.spec cast-result returns)
+natural-spec =
+    tie.close (tie.spec cast-result (λ c. search needs))

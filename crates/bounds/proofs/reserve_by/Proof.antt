@@ -15,43 +15,10 @@ abbrev μ-loop : tie.MeasureT-loop
 loop-holds : tie.Need-loop-holds Inv-loop μ-loop
 loop-holds c = (search needs, reserving-none)
 
-mul-use-claim : tie.Need-mul-use-claim Inv-loop μ-loop
-mul-use-claim c = search needs
-
-add-use-claim : tie.Need-add-use-claim Inv-loop μ-loop
-add-use-claim c = search needs
-
-mul-use-claim-2 : tie.Need-mul-use-claim-2 Inv-loop μ-loop
-mul-use-claim-2 c = search needs
-
-use-claim-requires : tie.Need-use-claim-requires Inv-loop μ-loop
-use-claim-requires c κs = search needs
-
-add-byte : tie.Need-add-byte Inv-loop μ-loop
-add-byte c = search needs
-
-byte-requires : tie.Need-byte-requires Inv-loop μ-loop
-byte-requires c κs = search needs
-
 returns : tie.Need-returns Inv-loop μ-loop
 returns c =
     let turn = c .before .before .before .before .loop in
     reserving-impossible (turn .inv .1) (omega arith) (c .before .before .use-claim .ensures) (c .byte .result) (c .byte .ensures) (c .before .if1 .taken)
-
-add-byte-2 : tie.Need-add-byte-2 Inv-loop μ-loop
-add-byte-2 c = search needs
-
-byte-requires-2 : tie.Need-byte-requires-2 Inv-loop μ-loop
-byte-requires-2 c κs = search needs
-
-better-requires : tie.Need-better-requires Inv-loop μ-loop
-better-requires c κs = search needs
-
-add-i : tie.Need-add-i Inv-loop μ-loop
-add-i c = search needs
-
-loop-less : tie.Need-loop-less Inv-loop μ-loop
-loop-less c = search needs
 
 loop-again : tie.Need-loop-again Inv-loop μ-loop
 loop-again c =
@@ -68,23 +35,7 @@ returns-3 c = reserving-bounded (c .before .before .before .loop .inv .1) (c .be
 
 pub reserve-by-spec : {M : Type 1} → statement M
 reserve-by-spec =
-    tie.close
-    (tie.spec
-    Inv-loop
-    μ-loop
-    loop-holds
-    mul-use-claim
-    add-use-claim
-    mul-use-claim-2
-    use-claim-requires
-    add-byte
-    byte-requires
-    returns
-    add-byte-2
-    byte-requires-2
-    better-requires
-    add-i
-    loop-less
-    loop-again
-    returns-2
+    tie.close (tie.spec Inv-loop μ-loop loop-holds (λ c. search needs) (λ c. search needs) (λ c. search needs)
+    (λ c κs. search needs) (λ c. search needs) (λ c κs. search needs) returns (λ c. search needs)
+    (λ c κs. search needs) (λ c κs. search needs) (λ c. search needs) (λ c. search needs) loop-again returns-2
     returns-3)

@@ -7,9 +7,6 @@ use Rattle.bounds.proofs.share_of.Tie as tie
 returns : tie.Need-returns
 returns c = share-none (c .before .args .number) (c .before .args .size) (c .if1 .taken)
 
-signed-requires : tie.Need-signed-requires
-signed-requires c κs = search needs
-
 mul-result : tie.Need-mul-result
 mul-result c =
     let start = c .before .before in
@@ -21,4 +18,5 @@ returns-2 c =
     share-is (start .args .number) (start .args .size) (c .signed .result) (start .pre) (c .signed .ensures) (c .before .if1 .left)
 
 pub share-of-spec : {M : Type 1} → statement M
-share-of-spec = tie.close (tie.spec returns signed-requires mul-result returns-2)
+share-of-spec =
+    tie.close (tie.spec returns (λ c κs. search needs) mul-result returns-2)

@@ -14,41 +14,11 @@ asked c = record {
   told = c .is-negative .ensures;
 }
 
-add-long : tie.Need-add-long
-add-long c = search needs
-
-add-long-2 : tie.Need-add-long-2
-add-long-2 c = search needs
-
-mul-long : tie.Need-mul-long
-mul-long c = search needs
-
-element-copy-out-long : tie.Need-element-copy-out-long
-element-copy-out-long c = search needs
-
-long-requires : tie.Need-long-requires
-long-requires c κs = search needs
-
-is-negative-requires : tie.Need-is-negative-requires
-is-negative-requires c κs = search needs
-
-unusable-requires : tie.Need-unusable-requires
-unusable-requires c κs = search needs
-
 returns : tie.Need-returns
 returns c = use-unasked (c .unusable .ensures) (asked (c .before .before)) (c .before .if1 .taken)
 
-weigh-requires : tie.Need-weigh-requires
-weigh-requires c κs = search needs
-
-unusable-requires-2 : tie.Need-unusable-requires-2
-unusable-requires-2 c κs = search needs
-
 returns-2 : tie.Need-returns-2
 returns-2 c = use-blocked (c .unusable2 .ensures) (c .before .before .weigh .ensures) (c .before .if2 .taken)
-
-is-negative-requires-2 : tie.Need-is-negative-requires-2
-is-negative-requires-2 c κs = search needs
 
 returns-3 : tie.Need-returns-3
 returns-3 c =
@@ -86,23 +56,7 @@ returns-4 c =
 
 pub use-claim-spec : {M : Type 1} → statement M
 use-claim-spec =
-    tie.close
-    (tie.spec
-    add-long
-    add-long-2
-    mul-long
-    element-copy-out-long
-    long-requires
-    is-negative-requires
-    unusable-requires
-    returns
-    weigh-requires
-    unusable-requires-2
-    returns-2
-    is-negative-requires-2
-    returns-3
-    natural-requires
-    sub-natural
-    natural-requires-2
-    div-t20
-    returns-4)
+    tie.close (tie.spec (λ c. search needs) (λ c. search needs) (λ c. search needs) (λ c. search needs)
+    (λ c κs. search needs) (λ c κs. search needs) (λ c κs. search needs) returns (λ c κs. search needs)
+    (λ c κs. search needs) returns-2 (λ c κs. search needs) returns-3 natural-requires sub-natural natural-requires-2
+    div-t20 returns-4)

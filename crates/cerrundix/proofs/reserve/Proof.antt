@@ -8,12 +8,6 @@ use Rattle.theory.proofs.Words.{reserved-room}
 use Rattle.cerrundix.proofs.reserve.Statement.{statement}
 use Rattle.cerrundix.proofs.reserve.Tie as tie
 
-reserve-requires : tie.Need-reserve-requires
-reserve-requires c κs = search needs
-
-fields-of-requires : tie.Need-fields-of-requires
-fields-of-requires c κs = search needs
-
 reserve-word-requires : tie.Need-reserve-word-requires
 reserve-word-requires c κs =
     omega (arith, ap (λ (x : Fields). x .middle) (c .fields-of .ensures ∙ c .before .reserve .ensures .0), reserved-room (c .before .before .before .before .args .text .now) (c .before .before .before .before .args .query .now) .middle)
@@ -23,4 +17,4 @@ returns c = c .reserve-word .ensures ∙ ap reserveWord (c .before .fields-of .e
 
 pub reserve-spec : {M : Type 1} → statement M
 reserve-spec =
-    tie.close (tie.spec reserve-requires fields-of-requires reserve-word-requires returns)
+    tie.close (tie.spec (λ c κs. search needs) (λ c κs. search needs) reserve-word-requires returns)

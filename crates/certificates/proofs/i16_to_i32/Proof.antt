@@ -15,4 +15,5 @@ returns : tie.Need-returns
 returns c = widened w16 w32 (c .args .z) _ tt (c .fits .z) refl
 
 pub i16-to-i32-spec : {M : Type 1} → statement M
-i16-to-i32-spec = tie.close (tie.spec cast-result returns)
+i16-to-i32-spec =
+    tie.close (tie.spec cast-result returns)

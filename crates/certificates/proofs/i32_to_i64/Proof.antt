@@ -15,4 +15,5 @@ returns : tie.Need-returns
 returns c = widened w32 w64 (c .args .z) _ tt (c .fits .z) refl
 
 pub i32-to-i64-spec : {M : Type 1} → statement M
-i32-to-i64-spec = tie.close (tie.spec cast-result returns)
+i32-to-i64-spec =
+    tie.close (tie.spec cast-result returns)

@@ -21,9 +21,6 @@ Inv-loop coefficients i₀ i =
 abbrev μ-loop : tie.MeasureT-loop
 μ-loop coefficients i₀ i = 16 - i
 
-is-negative-requires : tie.Need-is-negative-requires Inv-loop μ-loop
-is-negative-requires c κs = search needs
-
 returns : tie.Need-returns Inv-loop μ-loop
 returns c =
     let test = c .before .is-negative in
@@ -31,15 +28,6 @@ returns c =
 
 loop-holds : tie.Need-loop-holds Inv-loop μ-loop
 loop-holds c = (search needs, search needs, below-none _)
-
-mul-is-negative : tie.Need-mul-is-negative Inv-loop μ-loop
-mul-is-negative c = search needs
-
-array-copy-out-is-negative : tie.Need-array-copy-out-is-negative Inv-loop μ-loop
-array-copy-out-is-negative c = search needs
-
-is-negative-requires-2 : tie.Need-is-negative-requires-2 Inv-loop μ-loop
-is-negative-requires-2 c κs = search needs
 
 returns-2 : tie.Need-returns-2 Inv-loop μ-loop
 returns-2 c =
@@ -49,12 +37,6 @@ returns-2 c =
     (record { sfits = c .before .before .is-negative-arg .given })
     (test .ensures)
     (c .if2 .taken)
-
-add-i : tie.Need-add-i Inv-loop μ-loop
-add-i c = search needs
-
-loop-less : tie.Need-loop-less Inv-loop μ-loop
-loop-less c = search needs
 
 loop-again : tie.Need-loop-again Inv-loop μ-loop
 loop-again c =
@@ -74,18 +56,5 @@ returns-3 c =
 
 pub is-justified-spec : {M : Type 1} → statement M
 is-justified-spec =
-    tie.close
-    (tie.spec
-    Inv-loop
-    μ-loop
-    is-negative-requires
-    returns
-    loop-holds
-    mul-is-negative
-    array-copy-out-is-negative
-    is-negative-requires-2
-    returns-2
-    add-i
-    loop-less
-    loop-again
-    returns-3)
+    tie.close (tie.spec Inv-loop μ-loop (λ c κs. search needs) returns loop-holds (λ c. search needs)
+    (λ c. search needs) (λ c κs. search needs) returns-2 (λ c. search needs) (λ c. search needs) loop-again returns-3)

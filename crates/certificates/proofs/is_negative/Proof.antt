@@ -8,4 +8,5 @@ returns : tie.Need-returns
 returns c = search (needs, negative-flag)
 
 pub is-negative-spec : {M : Type 1} → statement M
-is-negative-spec = tie.close (tie.spec returns)
+is-negative-spec =
+    tie.close (tie.spec returns)

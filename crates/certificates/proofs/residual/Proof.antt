@@ -14,23 +14,8 @@ Inv-loop weights rows subgoals form₀ atom₀ form atom = (atom ≤ subgoals + 
 abbrev μ-loop : tie.MeasureT-loop
 μ-loop weights rows subgoals form₀ atom₀ form atom = subgoals + 1 - atom
 
-zero-requires : tie.Need-zero-requires Inv-loop μ-loop
-zero-requires c κs = search needs
-
 loop-holds : tie.Need-loop-holds Inv-loop μ-loop
 loop-holds c = (search needs, no-atoms (c .zero .ensures))
-
-with-atom-requires : tie.Need-with-atom-requires Inv-loop μ-loop
-with-atom-requires c κs = search needs
-
-add-atom : tie.Need-add-atom Inv-loop μ-loop
-add-atom c = search needs
-
-loop-less : tie.Need-loop-less Inv-loop μ-loop
-loop-less c = search needs
-
-loop-again : tie.Need-loop-again Inv-loop μ-loop
-loop-again c = search needs
 
 returns : tie.Need-returns Inv-loop μ-loop
 returns c =
@@ -40,14 +25,5 @@ returns c =
 
 pub residual-spec : {M : Type 1} → statement M
 residual-spec =
-    tie.close
-    (tie.spec
-    Inv-loop
-    μ-loop
-    zero-requires
-    loop-holds
-    with-atom-requires
-    add-atom
-    loop-less
-    loop-again
-    returns)
+    tie.close (tie.spec Inv-loop μ-loop (λ c κs. search needs) loop-holds (λ c κs. search needs) (λ c. search needs)
+    (λ c. search needs) (λ c. search needs) returns)

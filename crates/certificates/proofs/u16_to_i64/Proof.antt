@@ -6,11 +6,9 @@ use mir.Syntax.{w64}
 use Rattle.certificates.proofs.u16_to_i64.Statement.{statement}
 use Rattle.certificates.proofs.u16_to_i64.Tie as tie
 
-cast-result : tie.Need-cast-result
-cast-result c = search needs
-
 returns : tie.Need-returns
 returns c = toZ-pos w64 (omega arith)
 
 pub u16-to-i64-spec : {M : Type 1} → statement M
-u16-to-i64-spec = tie.close (tie.spec cast-result returns)
+u16-to-i64-spec =
+    tie.close (tie.spec (λ c. search needs) returns)

@@ -6,11 +6,9 @@ use mir.Syntax.{w32}
 use Rattle.certificates.proofs.u32_to_i32.Statement.{statement}
 use Rattle.certificates.proofs.u32_to_i32.Tie as tie
 
-cast-result : tie.Need-cast-result
-cast-result c = search needs
-
 returns : tie.Need-returns
 returns c = toZ-pos w32 (omega arith)
 
 pub u32-to-i32-spec : {M : Type 1} → statement M
-u32-to-i32-spec = tie.close (tie.spec cast-result returns)
+u32-to-i32-spec =
+    tie.close (tie.spec (λ c. search needs) returns)

@@ -30,53 +30,11 @@ store c =
 loop-holds : tie.Need-loop-holds Inv-loop μ-loop
 loop-holds c = (search needs, stored-none)
 
-mul-weight : tie.Need-mul-weight Inv-loop μ-loop
-mul-weight c = search needs
-
-add-weight : tie.Need-add-weight Inv-loop μ-loop
-add-weight c = search needs
-
-mul-weight-2 : tie.Need-mul-weight-2 Inv-loop μ-loop
-mul-weight-2 c = search needs
-
-element-copy-out-weight : tie.Need-element-copy-out-weight Inv-loop μ-loop
-element-copy-out-weight c = search needs
-
-add-i16-to-i32 : tie.Need-add-i16-to-i32 Inv-loop μ-loop
-add-i16-to-i32 c = search needs
-
-mul-i16-to-i32 : tie.Need-mul-i16-to-i32 Inv-loop μ-loop
-mul-i16-to-i32 c = search needs
-
-element-copy-out-i16-to-i32 : tie.Need-element-copy-out-i16-to-i32 Inv-loop μ-loop
-element-copy-out-i16-to-i32 c = search needs
-
-i16-to-i32-requires : tie.Need-i16-to-i32-requires Inv-loop μ-loop
-i16-to-i32-requires c κs = search needs
-
 mul-weights : tie.Need-mul-weights Inv-loop μ-loop
 mul-weights c = store c .product-fits
 
 sub-weights : tie.Need-sub-weights Inv-loop μ-loop
 sub-weights c = store c .fits
-
-mul-t10 : tie.Need-mul-t10 Inv-loop μ-loop
-mul-t10 c = search needs
-
-add-t20 : tie.Need-add-t20 Inv-loop μ-loop
-add-t20 c = search needs
-
-mul-t21 : tie.Need-mul-t21 Inv-loop μ-loop
-mul-t21 c = search needs
-
-element-set-from-weights : tie.Need-element-set-from-weights Inv-loop μ-loop
-element-set-from-weights c = search needs
-
-add-i : tie.Need-add-i Inv-loop μ-loop
-add-i c = search needs
-
-loop-less : tie.Need-loop-less Inv-loop μ-loop
-loop-less c = search needs
 
 loop-again : tie.Need-loop-again Inv-loop μ-loop
 loop-again c = (search needs, stored-more _ _ (c .before .before .before .before .loop .inv .1) (omega arith) (omega arith) (store c .result))
@@ -86,26 +44,7 @@ returns c = weighs-all _ _ _ _ _ _ _ (c .before .loop .inv .1) (c .before .befor
 
 pub weigh-spec : {M : Type 1} → statement M
 weigh-spec =
-    tie.close
-    (tie.spec
-    Inv-loop
-    μ-loop
-    loop-holds
-    mul-weight
-    add-weight
-    mul-weight-2
-    element-copy-out-weight
-    add-i16-to-i32
-    mul-i16-to-i32
-    element-copy-out-i16-to-i32
-    i16-to-i32-requires
-    mul-weights
-    sub-weights
-    mul-t10
-    add-t20
-    mul-t21
-    element-set-from-weights
-    add-i
-    loop-less
-    loop-again
-    returns)
+    tie.close (tie.spec Inv-loop μ-loop loop-holds (λ c. search needs) (λ c. search needs) (λ c. search needs)
+    (λ c. search needs) (λ c. search needs) (λ c. search needs) (λ c. search needs) (λ c κs. search needs) mul-weights
+    sub-weights (λ c. search needs) (λ c. search needs) (λ c. search needs) (λ c. search needs) (λ c. search needs)
+    (λ c. search needs) loop-again returns)

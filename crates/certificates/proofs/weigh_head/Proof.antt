@@ -18,30 +18,6 @@ abbrev μ-loop : tie.MeasureT-loop
 loop-holds : tie.Need-loop-holds Inv-loop μ-loop
 loop-holds c = (search needs, stored-none)
 
-add-i16-to-i32 : tie.Need-add-i16-to-i32 Inv-loop μ-loop
-add-i16-to-i32 c = search needs
-
-mul-i16-to-i32 : tie.Need-mul-i16-to-i32 Inv-loop μ-loop
-mul-i16-to-i32 c = search needs
-
-element-copy-out-i16-to-i32 : tie.Need-element-copy-out-i16-to-i32 Inv-loop μ-loop
-element-copy-out-i16-to-i32 c = search needs
-
-i16-to-i32-requires : tie.Need-i16-to-i32-requires Inv-loop μ-loop
-i16-to-i32-requires c κs = search needs
-
-mul-t12 : tie.Need-mul-t12 Inv-loop μ-loop
-mul-t12 c = search needs
-
-element-set-from-weights : tie.Need-element-set-from-weights Inv-loop μ-loop
-element-set-from-weights c = search needs
-
-add-i : tie.Need-add-i Inv-loop μ-loop
-add-i c = search needs
-
-loop-less : tie.Need-loop-less Inv-loop μ-loop
-loop-less c = search needs
-
 loop-again : tie.Need-loop-again Inv-loop μ-loop
 loop-again c = (
   search needs,
@@ -56,18 +32,6 @@ returns c =
 
 pub weigh-head-spec : {M : Type 1} → statement M
 weigh-head-spec =
-    tie.close
-    (tie.spec
-    Inv-loop
-    μ-loop
-    loop-holds
-    add-i16-to-i32
-    mul-i16-to-i32
-    element-copy-out-i16-to-i32
-    i16-to-i32-requires
-    mul-t12
-    element-set-from-weights
-    add-i
-    loop-less
-    loop-again
+    tie.close (tie.spec Inv-loop μ-loop loop-holds (λ c. search needs) (λ c. search needs) (λ c. search needs)
+    (λ c κs. search needs) (λ c. search needs) (λ c. search needs) (λ c. search needs) (λ c. search needs) loop-again
     returns)

@@ -13,47 +13,11 @@ Inv-loop weights rows atom form₀ k₀ form k = (k ≤ 8) × RowsAdded weights 
 abbrev μ-loop : tie.MeasureT-loop
 μ-loop weights rows atom form₀ k₀ form k = 8 - k
 
-mul-i32-to-i64 : tie.Need-mul-i32-to-i64 Inv-loop μ-loop
-mul-i32-to-i64 c = search needs
-
-mul-i32-to-i64-2 : tie.Need-mul-i32-to-i64-2 Inv-loop μ-loop
-mul-i32-to-i64-2 c = search needs
-
-element-copy-out-i32-to-i64 : tie.Need-element-copy-out-i32-to-i64 Inv-loop μ-loop
-element-copy-out-i32-to-i64 c = search needs
-
-i32-to-i64-requires : tie.Need-i32-to-i64-requires Inv-loop μ-loop
-i32-to-i64-requires c κs = search needs
-
 with-constant-requires : tie.Need-with-constant-requires Inv-loop μ-loop
 with-constant-requires c κs = let pre = c .before .before .pre in constant-requires (pre .1) (pre .0) (pre .2) (c .i32-to-i64 .ensures)
 
 loop-holds : tie.Need-loop-holds Inv-loop μ-loop
 loop-holds c = let pre = c .before .before .before .pre in (search needs, rows-none (pre .1) (pre .0) (pre .2) (c .before .i32-to-i64 .ensures) (c .with-constant .ensures))
-
-mul-weight : tie.Need-mul-weight Inv-loop μ-loop
-mul-weight c = search needs
-
-add-weight : tie.Need-add-weight Inv-loop μ-loop
-add-weight c = search needs
-
-add-weight-2 : tie.Need-add-weight-2 Inv-loop μ-loop
-add-weight-2 c = search needs
-
-mul-weight-2 : tie.Need-mul-weight-2 Inv-loop μ-loop
-mul-weight-2 c = search needs
-
-element-copy-out-weight : tie.Need-element-copy-out-weight Inv-loop μ-loop
-element-copy-out-weight c = search needs
-
-row-place-requires : tie.Need-row-place-requires Inv-loop μ-loop
-row-place-requires c κs = search needs
-
-form-at-requires : tie.Need-form-at-requires Inv-loop μ-loop
-form-at-requires c κs = search needs
-
-i32-to-i64-requires-2 : tie.Need-i32-to-i64-requires-2 Inv-loop μ-loop
-i32-to-i64-requires-2 c κs = search needs
 
 times-requires : tie.Need-times-requires Inv-loop μ-loop
 times-requires c κs =
@@ -65,12 +29,6 @@ plus-requires c κs =
     let pre = c .before .before .before .before .before .before .before .before .before .before .before .pre in
     let added = c .before .before .before .before .before .before .before .loop .inv .1 in
     row-plus (pre .1) (pre .0) (omega arith) (c .before .before .before .row-place .ensures) (c .before .before .form-at .ensures) (c .before .i32-to-i642 .ensures) (c .times .ensures) added
-
-add-k : tie.Need-add-k Inv-loop μ-loop
-add-k c = search needs
-
-loop-less : tie.Need-loop-less Inv-loop μ-loop
-loop-less c = search needs
 
 loop-again : tie.Need-loop-again Inv-loop μ-loop
 loop-again c =
@@ -88,27 +46,7 @@ returns c = atom-done (c .before .loop .inv .1) (omega arith)
 
 pub with-atom-spec : {M : Type 1} → statement M
 with-atom-spec =
-    tie.close
-    (tie.spec
-    Inv-loop
-    μ-loop
-    mul-i32-to-i64
-    mul-i32-to-i64-2
-    element-copy-out-i32-to-i64
-    i32-to-i64-requires
-    with-constant-requires
-    loop-holds
-    mul-weight
-    add-weight
-    add-weight-2
-    mul-weight-2
-    element-copy-out-weight
-    row-place-requires
-    form-at-requires
-    i32-to-i64-requires-2
-    times-requires
-    plus-requires
-    add-k
-    loop-less
-    loop-again
-    returns)
+    tie.close (tie.spec Inv-loop μ-loop (λ c. search needs) (λ c. search needs) (λ c. search needs)
+    (λ c κs. search needs) with-constant-requires loop-holds (λ c. search needs) (λ c. search needs)
+    (λ c. search needs) (λ c. search needs) (λ c. search needs) (λ c κs. search needs) (λ c κs. search needs)
+    (λ c κs. search needs) times-requires plus-requires (λ c. search needs) (λ c. search needs) loop-again returns)

@@ -13,4 +13,5 @@ returns c =
     record { constant = constant-adds (start .args .form .constant) (start .args .c) (start .pre) .result; coefficient = λ i. refl }
 
 pub with-constant-spec : {M : Type 1} → statement M
-with-constant-spec = tie.close (tie.spec add-t4 returns)
+with-constant-spec =
+    tie.close (tie.spec add-t4 returns)

@@ -19,8 +19,6 @@ cast-result-2 c = natural-cast (c .before .args .z) (c .before .fits .z) (c .if1
 returns : tie.Need-returns
 returns c = search (needs, size-is)
 
-returns-2 : tie.Need-returns-2
-returns-2 c = search needs
-
 pub size-spec : {M : Type 1} → statement M
-size-spec = tie.close (tie.spec sub-result cast-result add-result cast-result-2 returns returns-2)
+size-spec =
+    tie.close (tie.spec sub-result cast-result add-result cast-result-2 returns (λ c. search needs))

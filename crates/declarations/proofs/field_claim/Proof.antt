@@ -4,23 +4,8 @@ use Rattle.declarations.proofs.ClaimFields.{number-small, number-read, 
 use Rattle.declarations.proofs.field_claim.Statement.{statement}
 use Rattle.declarations.proofs.field_claim.Tie as tie
 
-read-integer-requires : tie.Need-read-integer-requires
-read-integer-requires c κs = search needs
-
-enum-known-number : tie.Need-enum-known-number
-enum-known-number c = search needs
-
 narrow-requires : tie.Need-narrow-requires
 narrow-requires c κs = search (needs, number-small)
-
-mul-t9 : tie.Need-mul-t9
-mul-t9 c = search needs
-
-element-set-from-row : tie.Need-element-set-from-row
-element-set-from-row c = search needs
-
-enum-told : tie.Need-enum-told
-enum-told c = search needs
 
 returns : tie.Need-returns
 returns c = search (needs, number-read)
@@ -30,13 +15,5 @@ returns-2 c = search (needs, no-number)
 
 pub field-claim-spec : {M : Type 1} → statement M
 field-claim-spec =
-    tie.close
-    (tie.spec
-    read-integer-requires
-    enum-known-number
-    narrow-requires
-    mul-t9
-    element-set-from-row
-    enum-told
-    returns
-    returns-2)
+    tie.close (tie.spec (λ c κs. search needs) (λ c. search needs) narrow-requires (λ c. search needs)
+    (λ c. search needs) (λ c. search needs) returns returns-2)

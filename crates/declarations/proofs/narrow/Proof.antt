@@ -13,4 +13,5 @@ returns : tie.Need-returns
 returns c = let small : SFits w16 (c .args .z) = narrow-fits (c .args .z) (c .pre) in search needs
 
 pub narrow-spec : {M : Type 1} → statement M
-narrow-spec = tie.close (tie.spec cast-result returns)
+narrow-spec =
+    tie.close (tie.spec cast-result returns)

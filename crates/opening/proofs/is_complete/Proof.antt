@@ -7,18 +7,9 @@ use Rattle.opening.proofs.is_complete.Tie as tie
 returns : tie.Need-returns
 returns c = search (needs, completes-none)
 
-add-wide : tie.Need-add-wide
-add-wide c = search needs
-
-element-copy-out-wide : tie.Need-element-copy-out-wide
-element-copy-out-wide c = search needs
-
-wide-requires : tie.Need-wide-requires
-wide-requires c κs = search needs
-
 returns-2 : tie.Need-returns-2
 returns-2 c = search (needs, completes-some)
 
 pub is-complete-spec : {M : Type 1} → statement M
 is-complete-spec =
-    tie.close (tie.spec returns add-wide element-copy-out-wide wide-requires returns-2)
+    tie.close (tie.spec returns (λ c. search needs) (λ c. search needs) (λ c κs. search needs) returns-2)

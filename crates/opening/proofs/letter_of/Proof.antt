@@ -18,14 +18,8 @@ comma-ends c h = ⊎-elim (λ way. way .2 .left) (λ way. absurd (omega arith)) 
 returns : tie.Need-returns
 returns c = search (needs, letter-none, no-letter-empty)
 
-shared-slice-read-if3 : tie.Need-shared-slice-read-if3
-shared-slice-read-if3 c = search needs
-
 returns-2 : tie.Need-returns-2
 returns-2 c = search (needs, letter-none, no-letter-long)
-
-shared-slice-read-first : tie.Need-shared-slice-read-first
-shared-slice-read-first c = search needs
 
 returns-3 : tie.Need-returns-3
 returns-3 c = search (needs, letter-read, letter-of-byte P, comma-ends (c .before .before))
@@ -50,16 +44,5 @@ returns-9 c = search (needs, letter-read, no-letter-byte, comma-ends (c .before 
 
 pub letter-of-spec : {M : Type 1} → statement M
 letter-of-spec =
-    tie.close
-    (tie.spec
-    returns
-    shared-slice-read-if3
-    returns-2
-    shared-slice-read-first
-    returns-3
-    returns-4
-    returns-5
-    returns-6
-    returns-7
-    returns-8
-    returns-9)
+    tie.close (tie.spec returns (λ c. search needs) returns-2 (λ c. search needs) returns-3 returns-4 returns-5
+    returns-6 returns-7 returns-8 returns-9)

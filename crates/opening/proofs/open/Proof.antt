@@ -5,17 +5,8 @@ use Rattle.opening.proofs.LineOpening.{opens-unfit, opens-misplaced, op
 use Rattle.opening.proofs.open.Statement.{statement}
 use Rattle.opening.proofs.open.Tie as tie
 
-is-unfit-requires : tie.Need-is-unfit-requires
-is-unfit-requires c κs = search needs
-
 returns : tie.Need-returns
 returns c = search (needs, opens-unfit)
-
-letter-of-requires : tie.Need-letter-of-requires
-letter-of-requires c κs = search needs
-
-may-stand-requires : tie.Need-may-stand-requires
-may-stand-requires c κs = search needs
 
 returns-2 : tie.Need-returns-2
 returns-2 c = search (needs, opens-misplaced, not-true)
@@ -32,12 +23,5 @@ returns-3 c = search (needs, opens-letter, not-false)
 
 pub open-spec : {M : Type 1} → statement M
 open-spec =
-    tie.close
-    (tie.spec
-    is-unfit-requires
-    returns
-    letter-of-requires
-    may-stand-requires
-    returns-2
-    open-letter-requires
-    returns-3)
+    tie.close (tie.spec (λ c κs. search needs) returns (λ c κs. search needs) (λ c κs. search needs) returns-2
+    open-letter-requires returns-3)

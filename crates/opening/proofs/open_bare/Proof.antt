@@ -4,9 +4,6 @@ use Rattle.opening.proofs.LetterOpening.{bare-miscounted, bare-passed}
 use Rattle.opening.proofs.open_bare.Statement.{statement}
 use Rattle.opening.proofs.open_bare.Tie as tie
 
-count-requires : tie.Need-count-requires
-count-requires c κs = search needs
-
 returns : tie.Need-returns
 returns c = search (needs, bare-miscounted)
 
@@ -14,4 +11,5 @@ returns-2 : tie.Need-returns-2
 returns-2 c = search (needs, bare-passed)
 
 pub open-bare-spec : {M : Type 1} → statement M
-open-bare-spec = tie.close (tie.spec count-requires returns returns-2)
+open-bare-spec =
+    tie.close (tie.spec (λ c κs. search needs) returns returns-2)

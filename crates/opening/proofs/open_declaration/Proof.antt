@@ -6,23 +6,11 @@ use Rattle.opening.proofs.LetterOpening.{declares-unnamed, declares-aga
 use Rattle.opening.proofs.open_declaration.Statement.{statement}
 use Rattle.opening.proofs.open_declaration.Tie as tie
 
-name-of-requires : tie.Need-name-of-requires
-name-of-requires c κs = search needs
-
-enum-known-naming : tie.Need-enum-known-naming
-enum-known-naming c = search needs
-
-enum-told : tie.Need-enum-told
-enum-told c = search needs
-
 returns : tie.Need-returns
 returns c = search (needs, declares-unnamed)
 
 returns-2 : tie.Need-returns-2
 returns-2 c = search (needs, declares-again)
-
-count-requires : tie.Need-count-requires
-count-requires c κs = search needs
 
 returns-3 : tie.Need-returns-3
 returns-3 c = search (needs, declares-miscounted, not-false)
@@ -35,14 +23,5 @@ returns-4 c = search (needs, declares-passed, not-false)
 
 pub open-declaration-spec : {M : Type 1} → statement M
 open-declaration-spec =
-    tie.close
-    (tie.spec
-    name-of-requires
-    enum-known-naming
-    enum-told
-    returns
-    returns-2
-    count-requires
-    returns-3
-    add-t14
-    returns-4)
+    tie.close (tie.spec (λ c κs. search needs) (λ c. search needs) (λ c. search needs) returns returns-2
+    (λ c κs. search needs) returns-3 add-t14 returns-4)

@@ -12,12 +12,6 @@ returns c = short-area _ _ (c .if1 .taken)
 load-requires : tie.Need-load-requires
 load-requires c κs = refl
 
-lay-requires : tie.Need-lay-requires
-lay-requires c κs = search needs
-
-same-length : tie.Need-same-length
-same-length c = search needs
-
 returns-2 : tie.Need-returns-2
 returns-2 c = laid-area _ _ (c .before .before .before .before .before .before .before .before .before .if1 .left) (c .before .before .before .before .before .load .ensures) (c .before .before .before .before .if2 .taken) (c .before .lay .ensures)
 
@@ -26,4 +20,4 @@ returns-3 c = same-area _ _ (c .before .before .before .before .before .if1 .lef
 
 pub check-spec : {M : Type 1} → statement M
 check-spec =
-    tie.close (tie.spec returns load-requires lay-requires same-length returns-2 returns-3)
+    tie.close (tie.spec returns load-requires (λ c κs. search needs) (λ c. search needs) returns-2 returns-3)

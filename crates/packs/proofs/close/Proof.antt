@@ -6,44 +6,17 @@ use Rattle.packs.proofs.Steps.{close-done}
 use Rattle.packs.proofs.close.Statement.{statement}
 use Rattle.packs.proofs.close.Tie as tie
 
-enum-told : tie.Need-enum-told
-enum-told c = search needs
-
-close-predicate-requires : tie.Need-close-predicate-requires
-close-predicate-requires c κs = search needs
-
-enum-told-2 : tie.Need-enum-told-2
-enum-told-2 c = search needs
-
 close-claim-requires : tie.Need-close-claim-requires
 close-claim-requires c κs = c .before .before .before .before .pre .of C (search needs)
-
-enum-told-3 : tie.Need-enum-told-3
-enum-told-3 c = search needs
 
 close-head-requires : tie.Need-close-head-requires
 close-head-requires c κs = c .before .before .pre .of H (search needs)
 
-enum-told-4 : tie.Need-enum-told-4
-enum-told-4 c = search needs
-
 close-subgoal-requires : tie.Need-close-subgoal-requires
 close-subgoal-requires c κs = c .before .before .before .before .pre .of B (search needs)
 
-enum-told-5 : tie.Need-enum-told-5
-enum-told-5 c = search needs
-
 close-multipliers-requires : tie.Need-close-multipliers-requires
 close-multipliers-requires c κs = c .before .before .before .before .pre .of M (search needs)
-
-enum-told-6 : tie.Need-enum-told-6
-enum-told-6 c = search needs
-
-close-end-requires : tie.Need-close-end-requires
-close-end-requires c κs = search needs
-
-enum-told-7 : tie.Need-enum-told-7
-enum-told-7 c = search needs
 
 returns : tie.Need-returns
 returns c = close-done P (search needs) (c .close-predicate .ensures, refl)
@@ -68,25 +41,7 @@ returns-7 c = close-done NoLetter (search needs) (refl, refl)
 
 pub close-spec : {M : Type 1} → statement M
 close-spec =
-    tie.close
-    (tie.spec
-    enum-told
-    close-predicate-requires
-    enum-told-2
-    close-claim-requires
-    enum-told-3
-    close-head-requires
-    enum-told-4
-    close-subgoal-requires
-    enum-told-5
-    close-multipliers-requires
-    enum-told-6
-    close-end-requires
-    enum-told-7
-    returns
-    returns-2
-    returns-3
-    returns-4
-    returns-5
-    returns-6
-    returns-7)
+    tie.close (tie.spec (λ c. search needs) (λ c κs. search needs) (λ c. search needs) close-claim-requires
+    (λ c. search needs) close-head-requires (λ c. search needs) close-subgoal-requires (λ c. search needs)
+    close-multipliers-requires (λ c. search needs) (λ c κs. search needs) (λ c. search needs) returns returns-2
+    returns-3 returns-4 returns-5 returns-6 returns-7)

@@ -17,32 +17,11 @@ Inv-loop area₀ constant coefficients i₀ area i = Laying area₀ coefficients
 abbrev μ-loop : tie.MeasureT-loop
 μ-loop area₀ constant coefficients i₀ area i = 16 - i
 
-slice-set-from-constant : tie.Need-slice-set-from-constant Inv-loop μ-loop
-slice-set-from-constant c = search needs
-
 loop-holds : tie.Need-loop-holds Inv-loop μ-loop
 loop-holds c = (laying-constant, search needs, simp length-set (search needs))
 
-mul-z : tie.Need-mul-z Inv-loop μ-loop
-mul-z c = search needs
-
-array-copy-out-z : tie.Need-array-copy-out-z Inv-loop μ-loop
-array-copy-out-z c = search needs
-
-add-z : tie.Need-add-z Inv-loop μ-loop
-add-z c = search needs
-
-mul-z-2 : tie.Need-mul-z-2 Inv-loop μ-loop
-mul-z-2 c = search needs
-
 slice-set-from-z : tie.Need-slice-set-from-z Inv-loop μ-loop
 slice-set-from-z c = let same = c .before .before .loop .inv .0 .size in search needs
-
-add-i : tie.Need-add-i Inv-loop μ-loop
-add-i c = search needs
-
-loop-less : tie.Need-loop-less Inv-loop μ-loop
-loop-less c = search needs
 
 loop-again : tie.Need-loop-again Inv-loop μ-loop
 loop-again c = (laying-more (c .before .before .loop .inv .0) (omega arith) (toZ-ofZ (record { sfits = c .z .given })) (omega arith), search needs, search needs)
@@ -58,19 +37,6 @@ returns c =
 
 pub lay-spec : {M : Type 1} → statement M
 lay-spec =
-    tie.close
-    (tie.spec
-    Inv-loop
-    μ-loop
-    slice-set-from-constant
-    loop-holds
-    mul-z
-    array-copy-out-z
-    add-z
-    mul-z-2
-    slice-set-from-z
-    add-i
-    loop-less
-    loop-again
-    same-length
-    returns)
+    tie.close (tie.spec Inv-loop μ-loop (λ c. search needs) loop-holds (λ c. search needs) (λ c. search needs)
+    (λ c. search needs) (λ c. search needs) slice-set-from-z (λ c. search needs) (λ c. search needs) loop-again
+    same-length returns)

@@ -31,57 +31,11 @@ abbrev μ-lines : tie.MeasureT-lines
 μ-lines text names₀ signatures₀ claims₀ classes variables₀ rows₀ weights₀ slots₀ hints₀ arities₀ places₀ len state₀ ending₀ residual₀ number₀ at₀ names signatures claims variables rows weights slots hints arities places state ending residual number at =
     len - at
 
-class-table-requires : tie.Need-class-table-requires Inv-fields μ-fields Inv-lines μ-lines
-class-table-requires c κs = search needs
-
-zero-requires : tie.Need-zero-requires Inv-fields μ-fields Inv-lines μ-lines
-zero-requires c κs = search needs
-
 lines-holds : tie.Need-lines-holds Inv-fields μ-fields Inv-lines μ-lines
 lines-holds c = (refl, search (needs, lines-begin, zeros-clear), refl, refl)
 
-find-far-requires : tie.Need-find-far-requires Inv-fields μ-fields Inv-lines μ-lines
-find-far-requires c κs = search needs
-
-sub-line : tie.Need-sub-line Inv-fields μ-fields Inv-lines μ-lines
-sub-line c = search needs
-
-part-line-start : tie.Need-part-line-start Inv-fields μ-fields Inv-lines μ-lines
-part-line-start c = search needs
-
-part-line-end : tie.Need-part-line-end Inv-fields μ-fields Inv-lines μ-lines
-part-line-end c = search needs
-
-add-number : tie.Need-add-number Inv-fields μ-fields Inv-lines μ-lines
-add-number c = search needs
-
-open-requires : tie.Need-open-requires Inv-fields μ-fields Inv-lines μ-lines
-open-requires c κs = search needs
-
-enum-known-opened : tie.Need-enum-known-opened Inv-fields μ-fields Inv-lines μ-lines
-enum-known-opened c = search needs
-
-enum-known-opened-2 : tie.Need-enum-known-opened-2 Inv-fields μ-fields Inv-lines μ-lines
-enum-known-opened-2 c = search needs
-
-variables-before-requires :
-    tie.Need-variables-before-requires Inv-fields μ-fields Inv-lines μ-lines
-variables-before-requires c κs = search needs
-
 fields-holds : tie.Need-fields-holds Inv-fields μ-fields Inv-lines μ-lines
 fields-holds c = (search needs, search (needs, turn-begins), search needs, search needs)
-
-field-end-requires : tie.Need-field-end-requires Inv-fields μ-fields Inv-lines μ-lines
-field-end-requires c κs = search needs
-
-sub-field : tie.Need-sub-field Inv-fields μ-fields Inv-lines μ-lines
-sub-field c = search needs
-
-part-field-start : tie.Need-part-field-start Inv-fields μ-fields Inv-lines μ-lines
-part-field-start c = search needs
-
-part-field-end : tie.Need-part-field-end Inv-fields μ-fields Inv-lines μ-lines
-part-field-end c = search needs
 
 field-requires : tie.Need-field-requires Inv-fields μ-fields Inv-lines μ-lines
 field-requires c κs =
@@ -93,12 +47,6 @@ field-requires c κs =
       found .before .before .fields .inv .3,
       line .before .before .before .before .before .before .before .before .before .before .class-table .ensures,
     )
-
-enum-known-read : tie.Need-enum-known-read Inv-fields μ-fields Inv-lines μ-lines
-enum-known-read c = search needs
-
-enum-known-read-2 : tie.Need-enum-known-read-2 Inv-fields μ-fields Inv-lines μ-lines
-enum-known-read-2 c = search needs
 
 add-index : tie.Need-add-index Inv-fields μ-fields Inv-lines μ-lines
 add-index c =
@@ -113,9 +61,6 @@ add-from c =
     let line = found .before .before .before .before .before .before .before in
     let told = found .before .before .before .before .before .opened .given in
     turn-from-fits (line .before .before .before .before .before .before .before .before .lines .inv .1) (line .before .before .before .before .before .before .before .lines-test .taken) (line .before .before .before .before .before .before .find-far .ensures) (line .«open» .ensures) (told .1) (found .before .before .fields .inv .1) (found .before .fields-test .taken) (found .field-end .ensures)
-
-fields-less : tie.Need-fields-less Inv-fields μ-fields Inv-lines μ-lines
-fields-less c = search needs
 
 fields-again : tie.Need-fields-again Inv-fields μ-fields Inv-lines μ-lines
 fields-again c =
@@ -135,12 +80,6 @@ close-requires c κs =
     let line = ended .before .before .before .before .before .before in
     let told = ended .before .before .before .before .opened .given in
     turn-closable (line .before .before .before .before .before .before .before .before .lines .inv .1) (line .before .before .before .before .before .before .before .lines-test .taken) (line .before .before .before .before .before .before .find-far .ensures) (line .«open» .ensures) (told .1) (ended .before .fields .inv .1) (ended .fields-test .left)
-
-enum-known-closed : tie.Need-enum-known-closed Inv-fields μ-fields Inv-lines μ-lines
-enum-known-closed c = search needs
-
-enum-known-closed-2 : tie.Need-enum-known-closed-2 Inv-fields μ-fields Inv-lines μ-lines
-enum-known-closed-2 c = search needs
 
 residual-requires : tie.Need-residual-requires Inv-fields μ-fields Inv-lines μ-lines
 residual-requires c κs =
@@ -194,44 +133,10 @@ returns-4 c =
 
 pub load-lines-spec : {M : Type 1} → statement M
 load-lines-spec =
-    tie.close
-    (tie.spec
-    Inv-fields
-    μ-fields
-    Inv-lines
-    μ-lines
-    class-table-requires
-    zero-requires
-    lines-holds
-    find-far-requires
-    sub-line
-    part-line-start
-    part-line-end
-    add-number
-    open-requires
-    enum-known-opened
-    enum-known-opened-2
-    variables-before-requires
-    fields-holds
-    field-end-requires
-    sub-field
-    part-field-start
-    part-field-end
-    field-requires
-    enum-known-read
-    enum-known-read-2
-    add-index
-    add-from
-    fields-less
-    fields-again
-    close-requires
-    enum-known-closed
-    enum-known-closed-2
-    residual-requires
-    add-at
-    lines-less
-    lines-again
-    returns
-    returns-2
-    returns-3
-    returns-4)
+    tie.close (tie.spec Inv-fields μ-fields Inv-lines μ-lines (λ c κs. search needs) (λ c κs. search needs) lines-holds
+    (λ c κs. search needs) (λ c. search needs) (λ c. search needs) (λ c. search needs) (λ c. search needs)
+    (λ c κs. search needs) (λ c. search needs) (λ c. search needs) (λ c κs. search needs) fields-holds
+    (λ c κs. search needs) (λ c. search needs) (λ c. search needs) (λ c. search needs) field-requires
+    (λ c. search needs) (λ c. search needs) add-index add-from (λ c. search needs) fields-again close-requires
+    (λ c. search needs) (λ c. search needs) residual-requires add-at lines-less lines-again returns returns-2
+    returns-3 returns-4)

@@ -30,4 +30,5 @@ returns : tie.Need-returns Inv-loop μ-loop
 returns c = omega (arith, digits-one (c .before .loop .left) (c .loop-test .left))
 
 pub digits-spec : {M : Type 1} → statement M
-digits-spec = tie.close (tie.spec Inv-loop μ-loop loop-holds add-many loop-less loop-again returns)
+digits-spec =
+    tie.close (tie.spec Inv-loop μ-loop loop-holds add-many loop-less loop-again returns)

@@ -13,20 +13,8 @@ use Rattle.queries.proofs.read_size.Tie as tie
 no-dash : (c : tie.Joined1) → length (now (c .before .before .args .field)) ≡ 1 → getD (now (c .before .before .args .field)) 0 0 ≡ 45 → ⊥
 no-dash c one is = ⊎-elim (λ w. w .2 .left is) (λ w. omega arith) (c .if1 .came)
 
-shared-slice-read-if2 : tie.Need-shared-slice-read-if2
-shared-slice-read-if2 c = search needs
-
 returns : tie.Need-returns
 returns c = search (needs, size-unknown)
-
-read-natural-requires : tie.Need-read-natural-requires
-read-natural-requires c κs = search needs
-
-enum-known-size : tie.Need-enum-known-size
-enum-known-size c = search needs
-
-enum-told : tie.Need-enum-told
-enum-told c = search needs
 
 returns-2 : tie.Need-returns-2
 returns-2 c = search (needs, size-known, no-dash (c .before .before .before .before))
@@ -36,12 +24,5 @@ returns-3 c = search (needs, size-malformed, no-dash (c .before .before .before)
 
 pub read-size-spec : {M : Type 1} → statement M
 read-size-spec =
-    tie.close
-    (tie.spec
-    shared-slice-read-if2
-    returns
-    read-natural-requires
-    enum-known-size
-    enum-told
-    returns-2
-    returns-3)
+    tie.close (tie.spec (λ c. search needs) returns (λ c κs. search needs) (λ c. search needs) (λ c. search needs)
+    returns-2 returns-3)

@@ -15,21 +15,6 @@ abbrev μ-loop : tie.MeasureT-loop
 loop-holds : tie.Need-loop-holds Inv-loop μ-loop
 loop-holds c = search (needs, sizes-none)
 
-field-end-requires : tie.Need-field-end-requires Inv-loop μ-loop
-field-end-requires c κs = search needs
-
-sub-read-size : tie.Need-sub-read-size Inv-loop μ-loop
-sub-read-size c = search needs
-
-part-read-size-start : tie.Need-part-read-size-start Inv-loop μ-loop
-part-read-size-start c = search needs
-
-part-read-size-end : tie.Need-part-read-size-end Inv-loop μ-loop
-part-read-size-end c = search needs
-
-read-size-requires : tie.Need-read-size-requires Inv-loop μ-loop
-read-size-requires c κs = search needs
-
 returns : tie.Need-returns Inv-loop μ-loop
 returns c = search (needs, sizes-malformed)
 
@@ -42,12 +27,6 @@ element-write-sizes c = search (needs, sizes-room)
 add-i : tie.Need-add-i Inv-loop μ-loop
 add-i c = search (needs, sizes-room)
 
-add-at : tie.Need-add-at Inv-loop μ-loop
-add-at c = search needs
-
-loop-less : tie.Need-loop-less Inv-loop μ-loop
-loop-less c = search needs
-
 loop-again : tie.Need-loop-again Inv-loop μ-loop
 loop-again c = search (needs, sizes-more)
 
@@ -56,21 +35,6 @@ returns-2 c = search (needs, sizes-all)
 
 pub read-sizes-spec : {M : Type 1} → statement M
 read-sizes-spec =
-    tie.close
-    (tie.spec
-    Inv-loop
-    μ-loop
-    loop-holds
-    field-end-requires
-    sub-read-size
-    part-read-size-start
-    part-read-size-end
-    read-size-requires
-    returns
-    mul-sizes
-    element-write-sizes
-    add-i
-    add-at
-    loop-less
-    loop-again
-    returns-2)
+    tie.close (tie.spec Inv-loop μ-loop loop-holds (λ c κs. search needs) (λ c. search needs) (λ c. search needs)
+    (λ c. search needs) (λ c κs. search needs) returns mul-sizes element-write-sizes add-i (λ c. search needs)
+    (λ c. search needs) loop-again returns-2)

@@ -13,17 +13,11 @@ use Rattle.replies.proofs.put_fields.Tie as tie
 size : (c : tie.After-put-field-arg) → length (set (set (now (c .before .before .args .page)) 0 (c .before .before .args .three .letter)) 1 44) ≡ length (now (c .before .before .args .page))
 size c = simp length-set
 
-slice-write-page : tie.Need-slice-write-page
-slice-write-page c = search needs
-
 slice-write-page-2 : tie.Need-slice-write-page-2
 slice-write-page-2 c = simp length-set (omega arith)
 
 put-field-requires : tie.Need-put-field-requires
 put-field-requires c κs = omega (arith, size c, digits-few 19 (c .before .before .args .three .middle) (omega arith))
-
-cast-put-field : tie.Need-cast-put-field
-cast-put-field c = search needs
 
 put-field-requires-2 : tie.Need-put-field-requires-2
 put-field-requires-2 c κs = omega (arith, size (c .before .before .before .before .before), digits-few 19 (c .before .before .before .before .before .before .before .args .three .middle) (omega arith), digits-few 2 (c .before .before .before .before .before .before .before .args .three .claim) (omega arith))
@@ -39,12 +33,5 @@ returns c = (
 
 pub put-fields-spec : {M : Type 1} → statement M
 put-fields-spec =
-    tie.close
-    (tie.spec
-    slice-write-page
-    slice-write-page-2
-    put-field-requires
-    cast-put-field
-    put-field-requires-2
-    same-length
-    returns)
+    tie.close (tie.spec (λ c. search needs) slice-write-page-2 put-field-requires (λ c. search needs)
+    put-field-requires-2 same-length returns)

@@ -16,32 +16,17 @@ digits four = length (decimal (four .number)) + length (decimal (four .line)) + 
 few : (c : tie.After-struct-known) → digits (c .before .before .before .args .four) ≤ 16
 few c = let four = c .before .before .before .args .four in numbers-short (four .number) (four .line) (four .rule) (four .claim) (omega arith) (omega arith) (omega arith) (omega arith)
 
-cast-put-field : tie.Need-cast-put-field
-cast-put-field c = search needs
-
 put-field-requires : tie.Need-put-field-requires
 put-field-requires c κs = omega (arith, few c)
-
-cast-put-field-2 : tie.Need-cast-put-field-2
-cast-put-field-2 c = search needs
 
 put-field-requires-2 : tie.Need-put-field-requires-2
 put-field-requires-2 c κs = omega (arith, few (c .before .before .before .before .before))
 
-cast-put-field-3 : tie.Need-cast-put-field-3
-cast-put-field-3 c = search needs
-
 put-field-requires-3 : tie.Need-put-field-requires-3
 put-field-requires-3 c κs = omega (arith, few (c .before .before .before .before .before .before .before .before .before .before))
 
-cast-put-field-4 : tie.Need-cast-put-field-4
-cast-put-field-4 c = search needs
-
 put-field-requires-4 : tie.Need-put-field-requires-4
 put-field-requires-4 c κs = omega (arith, few (c .before .before .before .before .before .before .before .before .before .before .before .before .before .before .before))
-
-same-length : tie.Need-same-length
-same-length c = search needs
 
 returns : tie.Need-returns
 returns c = (
@@ -51,15 +36,5 @@ returns c = (
 
 pub put-numbers-spec : {M : Type 1} → statement M
 put-numbers-spec =
-    tie.close
-    (tie.spec
-    cast-put-field
-    put-field-requires
-    cast-put-field-2
-    put-field-requires-2
-    cast-put-field-3
-    put-field-requires-3
-    cast-put-field-4
-    put-field-requires-4
-    same-length
-    returns)
+    tie.close (tie.spec (λ c. search needs) put-field-requires (λ c. search needs) put-field-requires-2
+    (λ c. search needs) put-field-requires-3 (λ c. search needs) put-field-requires-4 (λ c. search needs) returns)

@@ -10,20 +10,8 @@ open-query-requires c κs =
     let pre = c .before .before .pre in
     (pre .0, pre .1, unknown-sizes .0, unknown-sizes .1)
 
-query-refusal-requires : tie.Need-query-refusal-requires
-query-refusal-requires c κs = search needs
-
 returns : tie.Need-returns
 returns c = search (needs, refused-query)
-
-add-wide : tie.Need-add-wide
-add-wide c = search needs
-
-element-copy-out-wide : tie.Need-element-copy-out-wide
-element-copy-out-wide c = search needs
-
-wide-requires : tie.Need-wide-requires
-wide-requires c κs = search needs
 
 reserve-by-requires : tie.Need-reserve-by-requires
 reserve-by-requires c κs =
@@ -36,13 +24,5 @@ returns-2 c = search (needs, answered-query)
 
 pub answer-spec : {M : Type 1} → statement M
 answer-spec =
-    tie.close
-    (tie.spec
-    open-query-requires
-    query-refusal-requires
-    returns
-    add-wide
-    element-copy-out-wide
-    wide-requires
-    reserve-by-requires
-    returns-2)
+    tie.close (tie.spec open-query-requires (λ c κs. search needs) returns (λ c. search needs) (λ c. search needs)
+    (λ c κs. search needs) reserve-by-requires returns-2)

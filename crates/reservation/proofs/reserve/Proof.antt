@@ -17,4 +17,5 @@ returns c =
     (c .respond .ensures .tells _ held, c .respond .ensures .passes _ held)
 
 pub reserve-spec : {M : Type 1} → statement M
-reserve-spec = tie.close (tie.spec load-requires respond-requires returns)
+reserve-spec =
+    tie.close (tie.spec load-requires respond-requires returns)

@@ -4,14 +4,8 @@ use borrow.Author.Needs.{needs}
 use Rattle.reservation.proofs.respond.Statement.{statement}
 use Rattle.reservation.proofs.respond.Tie as tie
 
-enum-told : tie.Need-enum-told
-enum-told c = search needs
-
 answer-requires : tie.Need-answer-requires
 answer-requires c κs = ready-accepted (c .before .before .before .pre) (c .enum-told .given .1)
-
-enum-known-verdict : tie.Need-enum-known-verdict
-enum-known-verdict c = search needs
 
 returns : tie.Need-returns
 returns c = search (needs, answered-pack)
@@ -20,4 +14,5 @@ returns-2 : tie.Need-returns-2
 returns-2 c = search (needs, refused-pack)
 
 pub respond-spec : {M : Type 1} → statement M
-respond-spec = tie.close (tie.spec enum-told answer-requires enum-known-verdict returns returns-2)
+respond-spec =
+    tie.close (tie.spec (λ c. search needs) answer-requires (λ c. search needs) returns returns-2)

@@ -11,35 +11,14 @@ Inv-loop field places count names₀ known hints₀ rows₀ base many₀ i₀ na
 abbrev μ-loop : tie.MeasureT-loop
 μ-loop field places count names₀ known hints₀ rows₀ base many₀ i₀ names hints rows many i = count - i
 
-clear-row-requires : tie.Need-clear-row-requires Inv-loop μ-loop
-clear-row-requires c κs = search needs
-
 loop-holds : tie.Need-loop-holds Inv-loop μ-loop
 loop-holds c = search (needs, counting-none)
-
-mul-place : tie.Need-mul-place Inv-loop μ-loop
-mul-place c = search needs
-
-element-copy-out-place : tie.Need-element-copy-out-place Inv-loop μ-loop
-element-copy-out-place c = search needs
-
-start-of-requires : tie.Need-start-of-requires Inv-loop μ-loop
-start-of-requires c κs = search needs
-
-end-of-requires : tie.Need-end-of-requires Inv-loop μ-loop
-end-of-requires c κs = search needs
 
 words-at-requires : tie.Need-words-at-requires Inv-loop μ-loop
 words-at-requires c κs = let inside = c .before .before .before .before .before .before .before .before .pre .0 .each _ (c .before .before .before .loop-test .taken) .inside in search needs
 
 count-variable-requires : tie.Need-count-variable-requires Inv-loop μ-loop
 count-variable-requires c κs = search (needs, counting-small)
-
-add-i : tie.Need-add-i Inv-loop μ-loop
-add-i c = search needs
-
-loop-less : tie.Need-loop-less Inv-loop μ-loop
-loop-less c = search needs
 
 loop-again : tie.Need-loop-again Inv-loop μ-loop
 loop-again c = search (needs, counting-more)
@@ -49,19 +28,6 @@ returns c = search (needs, counting-all)
 
 pub count-occurrences-spec : {M : Type 1} → statement M
 count-occurrences-spec =
-    tie.close
-    (tie.spec
-    Inv-loop
-    μ-loop
-    clear-row-requires
-    loop-holds
-    mul-place
-    element-copy-out-place
-    start-of-requires
-    end-of-requires
-    words-at-requires
-    count-variable-requires
-    add-i
-    loop-less
-    loop-again
-    returns)
+    tie.close (tie.spec Inv-loop μ-loop (λ c κs. search needs) loop-holds (λ c. search needs) (λ c. search needs)
+    (λ c κs. search needs) (λ c κs. search needs) words-at-requires count-variable-requires (λ c. search needs)
+    (λ c. search needs) loop-again returns)

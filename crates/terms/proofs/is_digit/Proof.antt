@@ -10,4 +10,5 @@ returns-2 : tie.Need-returns-2
 returns-2 c = simp (gt-leb _ _ (c .if1 .left))
 
 pub is-digit-spec : {M : Type 1} → statement M
-is-digit-spec = tie.close (tie.spec returns returns-2)
+is-digit-spec =
+    tie.close (tie.spec returns returns-2)

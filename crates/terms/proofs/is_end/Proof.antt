@@ -4,9 +4,6 @@ use borrow.Author.Needs.{needs}
 use Rattle.terms.proofs.is_end.Statement.{statement}
 use Rattle.terms.proofs.is_end.Tie as tie
 
-shared-slice-read-result : tie.Need-shared-slice-read-result
-shared-slice-read-result c = search needs
-
 returns : tie.Need-returns
 returns c = search (needs, end-inside)
 
@@ -14,4 +11,5 @@ returns-2 : tie.Need-returns-2
 returns-2 c = search (needs, end-past)
 
 pub is-end-spec : {M : Type 1} → statement M
-is-end-spec = tie.close (tie.spec shared-slice-read-result returns returns-2)
+is-end-spec =
+    tie.close (tie.spec (λ c. search needs) returns returns-2)

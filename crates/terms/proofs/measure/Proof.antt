@@ -5,14 +5,8 @@ use borrow.Author.Needs.{needs}
 use Rattle.terms.proofs.measure.Statement.{statement}
 use Rattle.terms.proofs.measure.Tie as tie
 
-is-unfit-requires : tie.Need-is-unfit-requires
-is-unfit-requires c κs = search needs
-
 returns : tie.Need-returns
 returns c = search (needs, measure-unfit)
-
-class-table-requires : tie.Need-class-table-requires
-class-table-requires c κs = search needs
 
 read-tokens-requires : tie.Need-read-tokens-requires
 read-tokens-requires c κs = search (needs, measure-short)
@@ -26,22 +20,10 @@ returns-3 c = search (needs, measure-variable, not-false)
 sum-of-arities-requires : tie.Need-sum-of-arities-requires
 sum-of-arities-requires c κs = search (needs, measure-digits, not-false)
 
-sized-requires : tie.Need-sized-requires
-sized-requires c κs = search needs
-
 returns-4 : tie.Need-returns-4
 returns-4 c = search (needs, measure-size, not-false)
 
 pub measure-spec : {M : Type 1} → statement M
 measure-spec =
-    tie.close
-    (tie.spec
-    is-unfit-requires
-    returns
-    class-table-requires
-    read-tokens-requires
-    returns-2
-    returns-3
-    sum-of-arities-requires
-    sized-requires
-    returns-4)
+    tie.close (tie.spec (λ c κs. search needs) returns (λ c κs. search needs) read-tokens-requires returns-2 returns-3
+    sum-of-arities-requires (λ c κs. search needs) returns-4)

@@ -14,20 +14,8 @@ abbrev μ-loop : tie.MeasureT-loop
 loop-holds : tie.Need-loop-holds Inv-loop μ-loop
 loop-holds c = search (needs, summing-none)
 
-element-copy-out-sixteen-bits : tie.Need-element-copy-out-sixteen-bits Inv-loop μ-loop
-element-copy-out-sixteen-bits c = search needs
-
-sixteen-bits-requires : tie.Need-sixteen-bits-requires Inv-loop μ-loop
-sixteen-bits-requires c κs = search needs
-
 add-sum : tie.Need-add-sum Inv-loop μ-loop
 add-sum c = search (needs, summing-fits)
-
-add-i : tie.Need-add-i Inv-loop μ-loop
-add-i c = search needs
-
-loop-less : tie.Need-loop-less Inv-loop μ-loop
-loop-less c = search needs
 
 loop-again : tie.Need-loop-again Inv-loop μ-loop
 loop-again c = search (needs, summing-more)
@@ -37,15 +25,5 @@ returns c = search (needs, summing-all)
 
 pub sum-of-arities-spec : {M : Type 1} → statement M
 sum-of-arities-spec =
-    tie.close
-    (tie.spec
-    Inv-loop
-    μ-loop
-    loop-holds
-    element-copy-out-sixteen-bits
-    sixteen-bits-requires
-    add-sum
-    add-i
-    loop-less
-    loop-again
-    returns)
+    tie.close (tie.spec Inv-loop μ-loop loop-holds (λ c. search needs) (λ c κs. search needs) add-sum
+    (λ c. search needs) (λ c. search needs) loop-again returns)

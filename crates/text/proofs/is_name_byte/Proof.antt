@@ -7,14 +7,8 @@ use Rattle.text.proofs.Classes.{between-below, between-above, lower-in-
 use Rattle.text.proofs.is_name_byte.Statement.{statement}
 use Rattle.text.proofs.is_name_byte.Tie as tie
 
-is-lower-requires : tie.Need-is-lower-requires
-is-lower-requires c κs = search needs
-
 returns : tie.Need-returns
 returns c = sym (lower-in-name _ (sym (c .before .is-lower .ensures) ∙ c .if1 .taken))
-
-is-upper-requires : tie.Need-is-upper-requires
-is-upper-requires c κs = search needs
 
 returns-2 : tie.Need-returns-2
 returns-2 c = sym (upper-in-name _ (sym (c .before .is-upper .ensures) ∙ c .if2 .taken))
@@ -30,4 +24,4 @@ returns-4 c =
 
 pub is-name-byte-spec : {M : Type 1} → statement M
 is-name-byte-spec =
-    tie.close (tie.spec is-lower-requires returns is-upper-requires returns-2 returns-3 returns-4)
+    tie.close (tie.spec (λ c κs. search needs) returns (λ c κs. search needs) returns-2 returns-3 returns-4)

@@ -4,9 +4,6 @@ use Rattle.text.proofs.IntegerReading.{minus-fits, minus-result}
 use Rattle.text.proofs.negative.Statement.{statement}
 use Rattle.text.proofs.negative.Tie as tie
 
-cast-result : tie.Need-cast-result
-cast-result c = search needs
-
 sub-result : tie.Need-sub-result
 sub-result c = search (needs, minus-fits)
 
@@ -14,4 +11,5 @@ returns : tie.Need-returns
 returns c = search (needs, minus-result)
 
 pub negative-spec : {M : Type 1} → statement M
-negative-spec = tie.close (tie.spec cast-result sub-result returns)
+negative-spec =
+    tie.close (tie.spec (λ c. search needs) sub-result returns)

@@ -13,21 +13,6 @@ returns c = search (needs, read-empty)
 returns-2 : tie.Need-returns-2
 returns-2 c = search (needs, read-long)
 
-shared-slice-read-is-lower : tie.Need-shared-slice-read-is-lower
-shared-slice-read-is-lower c = search needs
-
-is-lower-requires : tie.Need-is-lower-requires
-is-lower-requires c κs = search needs
-
-shared-slice-read-is-upper : tie.Need-shared-slice-read-is-upper
-shared-slice-read-is-upper c = search needs
-
-is-upper-requires : tie.Need-is-upper-requires
-is-upper-requires c κs = search needs
-
-up-to-eight-requires : tie.Need-up-to-eight-requires
-up-to-eight-requires c κs = search needs
-
 slice-aggregate-pack : tie.Need-slice-aggregate-pack
 slice-aggregate-pack c = simp length-take (omega arith)
 
@@ -36,15 +21,6 @@ pack-requires c κs = simp length-take (omega arith)
 
 returns-3 : tie.Need-returns-3
 returns-3 c = search (needs, read-front-refused, not-true)
-
-sub-pack : tie.Need-sub-pack
-sub-pack c = search needs
-
-part-pack-start : tie.Need-part-pack-start
-part-pack-start c = search needs
-
-part-pack-end : tie.Need-part-pack-end
-part-pack-end c = search needs
 
 pack-requires-2 : tie.Need-pack-requires-2
 pack-requires-2 c κs = simp (length-take, length-drop) (omega arith)
@@ -63,23 +39,6 @@ returns-7 c = search (needs, read-other)
 
 pub read-word-spec : {M : Type 1} → statement M
 read-word-spec =
-    tie.close
-    (tie.spec
-    returns
-    returns-2
-    shared-slice-read-is-lower
-    is-lower-requires
-    shared-slice-read-is-upper
-    is-upper-requires
-    up-to-eight-requires
-    slice-aggregate-pack
-    pack-requires
-    returns-3
-    sub-pack
-    part-pack-start
-    part-pack-end
-    pack-requires-2
-    returns-4
-    returns-5
-    returns-6
-    returns-7)
+    tie.close (tie.spec returns returns-2 (λ c. search needs) (λ c κs. search needs) (λ c. search needs)
+    (λ c κs. search needs) (λ c κs. search needs) slice-aggregate-pack pack-requires returns-3 (λ c. search needs)
+    (λ c. search needs) (λ c. search needs) pack-requires-2 returns-4 returns-5 returns-6 returns-7)

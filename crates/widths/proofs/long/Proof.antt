@@ -15,4 +15,5 @@ returns : tie.Need-returns
 returns c = widened (c .args .x) _ (c .fits .x) refl
 
 pub long-spec : {M : Type 1} → statement M
-long-spec = tie.close (tie.spec cast-result returns)
+long-spec =
+    tie.close (tie.spec cast-result returns)

@@ -21,32 +21,8 @@ abbrev μ-loop : tie.MeasureT-loop
 loop-holds : tie.Need-loop-holds Inv-loop μ-loop
 loop-holds c = (search needs, search needs, search needs, search needs, below-none _)
 
-mul-sums : tie.Need-mul-sums Inv-loop μ-loop
-mul-sums c = search needs
-
-array-copy-out-sums : tie.Need-array-copy-out-sums Inv-loop μ-loop
-array-copy-out-sums c = search needs
-
-mul-sums-2 : tie.Need-mul-sums-2 Inv-loop μ-loop
-mul-sums-2 c = search needs
-
-array-copy-out-sums-2 : tie.Need-array-copy-out-sums-2 Inv-loop μ-loop
-array-copy-out-sums-2 c = search needs
-
 add-sums : tie.Need-add-sums Inv-loop μ-loop
 add-sums c = coefficients-add (c .before .before .before .before .before .before .pre) (c .before .before .before .loop .i) (omega arith) .fits
-
-mul-sums-3 : tie.Need-mul-sums-3 Inv-loop μ-loop
-mul-sums-3 c = search needs
-
-array-set-from-sums : tie.Need-array-set-from-sums Inv-loop μ-loop
-array-set-from-sums c = search needs
-
-add-i : tie.Need-add-i Inv-loop μ-loop
-add-i c = search needs
-
-loop-less : tie.Need-loop-less Inv-loop μ-loop
-loop-less c = search needs
 
 loop-again : tie.Need-loop-again Inv-loop μ-loop
 loop-again c =
@@ -71,20 +47,6 @@ returns c =
 
 pub plus-spec : {M : Type 1} → statement M
 plus-spec =
-    tie.close
-    (tie.spec
-    Inv-loop
-    μ-loop
-    loop-holds
-    mul-sums
-    array-copy-out-sums
-    mul-sums-2
-    array-copy-out-sums-2
-    add-sums
-    mul-sums-3
-    array-set-from-sums
-    add-i
-    loop-less
-    loop-again
-    add-t20
-    returns)
+    tie.close (tie.spec Inv-loop μ-loop loop-holds (λ c. search needs) (λ c. search needs) (λ c. search needs)
+    (λ c. search needs) add-sums (λ c. search needs) (λ c. search needs) (λ c. search needs) (λ c. search needs)
+    loop-again add-t20 returns)

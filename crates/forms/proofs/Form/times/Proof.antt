@@ -24,26 +24,8 @@ abbrev μ-loop : tie.MeasureT-loop
 loop-holds : tie.Need-loop-holds Inv-loop μ-loop
 loop-holds c = (search needs, search needs, search needs, below-none _)
 
-mul-products : tie.Need-mul-products Inv-loop μ-loop
-mul-products c = search needs
-
-array-copy-out-products : tie.Need-array-copy-out-products Inv-loop μ-loop
-array-copy-out-products c = search needs
-
 mul-products-2 : tie.Need-mul-products-2 Inv-loop μ-loop
 mul-products-2 c = coefficient-multiplies (c .before .before .before .before .args .k) (c .before .before .before .before .pre) (c .before .before .loop .i) (omega arith) .fits
-
-mul-products-3 : tie.Need-mul-products-3 Inv-loop μ-loop
-mul-products-3 c = search needs
-
-array-set-from-products : tie.Need-array-set-from-products Inv-loop μ-loop
-array-set-from-products c = search needs
-
-add-i : tie.Need-add-i Inv-loop μ-loop
-add-i c = search needs
-
-loop-less : tie.Need-loop-less Inv-loop μ-loop
-loop-less c = search needs
 
 loop-again : tie.Need-loop-again Inv-loop μ-loop
 loop-again c =
@@ -67,18 +49,5 @@ returns c =
 
 pub times-spec : {M : Type 1} → statement M
 times-spec =
-    tie.close
-    (tie.spec
-    Inv-loop
-    μ-loop
-    loop-holds
-    mul-products
-    array-copy-out-products
-    mul-products-2
-    mul-products-3
-    array-set-from-products
-    add-i
-    loop-less
-    loop-again
-    mul-t15
-    returns)
+    tie.close (tie.spec Inv-loop μ-loop loop-holds (λ c. search needs) (λ c. search needs) mul-products-2
+    (λ c. search needs) (λ c. search needs) (λ c. search needs) (λ c. search needs) loop-again mul-t15 returns)

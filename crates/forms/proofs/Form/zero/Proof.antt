@@ -9,4 +9,5 @@ returns : tie.Need-returns
 returns c = record { constant = refl; coefficient = λ i. getD-replicate 16 i (pos 0) (pos 0) }
 
 pub zero-spec : {M : Type 1} → statement M
-zero-spec = tie.close (tie.spec returns)
+zero-spec =
+    tie.close (tie.spec returns)

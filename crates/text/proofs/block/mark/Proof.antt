@@ -11,4 +11,5 @@ returns-2 : tie.Need-returns-2
 returns-2 c = search (needs, unmarked)
 
 pub mark-spec : {M : Type 1} → statement M
-mark-spec = tie.close (tie.spec returns returns-2)
+mark-spec =
+    tie.close (tie.spec returns returns-2)

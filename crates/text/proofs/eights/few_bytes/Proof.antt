@@ -13,23 +13,11 @@ abbrev μ-loop : tie.MeasureT-loop
 loop-holds : tie.Need-loop-holds Inv-loop μ-loop
 loop-holds c = search (needs, summed-none)
 
-sub-i : tie.Need-sub-i Inv-loop μ-loop
-sub-i c = search needs
-
 mul-word : tie.Need-mul-word Inv-loop μ-loop
 mul-word c = search (needs, summed-times)
 
-shared-slice-read-wide : tie.Need-shared-slice-read-wide Inv-loop μ-loop
-shared-slice-read-wide c = search needs
-
-wide-requires : tie.Need-wide-requires Inv-loop μ-loop
-wide-requires c κs = search needs
-
 add-word : tie.Need-add-word Inv-loop μ-loop
 add-word c = search (needs, summed-plus)
-
-loop-less : tie.Need-loop-less Inv-loop μ-loop
-loop-less c = search needs
 
 loop-again : tie.Need-loop-again Inv-loop μ-loop
 loop-again c = search (needs, summed-more)
@@ -39,16 +27,5 @@ returns c = search (needs, summed-all)
 
 pub few-bytes-spec : {M : Type 1} → statement M
 few-bytes-spec =
-    tie.close
-    (tie.spec
-    Inv-loop
-    μ-loop
-    loop-holds
-    sub-i
-    mul-word
-    shared-slice-read-wide
-    wide-requires
-    add-word
-    loop-less
-    loop-again
-    returns)
+    tie.close (tie.spec Inv-loop μ-loop loop-holds (λ c. search needs) mul-word (λ c. search needs)
+    (λ c κs. search needs) add-word (λ c. search needs) loop-again returns)

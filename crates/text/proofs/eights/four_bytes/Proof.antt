@@ -4,25 +4,10 @@ use Rattle.text.proofs.EightBytes.{four-numbered}
 use Rattle.text.proofs.eights.four_bytes.Statement.{statement}
 use Rattle.text.proofs.eights.four_bytes.Tie as tie
 
-two-bytes-requires : tie.Need-two-bytes-requires
-two-bytes-requires c κs = search needs
-
-add-two-bytes : tie.Need-add-two-bytes
-add-two-bytes c = search needs
-
-two-bytes-requires-2 : tie.Need-two-bytes-requires-2
-two-bytes-requires-2 c κs = search needs
-
-mul-result : tie.Need-mul-result
-mul-result c = search needs
-
-add-result : tie.Need-add-result
-add-result c = search needs
-
 returns : tie.Need-returns
 returns c = search (needs, four-numbered)
 
 pub four-bytes-spec : {M : Type 1} → statement M
 four-bytes-spec =
-    tie.close
-    (tie.spec two-bytes-requires add-two-bytes two-bytes-requires-2 mul-result add-result returns)
+    tie.close (tie.spec (λ c κs. search needs) (λ c. search needs) (λ c κs. search needs) (λ c. search needs)
+    (λ c. search needs) returns)

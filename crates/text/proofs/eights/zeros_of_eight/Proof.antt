@@ -4,14 +4,9 @@ use Rattle.text.proofs.ZeroRuns.{zeros-eight}
 use Rattle.text.proofs.eights.zeros_of_eight.Statement.{statement}
 use Rattle.text.proofs.eights.zeros_of_eight.Tie as tie
 
-eight-bytes-requires : tie.Need-eight-bytes-requires
-eight-bytes-requires c κs = search needs
-
-place-of-requires : tie.Need-place-of-requires
-place-of-requires c κs = search needs
-
 returns : tie.Need-returns
 returns c = zeros-eight (c .before .before .before .args .bytes .now) (c .before .before .shared-slice-known .given) _ (search needs) _ (c .before .eight-bytes .ensures) _ (c .place-of .ensures)
 
 pub zeros-of-eight-spec : {M : Type 1} → statement M
-zeros-of-eight-spec = tie.close (tie.spec eight-bytes-requires place-of-requires returns)
+zeros-of-eight-spec =
+    tie.close (tie.spec (λ c κs. search needs) (λ c κs. search needs) returns)

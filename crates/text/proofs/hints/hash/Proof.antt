@@ -8,4 +8,5 @@ returns : tie.Need-returns
 returns c = search (needs, hash-small)
 
 pub hash-spec : {M : Type 1} → statement M
-hash-spec = tie.close (tie.spec returns)
+hash-spec =
+    tie.close (tie.spec returns)

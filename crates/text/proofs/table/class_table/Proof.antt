@@ -10,4 +10,5 @@ unfolding everyEntry agree isClass isNameByte
 returns c = classes-are _ refl refl
 
 pub class-table-spec : {M : Type 1} → statement M
-class-table-spec = tie.close (tie.spec returns)
+class-table-spec =
+    tie.close (tie.spec returns)
