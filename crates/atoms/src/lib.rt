@@ -87,8 +87,8 @@ fn add_slots(slots: &mut Slots, from: usize, predicate: usize, count: usize, sub
 {
     let mut j: usize = 0;
     while j < count {
-        slots[from + j] = widths::short(tables::claim_place(predicate, j));
-        slots[128 + from + j] = widths::short(subgoal);
+        slots[from + j] = widths::usize_to_u16(tables::claim_place(predicate, j));
+        slots[128 + from + j] = widths::usize_to_u16(subgoal);
         j += 1;
     }
 }
@@ -110,7 +110,7 @@ pub fn close_subgoal(
     }
     let p = o.predicate;
     let from = state.slots;
-    let count = widths::wide(signatures[64 + p]);
+    let count = widths::u8_to_usize(signatures[64 + p]);
     add_slots(slots, from, p, count, subgoal);
     let mut next = state;
     next.subgoals = subgoal + 1;

@@ -1,21 +1,17 @@
--- Casts, products and differences of the code, as the integers that they should be.
+-- Products and differences of the code, as the integers that they should be.
 use mathlib.Core.Path.{_≡_, refl, _∙_, ap}
 use mathlib.Core.Bool.{Bool, true, false}
 use Prim.Native.Nat.{ℕ, suc, _+_, _≤_, _<_}
 use native.Mathlib.Omega.{arith}
-use lib.Dec.{T}
 use lib.IntN.{ℤ, pos, negsuc, negℤ, natAbs, _-ℤ_, _*ℤ_, +ℤ-idl}
-use lib.Signed.{ltZ, nonNeg, ltZ-no, yes-nonNeg}
-use mir.Facts.{toZ-ofZ, fits-natAbs}
+use lib.Signed.{ltZ}
+use mir.Facts.{toZ-ofZ}
 use mir.Syntax.{w64}
-use mir.Val.{Fits, SFits}
+use mir.Val.{SFits}
 use Rattle.groundwork.proofs.Magnitude.{natAbs-neg, natAbs-sub, mag-le-natAbs}
-use Rattle.groundwork.proofs.Truth.{fails-from, never-both, ge-ltb, equal-eqb, eqb-different}
+use Rattle.groundwork.proofs.Truth.{never-both, ge-ltb, equal-eqb, eqb-different}
 use Rattle.forms.proofs.Results.{kept, Exact, exact-product}
 use Rattle.bounds.specs.Bounds.{blocked, share}
-
-pub natural-fits : (z : ℤ) → SFits w64 z → ltZ z (pos 0) ≡ false → T (nonNeg (kept z)) × Fits w64 (natAbs (kept z))
-natural-fits z fits e = rw (toZ-ofZ fits) (yes-nonNeg {z = z} (ltZ-no {a = z} (fails-from _ e)), fits-natAbs tt fits)
 
 -- ---- whether an argument rules a claim out
 

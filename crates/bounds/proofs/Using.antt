@@ -11,7 +11,7 @@ use mir.Syntax.{w64}
 use mir.Val.{SFits}
 use Rattle.groundwork.proofs.Truth.{never-both, not-true, not-false, and-both, and-not-left, and-not-right}
 use Rattle.forms.proofs.Results.{kept}
-use Rattle.forms.proofs.Fits.{small-kept}
+use Rattle.widths.proofs.Kept.{small-kept}
 use Rattle.theory.specs.Packs.{Claim}
 use Rattle.theory.specs.Reserve.{Query, unknownsAtMostZero, askedNumber, isUsable, numerator, boundBy}
 use Rattle.tables.specs.Tables.{SafeClaims}

@@ -16,8 +16,7 @@ use mir.Syntax.{w64}
 use mir.Val.{SFits}
 use Rattle.groundwork.proofs.Magnitude.{natAbs-add, natAbs-mul}
 use Rattle.groundwork.proofs.Truth.{by-truth, never-both, and-not-left, gt-leb, lt-ltb, eqb-different}
-use Rattle.forms.proofs.Results.{kept, Exact}
-use Rattle.forms.proofs.Fits.{constant-adds}
+use Rattle.forms.proofs.Results.{kept, Exact, constant-adds}
 use Rattle.theory.specs.Packs.{Claim}
 use Rattle.theory.specs.Reserve.{Query, unknownsAtMostZero, knownPart, numerator}
 use Rattle.tables.specs.Tables.{SafeClaims}

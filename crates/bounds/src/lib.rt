@@ -22,14 +22,6 @@ fn is_positive(z: i64) -> bool
     0 < z
 }
 
-/// A number that is not below 0.
-fn natural(z: i64) -> u64
-    requires { ⌜ ltZ z (pos 0) ≡ false ⌝ }
-    ensures { λ r. ⌜ r ≡ natAbs z ⌝ }
-{
-    z as u64
-}
-
 /// Whether a claim's number for an argument rules the claim out: the size is unknown and the number above 0.
 fn is_blocked(number: i64, size: u32) -> bool
     ensures { λ r. ⌜ r ≡ blocked number size ⌝ }
@@ -49,7 +41,7 @@ fn share_of(number: i64, size: u32) -> i64
     if size == 65536 {
         return 0;
     }
-    number * widths::signed(size)
+    number * widths::u32_to_i64(size)
 }
 
 /// A claim's numerator, and whether an unknown argument rules the claim out.
@@ -62,10 +54,10 @@ fn weigh(claims: &[i16; 4608], place: usize, arity: usize, sizes: &[u32; 8]) -> 
     requires { ⌜ (place + 9 ≤ 4608) × (arity ≤ 8) × (SafeClaims (now claims)) × (SafeSizes (now sizes)) ⌝ }
     ensures { λ r. ⌜ Weighs (now (claims .entry)) place arity (now (sizes .entry)) r ⌝ }
 {
-    let mut numerator = widths::long(claims[place]);
+    let mut numerator = widths::i16_to_i64(claims[place]);
     let mut k: usize = 0;
     while k < arity {
-        let number = widths::long(claims[place + 1 + k]);
+        let number = widths::i16_to_i64(claims[place + 1 + k]);
         let size = sizes[k];
         if is_blocked(number, size) {
             return Weighed {
@@ -109,7 +101,7 @@ fn use_claim(
     requires { ⌜ (place + 9 ≤ 4608) × (arity ≤ 8) × (asked < 8) × (SafeClaims (now claims)) × (SafeSizes (now sizes)) ⌝ }
     ensures { λ r. ⌜ Uses (now (claims .entry)) place arity asked (now (sizes .entry)) r ⌝ }
 {
-    let number = widths::long(claims[place + 1 + asked]);
+    let number = widths::i16_to_i64(claims[place + 1 + asked]);
     if !is_negative(number) {
         return unusable();
     }
@@ -127,7 +119,7 @@ fn use_claim(
     Use {
         usable: true,
         impossible: false,
-        bound: natural(w.numerator) / natural(0 - number),
+        bound: widths::i64_to_u64(w.numerator) / widths::i64_to_u64(0 - number),
     }
 }
 
@@ -170,9 +162,9 @@ pub fn reserve_by(
     while i < count {
         let u = use_claim(claims, (predicate * 16 + i) * 9, arity, asked, sizes);
         if u.impossible {
-            return Reservation::Impossible(widths::byte(i + 1));
+            return Reservation::Impossible(widths::usize_to_u8(i + 1));
         }
-        best = better(best, u, widths::byte(i + 1));
+        best = better(best, u, widths::usize_to_u8(i + 1));
         i += 1;
     }
     if best.claim == 0 {

@@ -2,7 +2,7 @@
 use mathlib.Core.Path.{_≡_, refl, sym, _∙_, ap}
 use mathlib.Core.List.{List}
 use mathlib.Core.Option.{some}
-use Prim.Native.Nat.{ℕ, _+_, _*_, _≤_}
+use Prim.Native.Nat.{ℕ, _+_, _*_, _≤_, _<_}
 use native.Mathlib.Omega.{arith}
 use lib.IntN.{ℤ, pos, natAbs, _-ℤ_, _*ℤ_}
 use lib.ListN.{getD}
@@ -19,7 +19,7 @@ use Rattle.tables.specs.declared.Fault.the-variants.{Number}
 use Rattle.tables.specs.declared.Fielding.the-variants.{Read, Misread}
 use Rattle.certificates.specs.Weights.{RoomFor, Weighs}
 use Rattle.certificates.specs.Multipliers.{FieldM}
-use Rattle.forms.proofs.Fits.{keptAt, small-kept}
+use Rattle.widths.proofs.Kept.{keptAt, small-kept}
 
 none-taken : (w x : ℤ) → w ≡ w -ℤ pos 0 *ℤ x
 none-taken = by-diff₂ _ λ p n q m. simp to-diff (diff-eq _ _ _ _ (omega arith))
@@ -42,8 +42,11 @@ module _ (field : Bytes) (read : Natural) (is : naturalOf read ≡ natural 9999 
     reads : natural 9999 field ≡ some m
     reads = sym is ∙ ap naturalOf found
 
-    pub multiplier-small : m ≤ 9999
+    multiplier-small : m ≤ 9999
     multiplier-small = natural-within 9999 field m reads
+
+    pub multiplier-fits : m < 2147483648
+    multiplier-fits = omega (arith, multiplier-small)
 
     module _ (k : ℤ) (e : k ≡ pos m) where
       whole : keptAt w32 k ≡ pos m

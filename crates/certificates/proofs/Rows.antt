@@ -9,7 +9,7 @@ use mir.Syntax.{w64}
 use Rattle.forms.specs.Sums.{at, Within, Sum, Multiple}
 use Rattle.forms.specs.declared.Form.{Form}
 use Rattle.certificates.specs.Sums.{numberAt, FormAt}
-use Rattle.forms.proofs.Fits.{keptAt, small-kept}
+use Rattle.widths.proofs.Kept.{keptAt, small-kept}
 
 -- what holds of the constant and of each coefficient holds of each of the 17
 pub each-number : (P : ℕ → ℤ → Type 0) (f : Form) → P 0 (f .constant) → ((i : ℕ) → i < 16 → P (suc i) (at f i)) → (i : ℕ) → i < 17 → P i (numberAt f i)

@@ -14,7 +14,7 @@ use Rattle.forms.specs.Sums.{at, Within, Zero, Sum, Multiple}
 use Rattle.forms.specs.declared.Form.{Form}
 use Rattle.tables.specs.Tables.{rowPlace}
 use Rattle.certificates.specs.Sums.{numberAt, rowsSum, ownPart, atomsSum, Summable, Partial, WithConstant, FormAt}
-use Rattle.forms.proofs.Fits.{keptAt, small-fits, small-kept, widened}
+use Rattle.widths.proofs.Kept.{keptAt, small-fits, small-kept, widened}
 use Rattle.certificates.proofs.Rows.{each-number, sum-number, multiple-number, numbers-within, cell}
 
 -- ---- an atom's rows

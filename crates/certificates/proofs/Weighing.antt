@@ -16,7 +16,7 @@ use Rattle.groundwork.proofs.Truth.{by-truth, ltb-lt, ltb-ge}
 use Rattle.groundwork.proofs.Stretches.{Stored, elements, zeros, stored-front}
 use Rattle.tables.specs.Tables.{SafeClaims, NoWeights}
 use Rattle.certificates.specs.Weights.{largest, RoomFor, Weighs}
-use Rattle.forms.proofs.Fits.{keptAt, small-fits, small-kept}
+use Rattle.widths.proofs.Kept.{keptAt, small-fits, small-kept}
 
 pub product-small : (m x : ℤ) → natAbs m ≤ 9999 → natAbs x ≤ 9999 → natAbs (m *ℤ x) ≤ largest
 product-small m x few small = omega (arith, natAbs-mul m x, mul-le-mul few small)

@@ -3,7 +3,7 @@
 ghost use mathlib.Core.Path.{_≡_};
 ghost use mathlib.Core.Bool.{not};
 ghost use Prim.Native.Nat.{_+_, _≤_, _<_, _^_};
-ghost use lib.IntN.{pos, natAbs};
+ghost use lib.IntN.{natAbs};
 ghost use lib.ListN.{length, getD};
 ghost use lib.Signed.{nonNeg};
 ghost use Rattle.tables.specs.Tables.{SafeClaims, SafeRows, NoWeights};
@@ -21,37 +21,6 @@ use tables::State;
 use tables::Weights;
 use text::Natural;
 
-fn i16_to_i32(z: i16) -> i32
-    ensures { λ r. ⌜ r ≡ z ⌝ }
-{
-    z as i32
-}
-
-fn i32_to_i64(z: i32) -> i64
-    ensures { λ r. ⌜ r ≡ z ⌝ }
-{
-    z as i64
-}
-
-fn u16_to_i64(n: u16) -> i64
-    ensures { λ r. ⌜ r ≡ pos n ⌝ }
-{
-    n as i64
-}
-
-fn u16_to_usize(n: u16) -> usize
-    ensures { λ r. ⌜ r ≡ n ⌝ }
-{
-    n as usize
-}
-
-fn u32_to_i32(n: u32) -> i32
-    requires { ⌜ n ≤ 9999 ⌝ }
-    ensures { λ r. ⌜ r ≡ pos n ⌝ }
-{
-    n as i32
-}
-
 /// Takes a claim's numbers, times a multiplier, away from the weights of an atom.
 fn weigh(m: i32, place: usize, atom: usize, claims: &Claims, weights: &mut Weights)
     requires { ⌜ (natAbs m ≤ 9999) × (place + 9 ≤ 4608) × (atom ≤ 8) × (SafeClaims (now claims)) × (RoomFor (now weights) atom) ⌝ }
@@ -60,7 +29,7 @@ fn weigh(m: i32, place: usize, atom: usize, claims: &Claims, weights: &mut Weigh
     let mut i: usize = 0;
     while i < 9 {
         let weight = weights[atom * 9 + i];
-        weights[atom * 9 + i] = weight - m * i16_to_i32(claims[place + i]);
+        weights[atom * 9 + i] = weight - m * widths::i16_to_i32(claims[place + i]);
         i += 1;
     }
 }
@@ -83,9 +52,9 @@ pub fn field_multiplier(
             if m == 0 {
                 return Fielding::Read(many);
             }
-            let place = u16_to_usize(slots[index]);
-            let subgoal = u16_to_usize(slots[128 + index]);
-            weigh(u32_to_i32(m), place, subgoal + 1, claims, weights);
+            let place = widths::u16_to_usize(slots[index]);
+            let subgoal = widths::u16_to_usize(slots[128 + index]);
+            weigh(widths::u32_to_i32(m), place, subgoal + 1, claims, weights);
             Fielding::Read(many)
         }
         Natural::NoNatural => Fielding::Misread(Fault::Number),
@@ -99,7 +68,7 @@ fn weigh_head(claims: &Claims, place: usize, weights: &mut Weights)
 {
     let mut i: usize = 0;
     while i < 9 {
-        weights[i] = i16_to_i32(claims[place + i]);
+        weights[i] = widths::i16_to_i32(claims[place + i]);
         i += 1;
     }
 }
@@ -111,11 +80,11 @@ fn form_at(rows: &Rows, base: usize) -> Form
     let mut coefficients = [0i64; 16];
     let mut i: usize = 0;
     while i < Form::VARIABLES {
-        coefficients[i] = u16_to_i64(rows[base + 1 + i]);
+        coefficients[i] = widths::u16_to_i64(rows[base + 1 + i]);
         i += 1;
     }
     Form {
-        constant: u16_to_i64(rows[base]),
+        constant: widths::u16_to_i64(rows[base]),
         coefficients,
     }
 }
@@ -136,12 +105,13 @@ fn with_atom(sum: Form, weights: &Weights, rows: &Rows, atom: usize) -> Form
     requires { ⌜ (atom ≤ 8) × (Summable (now weights) (now rows)) × (Partial (now weights) (now rows) atom sum) ⌝ }
     ensures { λ r. ⌜ Partial (now (weights .entry)) (now (rows .entry)) (atom + 1) r ⌝ }
 {
-    let mut form = with_constant(sum, i32_to_i64(weights[atom * 9]));
+    let mut form = with_constant(sum, widths::i32_to_i64(weights[atom * 9]));
     let mut k: usize = 0;
     while k < 8 {
         let weight = weights[atom * 9 + 1 + k];
         if weight != 0 {
-            form = form.plus(form_at(rows, tables::row_place(atom, k)).times(i32_to_i64(weight)));
+            let row = form_at(rows, tables::row_place(atom, k));
+            form = form.plus(row.times(widths::i32_to_i64(weight)));
         }
         k += 1;
     }

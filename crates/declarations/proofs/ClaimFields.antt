@@ -11,8 +11,8 @@ use lib.Seq.{getD-set-same, getD-set-other}
 use mir.Facts.{toZ-ofZ, sfits-widen}
 use mir.Syntax.{w16}
 use mir.Val.{SFits, toZ, ofZ}
-use Rattle.groundwork.proofs.Magnitude.{mag-le-natAbs}
 use Rattle.groundwork.proofs.Truth.{never-both}
+use Rattle.widths.proofs.Kept.{small-fits}
 use Rattle.theory.specs.Lists.{isSome}
 use Rattle.theory.specs.Text.{Bytes, integer}
 use Rattle.theory.specs.Faults.{isClaimNumber}
@@ -26,9 +26,6 @@ use Rattle.tables.specs.declared.Fault.the-variants.{Number}
 use Rattle.tables.specs.declared.Fielding.the-variants.{Read, Misread}
 use Rattle.declarations.specs.Fields.{FieldC}
 
-pub narrow-fits : (z : ℤ) → natAbs z ≤ 9999 → SFits w16 z
-narrow-fits z h = record { sfits = omega (arith, mag-le-natAbs z) }
-
 module _ (field : Bytes) (read : Integer) (is : integerOf read ≡ integer 9999 field) where
   module _ (z : ℤ) (found : read ≡ Signed z) where
     reads : integer 9999 field ≡ some z
@@ -37,12 +34,15 @@ module _ (field : Bytes) (read : Integer) (is : integerOf read ≡ integer 9999 
     small : natAbs z ≤ 9999
     small = integer-within 9999 field z reads
 
+    fits : SFits w16 z
+    fits = small-fits w16 z (omega (arith, small))
+
     -- the number stands as its bits
     whole : kept z ≡ z
-    whole = toZ-ofZ (sfits-widen tt (narrow-fits z small))
+    whole = toZ-ofZ (sfits-widen tt fits)
 
-    pub number-small : natAbs (kept z) ≤ 9999
-    number-small = rw whole small
+    pub number-fits : natAbs (kept z) < 32768
+    number-fits = rw whole (omega (arith, small))
 
     pub number-read : (index many : ℕ) (row₀ : List ℤ) (y : ℤ) → index < 9 → length row₀ ≡ 9 → y ≡ kept z → FieldC index field many row₀ (Read many) (set row₀ index (toZ w16 (ofZ w16 y)))
     unfolding isSome
@@ -59,7 +59,7 @@ module _ (field : Bytes) (read : Integer) (is : integerOf read ≡ integer 9999 
         stored = toZ w16 (ofZ w16 y)
 
         is-z : stored ≡ z
-        is-z = ap (λ (x : ℤ). toZ w16 (ofZ w16 x)) (narrowed ∙ whole) ∙ toZ-ofZ (narrow-fits z small)
+        is-z = ap (λ (x : ℤ). toZ w16 (ofZ w16 x)) (narrowed ∙ whole) ∙ toZ-ofZ fits
 
   pub no-number : (index many : ℕ) (row₀ : List ℤ) → read ≡ NoInteger → FieldC index field many row₀ (Misread Number) row₀
   unfolding isSome

@@ -3,7 +3,7 @@ use mathlib.Core.Path.{_≡_, refl, sym, _∙_, ap}
 use mathlib.Core.Bool.{true, false, and-true}
 use mathlib.Core.List.{List, [], _∷_}
 use mathlib.Core.Option.{some}
-use Prim.Native.Nat.{ℕ, _≤_}
+use Prim.Native.Nat.{ℕ, _≤_, _<_}
 use native.Mathlib.Omega.{arith}
 use lib.Dec.{eqb}
 use lib.ListN.{length, getD, set, length-set}
@@ -26,8 +26,11 @@ use Rattle.declarations.specs.Fields.{FieldP}
 -- ---- the arity
 
 module _ (field : Bytes) (read : Natural) (is : naturalOf read ≡ natural 8 field) where
-  pub arity-small : (n : ℕ) → read ≡ Whole n → n ≤ 8
+  arity-small : (n : ℕ) → read ≡ Whole n → n ≤ 8
   arity-small n found = natural-within 8 field n (sym is ∙ ap naturalOf found)
+
+  pub arity-fits : (n : ℕ) → read ≡ Whole n → n < 256
+  arity-fits n found = omega (arith, arity-small n found)
 
   module _ (index many : ℕ) (small₀ : List ℕ) (first : index ≡ 0) where
     pub arity-read : (n m : ℕ) → read ≡ Whole n → m ≡ n → length small₀ ≡ 2 → FieldP index field many small₀ (Read many) (set small₀ 0 m)

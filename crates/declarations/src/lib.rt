@@ -1,7 +1,6 @@
 // `P` and `C` lines: a predicate, a claim. What their fields and their ends do.
 ghost use mathlib.Core.Path.{_≡_};
 ghost use Prim.Native.Nat.{_+_, _≤_, _<_};
-ghost use lib.IntN.{natAbs};
 ghost use lib.ListN.{length};
 ghost use Rattle.tables.specs.Tables.{SafeSignatures};
 ghost use Rattle.declarations.specs.Fields.{FieldP, FieldC};
@@ -18,13 +17,6 @@ use tables::State;
 use text::Integer;
 use text::Natural;
 
-fn small_number(n: u32) -> u8
-    requires { ⌜ n ≤ 8 ⌝ }
-    ensures { λ r. ⌜ r ≡ n ⌝ }
-{
-    n as u8
-}
-
 /// A field of a `P` line: the arity, then the kind. `small` holds both, the kind as 1 if the predicate is given.
 pub fn field_predicate(index: usize, field: &[u8], small: &mut [u8; 2], many: usize) -> Fielding
     requires { ⌜ (index < 2) × (length (now small) ≡ 2) ⌝ }
@@ -34,7 +26,7 @@ pub fn field_predicate(index: usize, field: &[u8], small: &mut [u8; 2], many: us
         let arity = text::read_natural(field, 8);
         match arity {
             Natural::Whole(n) => {
-                small[0] = small_number(n);
+                small[0] = widths::u32_to_u8(n);
                 return Fielding::Read(many);
             }
             Natural::NoNatural => return Fielding::Misread(Fault::Number),
@@ -55,13 +47,6 @@ pub fn field_predicate(index: usize, field: &[u8], small: &mut [u8; 2], many: us
     Fielding::Misread(Fault::Number)
 }
 
-fn narrow(z: i64) -> i16
-    requires { ⌜ natAbs z ≤ 9999 ⌝ }
-    ensures { λ r. ⌜ r ≡ z ⌝ }
-{
-    z as i16
-}
-
 /// A field of a `C` line: a number of the claim.
 pub fn field_claim(index: usize, field: &[u8], row: &mut [i16; 9], many: usize) -> Fielding
     requires { ⌜ (index < 9) × (length (now row) ≡ 9) ⌝ }
@@ -70,7 +55,7 @@ pub fn field_claim(index: usize, field: &[u8], row: &mut [i16; 9], many: usize) 
     let number = text::read_integer(field, 9999);
     match number {
         Integer::Signed(z) => {
-            row[index] = narrow(z);
+            row[index] = widths::i64_to_i16(z);
             Fielding::Read(many)
         }
         Integer::NoInteger => Fielding::Misread(Fault::Number),
@@ -130,13 +115,13 @@ pub fn close_claim(
     ensures { λ r. ⌜ ClosesC o state (now (row .entry)) (now (signatures .entry)) (now (claims .entry)) r (now (signatures .exit)) (now (claims .exit)) ⌝ }
 {
     let p = o.predicate;
-    let count = widths::wide(signatures[64 + p]);
+    let count = widths::u8_to_usize(signatures[64 + p]);
     if Form::CLAIMS <= count {
         return Closing::Misclosed(Fault::CountLimit);
     }
-    let arity = widths::wide(signatures[p]);
+    let arity = widths::u8_to_usize(signatures[p]);
     lay(claims, tables::claim_place(p, count), row, arity);
-    signatures[64 + p] = widths::byte(count + 1);
+    signatures[64 + p] = widths::usize_to_u8(count + 1);
     let mut next = state;
     next.claimed = true;
     Closing::Done(next)

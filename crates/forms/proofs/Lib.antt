@@ -1,4 +1,3 @@
 -- Laws that callers use: FormLaws, and Results on numbers of 64 bits. The rest of Results is for the functions' own proofs.
 pub mod Results
 pub mod FormLaws
-pub mod Fits

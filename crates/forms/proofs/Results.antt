@@ -1,6 +1,6 @@
 -- What plus and times share: a signed result that fits is the integer that it should be, and an array is filled from the front.
 use mathlib.Core.Path.{_≡_, _∙_}
-use mathlib.Core.List.{List}
+use mathlib.Core.List.{List, []}
 use Prim.Native.Nat.{ℕ, _+_, _^_, _≤_, _<_}
 use native.Mathlib.Omega.{arith}
 use native.Mathlib.Nat.{mul-le-mul}
@@ -11,7 +11,8 @@ use lib.Seq.{getD-set-same, getD-set-other}
 use mir.Syntax.{w64}
 use mir.Val.{SFits, toZ, ofZ}
 use mir.Facts.{toZ-ofZ}
-use Rattle.groundwork.proofs.Magnitude.{natAbs-add, natAbs-mul, mag-le-natAbs}
+use Rattle.groundwork.proofs.Magnitude.{natAbs-add, natAbs-mul}
+use Rattle.widths.proofs.Kept.{small-fits}
 use Rattle.forms.specs.declared.Form.{Form}
 use Rattle.forms.specs.Sums.{at, Within}
 
@@ -27,14 +28,11 @@ pub record Exact (operation : ℤ → ℤ → ℤ) (x y : ℤ) : Type 0 where
   pub fits : SFits w64 (operation (kept x) (kept y))
   pub result : kept (operation (kept x) (kept y)) ≡ operation x y
 
-small-fits : (z : ℤ) → natAbs z < 2 ^ 63 → SFits w64 z
-small-fits z h = record { sfits = omega (arith, mag-le-natAbs z) }
-
 exact : (operation : ℤ → ℤ → ℤ) (x y : ℤ) → natAbs x < 2 ^ 63 → natAbs y < 2 ^ 63 → natAbs (operation x y) < 2 ^ 63 → Exact operation x y
 exact operation x y hx hy h =
-    let left : kept x ≡ x = toZ-ofZ (small-fits x hx) in
-    let right : kept y ≡ y = toZ-ofZ (small-fits y hy) in
-    let fits = small-fits (operation x y) h in
+    let left : kept x ≡ x = toZ-ofZ (small-fits w64 x hx) in
+    let right : kept y ≡ y = toZ-ofZ (small-fits w64 y hy) in
+    let fits = small-fits w64 (operation x y) h in
     record { left = left; fits = rw (left, right) fits; result = rw (left, right) (toZ-ofZ fits) }
 
 exact-sum : (x y : ℤ) → natAbs x ≤ 2 ^ 61 → natAbs y ≤ 2 ^ 61 → Exact _+ℤ_ x y
@@ -51,6 +49,16 @@ module _ {f g : Form} (small : Within (2 ^ 61) f × Within (2 ^ 61) g) where
 
   pub coefficients-add : (i : ℕ) → i < 16 → Exact _+ℤ_ (at f i) (at g i)
   coefficients-add i h = exact-sum (at f i) (at g i) (small .0 .coefficient i h) (small .1 .coefficient i h)
+
+-- a number as a form with no variables
+abbrev alone : ℤ → Form
+alone z = record { constant = z; coefficients = [] }
+
+alone-within : (z : ℤ) → natAbs z < 2 ^ 60 → Within (2 ^ 61) (alone z)
+alone-within z small = record { constant = omega arith; coefficient = λ i less. omega arith }
+
+pub constant-adds : (x y : ℤ) → (natAbs x < 2 ^ 60) × (natAbs y < 2 ^ 60) → Exact _+ℤ_ x y
+constant-adds x y small = constants-add {f = alone x} {g = alone y} (alone-within x (small .0), alone-within y (small .1))
 
 module _ {f : Form} (k : ℤ) (small : Within (2 ^ 24) f × natAbs k ≤ 2 ^ 36) where
   pub constant-multiplies : Exact _*ℤ_ k (f .constant)

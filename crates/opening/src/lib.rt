@@ -53,7 +53,7 @@ fn is_complete(state: State, signatures: &Signatures) -> bool
     if state.rules == 0 {
         return true;
     }
-    widths::wide(signatures[64 + head]) <= state.multipliers
+    widths::u8_to_usize(signatures[64 + head]) <= state.multipliers
 }
 
 /// Whether a line of this letter may stand at this point.
@@ -210,7 +210,7 @@ fn open_reference(
     if is_barred(letter, signatures[32 + place]) {
         return Opening::Misopened(Fault::Declaration);
     }
-    if text::count(line, b',') != widths::wide(signatures[place]) + commas_besides(letter) {
+    if text::count(line, b',') != widths::u8_to_usize(signatures[place]) + commas_besides(letter) {
         return Opening::Misopened(Fault::FieldCount);
     }
     let words = name.words;

@@ -379,15 +379,15 @@ pub fn load(
     let ending = l.ending;
     let state = l.state;
     let residual = l.residual;
-    let line = widths::short(l.line);
-    let rule = widths::byte(state.rules);
+    let line = widths::usize_to_u16(l.line);
+    let rule = widths::usize_to_u8(state.rules);
     match ending {
         Ending::Stopped(fault) => Loaded {
             verdict: Verdict::Refused(refusal(
                 fault,
                 line,
                 rule,
-                widths::byte(state.multipliers + 1),
+                widths::usize_to_u8(state.multipliers + 1),
             )),
             residual,
             state,
@@ -401,7 +401,7 @@ pub fn load(
                 verdict: Verdict::Accepted(Counts {
                     lines: line,
                     rules: rule,
-                    multiplier_lines: widths::short(state.multiplier_lines),
+                    multiplier_lines: widths::usize_to_u16(state.multiplier_lines),
                 }),
                 residual,
                 state,

@@ -21,12 +21,6 @@ pub struct Asked {
     pub asked: usize,
 }
 
-fn limit_of(x: u8) -> u32
-    ensures { λ r. ⌜ r ≡ x ⌝ }
-{
-    x as u32
-}
-
 fn refused(fault: u8) -> Asked
     ensures { λ r. ⌜ (r .fault ≡ fault) × (r .predicate ≡ 0) × (r .arity ≡ 0) × (r .asked ≡ 0) ⌝ }
 {
@@ -80,9 +74,9 @@ fn read_asked(field: &[u8], arity: u8) -> usize
     requires { ⌜ arity ≤ 8 ⌝ }
     ensures { λ r. ⌜ r ≡ Option·getD (natural arity (now (field .entry))) 0 ⌝ }
 {
-    let asked = text::read_natural(field, limit_of(arity));
+    let asked = text::read_natural(field, widths::u8_to_u32(arity));
     match asked {
-        Natural::Whole(n) => widths::place_of(n),
+        Natural::Whole(n) => widths::u32_to_usize(n),
         Natural::NoNatural => 0,
     }
 }
@@ -120,7 +114,7 @@ pub fn open_query(
         return refused(14);
     }
     let arity = signatures[place];
-    if text::count(query, 44) != widths::wide(arity) + 1 {
+    if text::count(query, 44) != widths::u8_to_usize(arity) + 1 {
         return refused(15);
     }
     let from = stop + 1;
@@ -138,7 +132,7 @@ pub fn open_query(
     Asked {
         fault: 0,
         predicate: place,
-        arity: widths::wide(arity),
+        arity: widths::u8_to_usize(arity),
         asked: asked - 1,
     }
 }

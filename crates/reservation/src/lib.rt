@@ -41,7 +41,7 @@ pub fn answer(
         return Reservation::QueryRefused(query_refusal(q.fault));
     }
     let predicate = q.predicate;
-    let count = widths::wide(signatures[64 + predicate]);
+    let count = widths::u8_to_usize(signatures[64 + predicate]);
     bounds::reserve_by(claims, predicate, count, q.arity, q.asked, &sizes)
 }
 

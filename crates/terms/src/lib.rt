@@ -63,7 +63,7 @@ fn place_of(start: usize, end: usize) -> u16
     requires { ⌜ (start < 1024) × (start < end) × (end ≤ start + 16) ⌝ }
     ensures { λ r. ⌜ r ≡ start * 16 + (end - start - 1) ⌝ }
 {
-    widths::short(start * 16 + (end - start - 1))
+    widths::usize_to_u16(start * 16 + (end - start - 1))
 }
 
 /// Where the variable at a place starts.
@@ -129,7 +129,7 @@ pub fn read_tokens(
             let arity = digit_of(field[end + 1]);
             arities[symbols] = arity;
             symbols += 1;
-            wanted = wanted - 1 + widths::wide(arity);
+            wanted = wanted - 1 + widths::u8_to_usize(arity);
             from = end + 3;
         } else {
             if class != 2 {
@@ -151,12 +151,6 @@ pub fn read_tokens(
     }
 }
 
-fn sixteen_bits(arity: u8) -> u16
-    ensures { λ r. ⌜ r ≡ arity ⌝ }
-{
-    arity as u16
-}
-
 /// The sum of the arities of a term's symbols.
 pub fn sum_of_arities(arities: &[u8; 512], symbols: usize) -> u16
     requires { ⌜ SmallArities (now arities) symbols ⌝ }
@@ -165,7 +159,7 @@ pub fn sum_of_arities(arities: &[u8; 512], symbols: usize) -> u16
     let mut sum: u16 = 0;
     let mut i: usize = 0;
     while i < symbols {
-        sum += sixteen_bits(arities[i]);
+        sum += widths::u8_to_u16(arities[i]);
         i += 1;
     }
     sum

@@ -80,5 +80,5 @@ pub fn first_of_sixteen(bytes: &[u8], wanted: u8, at: usize) -> usize
     if found == 0 {
         return 16;
     }
-    widths::place_of(u32::trailing_zeros(found))
+    widths::u32_to_usize(u32::trailing_zeros(found))
 }

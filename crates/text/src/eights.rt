@@ -10,7 +10,7 @@ fn two_bytes(bytes: &[u8], at: usize) -> u64
     requires { ⌜ at + 2 ≤ length (now bytes) ⌝ }
     ensures { λ r. ⌜ Numbered (now (bytes .entry)) at 2 65536 r ⌝ }
 {
-    super::wide(bytes[at]) + 256 * super::wide(bytes[at + 1])
+    widths::u8_to_u64(bytes[at]) + 256 * widths::u8_to_u64(bytes[at + 1])
 }
 
 fn four_bytes(bytes: &[u8], at: usize) -> u64
@@ -53,7 +53,7 @@ fn few_bytes(bytes: &[u8]) -> u64
     let mut i = bytes.len();
     while 0 < i {
         i -= 1;
-        word = word * 256 + super::wide(bytes[i]);
+        word = word * 256 + widths::u8_to_u64(bytes[i]);
     }
     word
 }
@@ -101,7 +101,7 @@ fn zeros_of_eight(bytes: &[u8], at: usize) -> usize
     requires { ⌜ at + 8 ≤ length (now bytes) ⌝ }
     ensures { λ r. ⌜ (r ≤ 4) × Zeros (now (bytes .entry)) at r ⌝ }
 {
-    widths::place_of(u64::trailing_zeros(eight_bytes(bytes, at) ^ ZEROS)) / 16
+    widths::u32_to_usize(u64::trailing_zeros(eight_bytes(bytes, at) ^ ZEROS)) / 16
 }
 
 /// How many fields `0`, each with the comma after it, stand from a place on. It stops where fewer than eight bytes are left.

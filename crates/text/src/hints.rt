@@ -20,7 +20,7 @@ pub fn place_by(names: &[u64; 64], known: usize, words: Words, hints: &mut [u8; 
     let first = words.first;
     let second = words.second;
     let key = hash(words);
-    let hint = widths::wide(hints[key]);
+    let hint = widths::u8_to_usize(hints[key]);
     if hint < known {
         if names[2 * hint] == first {
             if names[2 * hint + 1] == second {
@@ -29,6 +29,6 @@ pub fn place_by(names: &[u64; 64], known: usize, words: Words, hints: &mut [u8; 
         }
     }
     let at = super::place(names, known, words);
-    hints[key] = widths::byte(at);
+    hints[key] = widths::usize_to_u8(at);
     at
 }

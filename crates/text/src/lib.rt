@@ -108,7 +108,7 @@ pub fn count(bytes: &[u8], wanted: u8) -> usize
     let mut i: usize = 0;
     while i < bytes.len() {
         let end = block_end(i, bytes.len());
-        n += widths::wide(count_few(&bytes[i..end], wanted));
+        n += widths::u8_to_usize(count_few(&bytes[i..end], wanted));
         i = end;
     }
     n
@@ -161,12 +161,6 @@ pub fn is_name_byte(b: u8) -> bool
     b == 95
 }
 
-fn wide(b: u8) -> u64
-    ensures { λ r. ⌜ (r ≡ b) × (r < 256) ⌝ }
-{
-    b as u64
-}
-
 /// Up to eight bytes as one number, the first byte the lowest, and whether all may stand in a name.
 pub struct Packed {
     pub fine: bool,
@@ -188,7 +182,7 @@ fn pack(bytes: &[u8]) -> Packed
                 word: 0,
             };
         }
-        word = word * 256 + wide(b);
+        word = word * 256 + widths::u8_to_u64(b);
     }
     Packed { fine: true, word }
 }
@@ -347,7 +341,7 @@ pub fn read_integer(field: &[u8], limit: u32) -> Integer
     } else {
         let value = read_natural(field, limit);
         match value {
-            Natural::Whole(n) => Integer::Signed(widths::signed(n)),
+            Natural::Whole(n) => Integer::Signed(widths::u32_to_i64(n)),
             Natural::NoNatural => Integer::NoInteger,
         }
     }

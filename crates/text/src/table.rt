@@ -278,7 +278,7 @@ pub fn class_of(b: u8, classes: &[u8; 256]) -> u8
     requires { ⌜ Classes (now classes) ⌝ }
     ensures { λ r. ⌜ Class b r ⌝ }
 {
-    classes[widths::wide(b)]
+    classes[widths::u8_to_usize(b)]
 }
 
 /// The first place at or after `from` whose byte no name has, or the length.

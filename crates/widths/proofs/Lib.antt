@@ -1,1 +1,1 @@
-pub mod Widening
+pub mod Kept

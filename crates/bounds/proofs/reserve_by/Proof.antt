@@ -18,13 +18,13 @@ loop-holds c = (search needs, reserving-none)
 returns : tie.Need-returns Inv-loop μ-loop
 returns c =
     let turn = c .before .before .before .before .loop in
-    reserving-impossible (turn .inv .1) (omega arith) (c .before .before .use-claim .ensures) (c .byte .result) (c .byte .ensures) (c .before .if1 .taken)
+    reserving-impossible (turn .inv .1) (omega arith) (c .before .before .use-claim .ensures) (c .usize-to-u8 .result) (c .usize-to-u8 .ensures) (c .before .if1 .taken)
 
 loop-again : tie.Need-loop-again Inv-loop μ-loop
 loop-again c =
     let turn = c .before .before .before .before .before .loop in (
       search needs,
-      reserving-more (turn .inv .1) (omega arith) (c .before .before .before .use-claim .ensures) (c .before .byte2 .result) (c .before .byte2 .ensures) (c .before .before .if1 .left) (c .better .result) (c .better .ensures),
+      reserving-more (turn .inv .1) (omega arith) (c .before .before .before .use-claim .ensures) (c .before .usize-to-u82 .result) (c .before .usize-to-u82 .ensures) (c .before .before .if1 .left) (c .better .result) (c .better .ensures),
     )
 
 returns-2 : tie.Need-returns-2 Inv-loop μ-loop

@@ -10,12 +10,12 @@ returns c = share-none (c .before .args .number) (c .before .args .size) (c .if1
 mul-result : tie.Need-mul-result
 mul-result c =
     let start = c .before .before in
-    share-fits (start .args .number) (start .args .size) (c .signed .result) (start .pre) (c .signed .ensures)
+    share-fits (start .args .number) (start .args .size) (c .u32-to-i64 .result) (start .pre) (c .u32-to-i64 .ensures)
 
 returns-2 : tie.Need-returns-2
 returns-2 c =
     let start = c .before .before in
-    share-is (start .args .number) (start .args .size) (c .signed .result) (start .pre) (c .signed .ensures) (c .before .if1 .left)
+    share-is (start .args .number) (start .args .size) (c .u32-to-i64 .result) (start .pre) (c .u32-to-i64 .ensures) (c .before .if1 .left)
 
 pub share-of-spec : {M : Type 1} → statement M
 share-of-spec =

@@ -5,10 +5,10 @@ use native.Mathlib.Omega.{arith}
 use borrow.Author.Needs.{needs}
 use lib.IntN.{pos}
 use lib.ListN.{getD}
-use mir.Syntax.{w64}
+use mir.Syntax.{w16, w64}
 use mir.Val.{toZ}
 use Rattle.forms.proofs.Results.{kept}
-use Rattle.widths.proofs.Widening.{widened}
+use Rattle.widths.proofs.Kept.{widened}
 use Rattle.bounds.proofs.Weighing.{Weighing, weighing-none, weighing-blocked, share-requires, sum-fits, weighing-more, weighing-done}
 use Rattle.bounds.proofs.weigh.Statement.{statement}
 use Rattle.bounds.proofs.weigh.Tie as tie
@@ -21,13 +21,13 @@ abbrev μ-loop : tie.MeasureT-loop
 μ-loop claims place arity sizes numerator₀ k₀ numerator k = arity - k
 
 -- the claim's number for the argument of a turn
-read : (c : tie.After-long2 Inv-loop μ-loop) → let args = c .before .before .before .before .before .before .args in kept (c .long2 .result) ≡ getD (args .claims .now) (args .place + 1 + c .before .before .before .loop .k) (pos 0)
-read c = widened _ (c .long2 .result) (record { sfits = c .before .long-arg2 .given }) (c .long2 .ensures)
+read : (c : tie.After-i16-to-i642 Inv-loop μ-loop) → let args = c .before .before .before .before .before .before .args in kept (c .i16-to-i642 .result) ≡ getD (args .claims .now) (args .place + 1 + c .before .before .before .loop .k) (pos 0)
+read c = widened w16 w64 _ (c .i16-to-i642 .result) tt (record { sfits = c .before .i16-to-i64-arg2 .given }) (c .i16-to-i642 .ensures)
 
 loop-holds : tie.Need-loop-holds Inv-loop μ-loop
 loop-holds c = (
   search needs,
-  weighing-none _ (c .before .before .pre .2) (widened _ (c .long .result) (record { sfits = c .before .long-arg .given }) (c .long .ensures)),
+  weighing-none _ (c .before .before .pre .2) (widened w16 w64 _ (c .i16-to-i64 .result) tt (record { sfits = c .before .i16-to-i64-arg .given }) (c .i16-to-i64 .ensures)),
 )
 
 returns : tie.Need-returns Inv-loop μ-loop
@@ -35,21 +35,21 @@ returns c =
     let start = c .before .before .before .before .before .before .before .before .before in
     let turn = c .before .before .before .before .before .before .loop in
     let number = c .before .before .before in
-    weighing-blocked (turn .inv .1) (start .pre .1) (omega arith) (number .long2 .result) (read number) _ (c .before .is-blocked .ensures) (c .if1 .taken)
+    weighing-blocked (turn .inv .1) (start .pre .1) (omega arith) (number .i16-to-i642 .result) (read number) _ (c .before .is-blocked .ensures) (c .if1 .taken)
 
 share-of-requires : tie.Need-share-of-requires Inv-loop μ-loop
 share-of-requires c κs =
     let start = c .before .before .before .before .before .before .before .before .before in
     let turn = c .before .before .before .before .before .before .loop in
     let number = c .before .before .before in
-    share-requires (turn .inv .1) (start .pre .1) (omega arith) (number .long2 .result) (read number) (start .pre .2) (start .pre .3)
+    share-requires (turn .inv .1) (start .pre .1) (omega arith) (number .i16-to-i642 .result) (read number) (start .pre .2) (start .pre .3)
 
 add-numerator : tie.Need-add-numerator Inv-loop μ-loop
 add-numerator c =
     let start = c .before .before .before .before .before .before .before .before .before .before in
     let turn = c .before .before .before .before .before .before .before .loop in
     let number = c .before .before .before .before in
-    sum-fits (turn .inv .1) (start .pre .1) (omega arith) (number .long2 .result) (read number) (start .pre .2) (start .pre .3) (c .share-of .result) (c .share-of .ensures)
+    sum-fits (turn .inv .1) (start .pre .1) (omega arith) (number .i16-to-i642 .result) (read number) (start .pre .2) (start .pre .3) (c .share-of .result) (c .share-of .ensures)
 
 loop-again : tie.Need-loop-again Inv-loop μ-loop
 loop-again c =
@@ -57,7 +57,7 @@ loop-again c =
     let turn = c .before .before .before .before .before .before .before .loop in
     let number = c .before .before .before .before in (
       search needs,
-      weighing-more (turn .inv .1) (start .pre .1) (omega arith) (number .long2 .result) (read number) (start .pre .2) (start .pre .3) (c .share-of .result) (c .share-of .ensures)
+      weighing-more (turn .inv .1) (start .pre .1) (omega arith) (number .i16-to-i642 .result) (read number) (start .pre .2) (start .pre .3) (c .share-of .result) (c .share-of .ensures)
           _
           (c .before .before .is-blocked .ensures)
           (c .before .if1 .left),

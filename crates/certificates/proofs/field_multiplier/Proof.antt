@@ -1,6 +1,6 @@
 -- `certificates::field_multiplier` meets its contract. Assumes nothing.
 use borrow.Author.Needs.{needs}
-use Rattle.certificates.proofs.MultiplierFields.{room-there, multiplier-small, multiplier-magnitude, nothing-weighed, claim-weighed, no-multiplier}
+use Rattle.certificates.proofs.MultiplierFields.{room-there, multiplier-fits, multiplier-magnitude, nothing-weighed, claim-weighed, no-multiplier}
 use Rattle.certificates.proofs.field_multiplier.Statement.{statement}
 use Rattle.certificates.proofs.field_multiplier.Tie as tie
 
@@ -8,7 +8,7 @@ returns : tie.Need-returns
 returns c = search (needs, nothing-weighed)
 
 u32-to-i32-requires : tie.Need-u32-to-i32-requires
-u32-to-i32-requires c κs = search (needs, multiplier-small)
+u32-to-i32-requires c κs = search (needs, multiplier-fits)
 
 weigh-requires : tie.Need-weigh-requires
 weigh-requires c κs = search (needs, multiplier-magnitude, room-there)

@@ -6,7 +6,7 @@ use lib.IntN.{pos}
 use mir.Syntax.{w16, w32}
 use mir.Val.{toZ}
 use Rattle.groundwork.proofs.Stretches.{Stored, stored-none, stored-more}
-use Rattle.forms.proofs.Fits.{widened}
+use Rattle.widths.proofs.Kept.{widened}
 use Rattle.certificates.proofs.Weighing.{Taken, weighed, taken, weighs-all}
 use Rattle.certificates.proofs.weigh.Statement.{statement}
 use Rattle.certificates.proofs.weigh.Tie as tie

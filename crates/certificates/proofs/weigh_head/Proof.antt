@@ -5,7 +5,7 @@ use borrow.Author.Needs.{needs}
 use lib.IntN.{pos}
 use mir.Syntax.{w16, w32}
 use Rattle.groundwork.proofs.Stretches.{Stored, from, stored-none, stored-front, stored-more}
-use Rattle.forms.proofs.Fits.{widened}
+use Rattle.widths.proofs.Kept.{widened}
 use Rattle.certificates.proofs.weigh_head.Statement.{statement}
 use Rattle.certificates.proofs.weigh_head.Tie as tie
 

@@ -1,6 +1,6 @@
 -- `certificates::with_constant` meets its contract.
 use mathlib.Core.Path.{refl}
-use Rattle.forms.proofs.Fits.{constant-adds}
+use Rattle.forms.proofs.Results.{constant-adds}
 use Rattle.certificates.proofs.with_constant.Statement.{statement}
 use Rattle.certificates.proofs.with_constant.Tie as tie
 

@@ -34,7 +34,7 @@ returns-5 c =
 returns-6 : tie.Need-returns-6
 returns-6 c =
     let lines = c .before .before .before .before .before .before .before .before .before in
-    accepted _ (lines .before .before .before .before .before .before .before .before .if1 .left) (is-finished _ (lines .before .before .before .before .before .before .before .if2 .left) (lines .before .before .before .before .before .if3 .left)) (lines .before .before .before .before .start .ensures) (lines .before .before .before .before .before .before .before .before .before .before .pre) (lines .load-lines .ensures) (search needs) refl refl (rw (c .before .before .before .before .before .before .short .ensures, c .before .before .before .before .before .byte .ensures, c .short2 .ensures) refl) (search (needs, not-false))
+    accepted _ (lines .before .before .before .before .before .before .before .before .if1 .left) (is-finished _ (lines .before .before .before .before .before .before .before .if2 .left) (lines .before .before .before .before .before .if3 .left)) (lines .before .before .before .before .start .ensures) (lines .before .before .before .before .before .before .before .before .before .before .pre) (lines .load-lines .ensures) (search needs) refl refl (rw (c .before .before .before .before .before .before .usize-to-u16 .ensures, c .before .before .before .before .before .usize-to-u8 .ensures, c .usize-to-u162 .ensures) refl) (search (needs, not-false))
 
 pub load-spec : {M : Type 1} → statement M
 load-spec =

@@ -66,7 +66,7 @@ returns-7 c =
     (named .named-by .ensures)
     (counted .before .before .before .before .if2 .left) _ _
     (counted .before .before .count .ensures)
-    (counted .before .wide .ensures)
+    (counted .before .u8-to-usize .ensures)
     (counted .if3 .left) _
     (asked .before .before .field-end2 .ensures) _
     (asked .read-asked .ensures)
@@ -76,7 +76,7 @@ returns-7 c =
     (arity-small _ (pre .1) _ _ (pre .0) (counted .before .before .before .before .if2 .left))
     (pre .0)
     (c .before .if6 .left) _
-    (c .wide2 .ensures)
+    (c .u8-to-usize2 .ensures)
 
 pub open-query-spec : {M : Type 1} → statement M
 open-query-spec =

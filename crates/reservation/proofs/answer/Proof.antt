@@ -17,7 +17,7 @@ reserve-by-requires : tie.Need-reserve-by-requires
 reserve-by-requires c κs =
     let pre = c .before .before .before .before .before .before .before .before .pre in
     let opens = c .before .before .before .before .before .«open-query» .ensures in
-    (opens .predicate, omega (arith, c .before .wide .ensures, pre .1 .count _ (opens .predicate)), opens .arity, opens .asked, pre .2, opens .safe)
+    (opens .predicate, omega (arith, c .before .u8-to-usize .ensures, pre .1 .count _ (opens .predicate)), opens .arity, opens .asked, pre .2, opens .safe)
 
 returns-2 : tie.Need-returns-2
 returns-2 c = search (needs, answered-query)

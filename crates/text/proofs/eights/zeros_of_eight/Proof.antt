@@ -5,7 +5,7 @@ use Rattle.text.proofs.eights.zeros_of_eight.Statement.{statement}
 use Rattle.text.proofs.eights.zeros_of_eight.Tie as tie
 
 returns : tie.Need-returns
-returns c = zeros-eight (c .before .before .before .args .bytes .now) (c .before .before .shared-slice-known .given) _ (search needs) _ (c .before .eight-bytes .ensures) _ (c .place-of .ensures)
+returns c = zeros-eight (c .before .before .before .args .bytes .now) (c .before .before .shared-slice-known .given) _ (search needs) _ (c .before .eight-bytes .ensures) _ (c .u32-to-usize .ensures)
 
 pub zeros-of-eight-spec : {M : Type 1} → statement M
 zeros-of-eight-spec =

@@ -1,10 +1,10 @@
--- `certificates::u16_to_i64` meets its contract. Assumes nothing.
+-- `widths::u16_to_i64` meets its contract. Assumes nothing.
 use native.Mathlib.Omega.{arith}
 use borrow.Author.Needs.{needs}
 use mir.Facts.{toZ-pos}
 use mir.Syntax.{w64}
-use Rattle.certificates.proofs.u16_to_i64.Statement.{statement}
-use Rattle.certificates.proofs.u16_to_i64.Tie as tie
+use Rattle.widths.proofs.u16_to_i64.Statement.{statement}
+use Rattle.widths.proofs.u16_to_i64.Tie as tie
 
 returns : tie.Need-returns
 returns c = toZ-pos w64 (omega arith)

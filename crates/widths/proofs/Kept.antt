@@ -1,17 +1,16 @@
 -- Numbers that the code keeps as bits, of one width or of two, and reads as they were.
 use mathlib.Core.Path.{_≡_, _∙_}
-use mathlib.Core.List.{[]}
+use mathlib.Core.Bool.{false}
 use Prim.Native.Nat.{_^_, _<_}
 use native.Mathlib.Omega.{arith}
 use lib.Dec.{T, leb}
-use lib.IntN.{ℤ, natAbs, _+ℤ_}
-use mir.Facts.{toZ-ofZ, sfits-widen}
-use mir.Syntax.{Width}
-use mir.Val.{SFits, hbits, toZ, ofZ}
+use lib.IntN.{ℤ, pos, natAbs}
+use lib.Signed.{ltZ, nonNeg, ltZ-no, yes-nonNeg}
+use mir.Facts.{toZ-ofZ, sfits-widen, fits-natAbs}
+use mir.Syntax.{Width, w64}
+use mir.Val.{Fits, SFits, hbits, toZ, ofZ}
 use Rattle.groundwork.proofs.Magnitude.{mag-le-natAbs}
-use Rattle.forms.specs.Sums.{Within}
-use Rattle.forms.specs.declared.Form.{Form}
-use Rattle.forms.proofs.Results.{Exact, constants-add}
+use Rattle.groundwork.proofs.Truth.{fails-from}
 
 -- what the code reads of an integer that it keeps at a width
 abbrev pub keptAt : Width → ℤ → ℤ
@@ -27,14 +26,6 @@ small-kept w z small = toZ-ofZ (small-fits w z small)
 pub widened : (v w : Width) (x r : ℤ) → T (leb (hbits v) (hbits w)) → SFits v x → r ≡ keptAt v x → keptAt w r ≡ x
 widened v w x r wider fits e = let same : r ≡ x = e ∙ toZ-ofZ fits in rw same (toZ-ofZ (sfits-widen wider fits))
 
--- ---- sums
-
--- a number as a form with no variables
-abbrev alone : ℤ → Form
-alone z = record { constant = z; coefficients = [] }
-
-alone-within : (z : ℤ) → natAbs z < 2 ^ 60 → Within (2 ^ 61) (alone z)
-alone-within z small = record { constant = omega arith; coefficient = λ i less. omega arith }
-
-pub constant-adds : (x y : ℤ) → (natAbs x < 2 ^ 60) × (natAbs y < 2 ^ 60) → Exact _+ℤ_ x y
-constant-adds x y small = constants-add {f = alone x} {g = alone y} (alone-within x (small .0), alone-within y (small .1))
+-- a number that is not below 0, as one without a sign
+pub unsigned-fits : (z : ℤ) → SFits w64 z → ltZ z (pos 0) ≡ false → T (nonNeg (keptAt w64 z)) × Fits w64 (natAbs (keptAt w64 z))
+unsigned-fits z fits e = rw (toZ-ofZ fits) (yes-nonNeg {z = z} (ltZ-no {a = z} (fails-from _ e)), fits-natAbs tt fits)

@@ -1,10 +1,10 @@
--- `certificates::u32_to_i32` meets its contract. Assumes nothing.
+-- `widths::u32_to_i32` meets its contract. Assumes nothing.
 use native.Mathlib.Omega.{arith}
 use borrow.Author.Needs.{needs}
 use mir.Facts.{toZ-pos}
 use mir.Syntax.{w32}
-use Rattle.certificates.proofs.u32_to_i32.Statement.{statement}
-use Rattle.certificates.proofs.u32_to_i32.Tie as tie
+use Rattle.widths.proofs.u32_to_i32.Statement.{statement}
+use Rattle.widths.proofs.u32_to_i32.Tie as tie
 
 returns : tie.Need-returns
 returns c = toZ-pos w32 (omega arith)

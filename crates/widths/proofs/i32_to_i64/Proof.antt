@@ -1,12 +1,12 @@
--- `certificates::i32_to_i64` meets its contract. Assumes nothing.
+-- `widths::i32_to_i64` meets its contract. Assumes nothing.
 use mathlib.Core.Path.{refl}
 use borrow.Author.Needs.{needs}
 use mir.Facts.{sfits-widen}
 use mir.Syntax.{w32, w64}
 use mir.Val.{SFits}
-use Rattle.forms.proofs.Fits.{widened}
-use Rattle.certificates.proofs.i32_to_i64.Statement.{statement}
-use Rattle.certificates.proofs.i32_to_i64.Tie as tie
+use Rattle.widths.proofs.Kept.{widened}
+use Rattle.widths.proofs.i32_to_i64.Statement.{statement}
+use Rattle.widths.proofs.i32_to_i64.Tie as tie
 
 cast-result : tie.Need-cast-result
 cast-result c = let wide : SFits w64 (c .args .z) = sfits-widen tt (c .fits .z) in search needs
