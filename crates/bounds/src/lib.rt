@@ -10,12 +10,6 @@ ghost use Rattle.bounds.specs.Bounds.{share, blocked, Weighs, Uses, bett
 use theory::Bound;
 use theory::Reservation;
 
-fn is_negative(z: i64) -> bool
-    ensures { λ r. ⌜ r ≡ ltZ z (pos 0) ⌝ }
-{
-    z < 0
-}
-
 fn is_positive(z: i64) -> bool
     ensures { λ r. ⌜ r ≡ ltZ (pos 0) z ⌝ }
 {
@@ -102,14 +96,14 @@ fn use_claim(
     ensures { λ r. ⌜ Uses (now (claims .entry)) place arity asked (now (sizes .entry)) r ⌝ }
 {
     let number = widths::i16_to_i64(claims[place + 1 + asked]);
-    if !is_negative(number) {
+    if !forms::is_negative(number) {
         return unusable();
     }
     let w = weigh(claims, place, arity, sizes);
     if w.blocked {
         return unusable();
     }
-    if is_negative(w.numerator) {
+    if forms::is_negative(w.numerator) {
         return Use {
             usable: true,
             impossible: true,

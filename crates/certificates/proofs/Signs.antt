@@ -19,14 +19,11 @@ below-zero : (z : ℤ) → ltZ z (pos 0) ≡ not (nonNeg z)
 below-zero (pos n) = ge-ltb n 0 (omega arith)
 below-zero (negsuc n) = refl
 
-pub negative-flag : (z : ℤ) → SFits w64 z → ltZ (kept z) (pos 0) ≡ not (nonNeg z)
-negative-flag z fits = rw (toZ-ofZ fits) (below-zero z)
-
 -- ---- what the flag tells
 
-module _ (z : ℤ) (flag : Bool) (fits : SFits w64 z) (e : flag ≡ not (nonNeg (kept z))) where
+module _ (z : ℤ) (flag : Bool) (fits : SFits w64 z) (e : flag ≡ ltZ (kept z) (pos 0)) where
   flag-is : not (nonNeg z) ≡ flag
-  flag-is = ap (λ (y : ℤ). not (nonNeg y)) (sym (toZ-ofZ fits)) ∙ sym e
+  flag-is = sym (e ∙ rw (toZ-ofZ fits) (below-zero z))
 
   negative : flag ≡ true → nonNeg z ≡ false
   negative h = not-true (nonNeg z) (flag-is ∙ h)
@@ -40,10 +37,10 @@ module _ (f : Form) where
   judged-no : (i : ℕ) → i < 17 → nonNeg (numberAt f i) ≡ false → Judged f false
   judged-no i less e = record { yes = λ h. never-both h refl; no = λ h. (i, less, e) }
 
-  pub judged-constant : (flag : Bool) → SFits w64 (f .constant) → flag ≡ not (nonNeg (kept (f .constant))) → flag ≡ true → Judged f false
+  pub judged-constant : (flag : Bool) → SFits w64 (f .constant) → flag ≡ ltZ (kept (f .constant)) (pos 0) → flag ≡ true → Judged f false
   judged-constant flag fits e h = judged-no 0 (omega arith) (negative (f .constant) flag fits e h)
 
-  pub judged-coefficient : (i : ℕ) (flag : Bool) → i < 16 → SFits w64 (at f i) → flag ≡ not (nonNeg (kept (at f i))) → flag ≡ true → Judged f false
+  pub judged-coefficient : (i : ℕ) (flag : Bool) → i < 16 → SFits w64 (at f i) → flag ≡ ltZ (kept (at f i)) (pos 0) → flag ≡ true → Judged f false
   judged-coefficient i flag less fits e h = judged-no (suc i) (omega arith) (negative (at f i) flag fits e h)
 
   pub judged-yes : nonNeg (f .constant) ≡ true → ((i : ℕ) → i < 16 → nonNeg (at f i) ≡ true) → Judged f true

@@ -1,11 +1,9 @@
 // `M` lines: multipliers, the weights that they give, and the residual: the rows of the rule's arguments, each times its
 // weight.
 ghost use mathlib.Core.Path.{_≡_};
-ghost use mathlib.Core.Bool.{not};
 ghost use Prim.Native.Nat.{_+_, _≤_, _<_, _^_};
 ghost use lib.IntN.{natAbs};
 ghost use lib.ListN.{length, getD};
-ghost use lib.Signed.{nonNeg};
 ghost use Rattle.tables.specs.Tables.{SafeClaims, SafeRows, NoWeights};
 ghost use Rattle.certificates.specs.Weights.{RoomFor, Weighs, HeadWeighed};
 ghost use Rattle.certificates.specs.Sums.{Summable, FormAt, WithConstant, Partial, SumsTo, Judged};
@@ -132,22 +130,16 @@ pub fn residual(weights: &Weights, rows: &Rows, subgoals: usize) -> Form
     form
 }
 
-fn is_negative(z: i64) -> bool
-    ensures { λ r. ⌜ r ≡ not (nonNeg z) ⌝ }
-{
-    z < 0
-}
-
 fn is_justified(form: Form) -> bool
     ensures { λ r. ⌜ Judged form r ⌝ }
 {
-    if is_negative(form.constant) {
+    if forms::is_negative(form.constant) {
         return false;
     }
     let coefficients = form.coefficients;
     let mut i: usize = 0;
     while i < Form::VARIABLES {
-        if is_negative(coefficients[i]) {
+        if forms::is_negative(coefficients[i]) {
             return false;
         }
         i += 1;

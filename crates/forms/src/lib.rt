@@ -1,6 +1,8 @@
 // Forms, by value.
+ghost use mathlib.Core.Path.{_≡_};
 ghost use Prim.Native.Nat.{_≤_, _^_};
-ghost use lib.IntN.{natAbs};
+ghost use lib.IntN.{pos, natAbs};
+ghost use lib.Signed.{ltZ};
 ghost use Rattle.forms.specs.Sums.{Within, Zero, Sum, Multiple};
 
 /// A form over the variables of one rule: its constant, then a coefficient for each of them.
@@ -55,4 +57,11 @@ impl Form {
             coefficients: products,
         }
     }
+}
+
+/// Whether a number of a form, or of a claim, is below 0.
+pub fn is_negative(z: i64) -> bool
+    ensures { λ r. ⌜ r ≡ ltZ z (pos 0) ⌝ }
+{
+    z < 0
 }
