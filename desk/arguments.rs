@@ -11,7 +11,11 @@ pub enum Request<'a> {
     /// Of one command, or of the program.
     Help(Option<&'static Command>),
     Version,
-    Answer { command: &'static Command, operands: Vec<&'a OsStr>, as_json: bool },
+    Answer {
+        command: &'static Command,
+        operands: Vec<&'a OsStr>,
+        as_json: bool,
+    },
 }
 
 #[derive(Default)]
@@ -46,7 +50,7 @@ fn request<'a>(flags: Flags, operands: &[&'a OsStr]) -> Result<Request<'a>, Misu
         return match (flags.help, flags.version) {
             (true, _) => Ok(Request::Help(None)),
             (_, true) => Ok(Request::Version),
-            _ => Err(Misuse(format!("name a command: {}; packdesk --help says more", command_names()))),
+            _ => Err(Misuse(format!("name a command ({}); packdesk --help says more", command_names("or")))),
         };
     };
     let operands = operands[1..].to_vec();
@@ -68,13 +72,13 @@ fn unknown_flag(argument: &OsStr) -> Misuse {
 fn find_command(name: &OsStr) -> Result<&'static Command, Misuse> {
     COMMANDS.iter().find(|command| name == command.name).ok_or_else(|| {
         let name = quoted(name.as_bytes());
-        Misuse(format!("there is no command {name}: the commands are {}", command_names()))
+        Misuse(format!("there is no command {name}: the commands are {}", command_names("and")))
     })
 }
 
-fn command_names() -> String {
+fn command_names(last: &str) -> String {
     let names: Vec<String> = COMMANDS.iter().map(|command| command.name.to_string()).collect();
-    listed(&names, "and")
+    listed(&names, last)
 }
 
 fn count_operands(command: &Command, operands: &[&OsStr]) -> Result<(), Misuse> {
@@ -105,11 +109,19 @@ pub fn help(command: Option<&Command>) -> String {
                     can't be read or output that can't be written, 3 the desk works out something else than\n\
                     the library answers.\n";
     let Some(command) = command else {
-        let rows = COMMANDS.iter().map(|command| format!("  packdesk {:<8} {:<13} {}\n", command.name, command.operands, command.about));
+        let rows = COMMANDS
+            .iter()
+            .map(|command| format!("  packdesk {:<8} {:<13} {}\n", command.name, command.operands, command.about));
         let rows: String = rows.collect();
         return format!("Says in words what the library answers of a pack, for those who write packs.\n\n{rows}\n{flags}\n{statuses}");
     };
-    format!("packdesk {} {}: {}\n\n{}\n\n{flags}\n{statuses}", command.name, command.operands, capital(command.about), command.help)
+    format!(
+        "packdesk {} {}: {}\n\n{}\n\n{flags}\n{statuses}",
+        command.name,
+        command.operands,
+        capital(command.about),
+        command.help
+    )
 }
 
 #[cfg(test)]

@@ -39,8 +39,16 @@ pub struct ClaimUse {
 }
 
 pub enum Gives {
-    Usable { working: String, numerator: i64, divisor: i64 },
-    Nothing { why: String },
+    /// `left_out` are other arguments of unknown size with a number below 0: at their least, 0, the bound is largest.
+    Usable {
+        working: String,
+        numerator: i64,
+        divisor: i64,
+        left_out: Vec<String>,
+    },
+    Nothing {
+        why: String,
+    },
 }
 
 /// Each claim in turn.
@@ -57,8 +65,8 @@ pub fn work_out(predicate: &Predicate, query: &Query) -> Vec<ClaimUse> {
 
 fn use_of(claim: &Claim, query: &Query) -> Gives {
     let asked = claim.numbers[query.asked];
-    let obstacles: Vec<usize> =
-        unknown_others(query).into_iter().filter(|argument| claim.numbers[*argument] > 0).collect();
+    let (obstacles, others): (Vec<usize>, Vec<usize>) =
+        unknown_others(query).into_iter().partition(|argument| claim.numbers[*argument] > 0);
     if asked >= 0 {
         let name = argument_name(query.asked);
         return Gives::Nothing { why: format!("its number for {name}, the asked size, is {asked} and not below 0") };
@@ -75,7 +83,8 @@ fn use_of(claim: &Claim, query: &Query) -> Gives {
             numerator += number * size;
         }
     }
-    Gives::Usable { working: equation(sum.written(), numerator), numerator, divisor: -asked }
+    let left_out = others.into_iter().filter(|argument| claim.numbers[*argument] < 0).map(argument_name).collect();
+    Gives::Usable { working: equation(sum.written(), numerator), numerator, divisor: -asked, left_out }
 }
 
 /// The arguments of unknown size but for the asked one.

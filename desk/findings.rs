@@ -64,14 +64,17 @@ fn read_passed<'t>(lines: &[&'t [u8]], number: usize) -> Result<Pack<'t>, Disagr
     let Some(passed) = lines.get(..number) else {
         return Disagreement::that(format!("The library speaks of line {number}; there are {}.", lines.len()));
     };
-    Pack::read(passed).or_else(|line| Disagreement::that(format!("The library passes line {line}; the desk cannot read it.")))
+    Pack::read(passed)
+        .or_else(|line| Disagreement::that(format!("The library passes line {line}; the desk cannot read it.")))
 }
 
 /// The counts of lines, rules and `M` lines, and that the `E` line is the last.
 fn compare_counts(pack: &Pack, counted: [usize; 3]) -> Result<(), Disagreement> {
     let own = [pack.lines, pack.rules.len(), pack.multiplier_lines()];
     if own != counted {
-        return Disagreement::that(format!("The library counts lines, rules and M lines as {counted:?}, the desk as {own:?}."));
+        return Disagreement::that(format!(
+            "The library counts lines, rules and M lines as {counted:?}, the desk as {own:?}."
+        ));
     }
     if pack.end_line != Some(pack.lines) || pack.multiplier_lines_due() > 0 {
         return Disagreement::that("The library accepts the pack; the desk finds it without a last line E.");
@@ -94,7 +97,9 @@ fn refused_line<'t>(lines: &[&'t [u8]], number: u8, line: usize) -> Result<Refus
     let seen = read_passed(lines, line - 1)?;
     let fault = lines.get(line - 1).and_then(|text| faults::of_line(number, &seen, text).map(|fault| (*text, fault)));
     let Some((text, fault)) = fault else {
-        return Disagreement::that(format!("The library refuses line {line} with {number}; the desk finds no such fault there."));
+        return Disagreement::that(format!(
+            "The library refuses line {line} with {number}; the desk finds no such fault there."
+        ));
     };
     let quote = Quote { number: Some(line), text, mark: Some(fault.mark) };
     Ok(Refusal { number, quote: Some(quote), wrong: fault.wrong, mend: fault.mend, judgement: None })
@@ -102,7 +107,9 @@ fn refused_line<'t>(lines: &[&'t [u8]], number: u8, line: usize) -> Result<Refus
 
 fn refused_text(source: &Source, number: u8) -> Result<Refusal<'_>, Disagreement> {
     let Some(fault) = faults::of_text(number, &source.text, source.length) else {
-        return Disagreement::that(format!("The library refuses the text with {number}; the desk finds no such fault."));
+        return Disagreement::that(format!(
+            "The library refuses the text with {number}; the desk finds no such fault."
+        ));
     };
     let quote = fault.last_line.map(|last_line| {
         let lines = lines_of(&source.text);

@@ -13,8 +13,12 @@ use cerrundix::Verdict;
 /// The entries that every answer on a pack begins with.
 pub fn verdict_json(command: &str, source: &Source, verdict: &Verdict) -> Json {
     let (answer, numbers) = match *verdict {
-        Verdict::Accepted { lines, rules, multiplier_lines } => ("accepted", [0, i64::from(lines), i64::from(rules), i64::from(multiplier_lines)]),
-        Verdict::Unjustified { line, rule, claim, .. } => ("refused", [13, i64::from(line), i64::from(rule), i64::from(claim)]),
+        Verdict::Accepted { lines, rules, multiplier_lines } => {
+            ("accepted", [0, i64::from(lines), i64::from(rules), i64::from(multiplier_lines)])
+        }
+        Verdict::Unjustified { line, rule, claim, .. } => {
+            ("refused", [13, i64::from(line), i64::from(rule), i64::from(claim)])
+        }
         Verdict::Refused { number, line } => ("refused", [i64::from(number), i64::from(line), 0, 0]),
     };
     Json::object([

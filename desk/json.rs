@@ -53,11 +53,14 @@ impl Json {
             Json::List(values) => {
                 write_all(text, values, ['[', ']'], Some(depth), |text, value| value.write(text, depth + 1));
             }
-            Json::Object(entries) => write_all(text, entries, ['{', '}'], Some(depth), |text, (key, value)| {
-                write_text(text, key);
-                *text += ": ";
-                value.write(text, depth + 1);
-            }),
+            Json::Object(entries) => {
+                let is_short = entries.iter().all(|(_, value)| value.is_short());
+                write_all(text, entries, ['{', '}'], (!is_short).then_some(depth), |text, (key, value)| {
+                    write_text(text, key);
+                    *text += ": ";
+                    value.write(text, depth + 1);
+                });
+            }
         }
     }
 
@@ -68,7 +71,13 @@ impl Json {
 }
 
 /// Values between two brackets, each on a line of its own where a depth is given.
-fn write_all<T>(text: &mut String, values: &[T], ends: [char; 2], depth: Option<usize>, write: impl Fn(&mut String, &T)) {
+fn write_all<T>(
+    text: &mut String,
+    values: &[T],
+    ends: [char; 2],
+    depth: Option<usize>,
+    write: impl Fn(&mut String, &T),
+) {
     let line_end = |text: &mut String, depth: usize| *text += &format!("\n{}", "  ".repeat(depth));
     text.push(ends[0]);
     for (place, value) in values.iter().enumerate() {

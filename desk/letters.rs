@@ -49,6 +49,19 @@ impl Letter {
         }
     }
 
+    /// Whether the second field of its line is a predicate's name.
+    pub fn takes_a_name(self) -> bool {
+        match self {
+            Letter::Predicate | Letter::Claim | Letter::Head | Letter::Subgoal => true,
+            Letter::Multipliers | Letter::End => false,
+        }
+    }
+
+    /// Whether the fields after its name are terms.
+    pub fn takes_terms(self) -> bool {
+        matches!(self, Letter::Head | Letter::Subgoal)
+    }
+
     /// Where lines of this letter stand, as the end of a sentence.
     pub fn place(self) -> &'static str {
         match self {

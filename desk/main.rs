@@ -37,7 +37,8 @@ use report::{Misuse, Status};
 use std::ffi::OsString;
 use std::process::ExitCode;
 
-const VERSION: &str = "packdesk (Cerrundix) 1.0\n";
+/// The build hands over a checksum of the crates that the library is made from (scripts/prepare).
+const SOURCES: Option<&str> = option_env!("CERRUNDIX_SOURCES");
 
 fn main() -> ExitCode {
     let arguments: Vec<OsString> = std::env::args_os().skip(1).collect();
@@ -51,11 +52,18 @@ fn main() -> ExitCode {
     ExitCode::from(status as u8)
 }
 
+fn version() -> String {
+    match SOURCES {
+        Some(checksum) => format!("packdesk (Cerrundix), from crates with the checksum {checksum}\n"),
+        None => "packdesk (Cerrundix)\n".to_string(),
+    }
+}
+
 /// What is to be printed, and the status to end with.
 fn answer(arguments: &[OsString]) -> Result<(String, Status), Misuse> {
     match arguments::read(arguments)? {
         Request::Help(command) => Ok((arguments::help(command), Status::Accepted)),
-        Request::Version => Ok((VERSION.to_string(), Status::Accepted)),
+        Request::Version => Ok((version(), Status::Accepted)),
         Request::Answer { command, operands, as_json } => {
             let report = (command.run)(&operands)?;
             let text = if as_json { report.json.written() } else { report.page.written(output::is_in_colour()) };

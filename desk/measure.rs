@@ -58,7 +58,9 @@ fn explain<'t>(term: &'t [u8], size: &Result<u64, u8>) -> Result<Explanation<'t>
         Ok(size) => explain_size(term, size),
         Err(number) => {
             let Some(fault) = faults::of_term(number, term) else {
-                return Disagreement::that(format!("The library refuses the term with {number}; the desk finds no such fault in it."));
+                return Disagreement::that(format!(
+                    "The library refuses the term with {number}; the desk finds no such fault in it."
+                ));
             };
             let quote = Some(Quote { number: None, text: term, mark: Some(fault.mark) });
             Ok(Explanation::Refused(Refusal { number, quote, wrong: fault.wrong, mend: fault.mend, judgement: None }))
@@ -132,9 +134,9 @@ fn answer_json(term: &[u8], size: &Result<u64, u8>, explanation: &Result<Explana
         ("size", size.ok().map_or(Json::Null, Json::number)),
     ]);
     let json = match explanation {
-        Ok(Explanation::Size { usual, symbols }) => json
-            .with("usual", Json::text(usual))
-            .with("symbols", Json::List(symbols.iter().map(symbol_json).collect())),
+        Ok(Explanation::Size { usual, symbols }) => {
+            json.with("usual", Json::text(usual)).with("symbols", Json::List(symbols.iter().map(symbol_json).collect()))
+        }
         Ok(Explanation::Refused(refusal)) => json.with("refusal", refusal_json(refusal)),
         Err(_) => json,
     };

@@ -15,7 +15,9 @@ pub fn is_in_colour() -> bool {
 pub fn write(text: &str) -> Result<(), Misuse> {
     let mut output = io::stdout().lock();
     match output.write_all(text.as_bytes()).and_then(|()| output.flush()) {
-        Err(error) if error.kind() != ErrorKind::BrokenPipe => Err(Misuse(format!("the output can't be written: {error}"))),
+        Err(error) if error.kind() != ErrorKind::BrokenPipe => {
+            Err(Misuse(format!("the output can't be written: {error}")))
+        }
         _ => Ok(()),
     }
 }

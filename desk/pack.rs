@@ -214,9 +214,9 @@ impl<'t> Pack<'t> {
 
     /// How many multipliers an `M` line of the last rule has: one for each claim on each subgoal.
     pub fn multipliers_due(&self) -> usize {
-        self.rules.last().map_or(0, |rule| {
-            rule.subgoals.iter().map(|subgoal| self.predicate_of(subgoal).claims.len()).sum()
-        })
+        self.rules
+            .last()
+            .map_or(0, |rule| rule.subgoals.iter().map(|subgoal| self.predicate_of(subgoal).claims.len()).sum())
     }
 }
 

@@ -16,7 +16,8 @@ pub struct Window {
 
 /// The part of the bytes around the mark, which may reach one byte past the end.
 pub fn window(bytes: &[u8], mark: &Range<usize>) -> Window {
-    let columns_of = |range: Range<usize>| shown(&bytes[range.start.min(bytes.len())..range.end.min(bytes.len())]).len();
+    let columns_of =
+        |range: Range<usize>| shown(&bytes[range.start.min(bytes.len())..range.end.min(bytes.len())]).len();
     let first = first_byte(bytes, mark.start);
     let mut text = if first > 0 { "...".to_string() } else { String::new() };
     let start = text.len() + columns_of(first..mark.start);
@@ -32,17 +33,25 @@ pub fn window(bytes: &[u8], mark: &Range<usize>) -> Window {
     Window { text, mark: start..end }
 }
 
-/// Where the window begins: at the front if all of the line fits or the mark stands there.
+/// Where the window begins: at the front if all of the line fits, else as many columns before the mark as there may be.
 fn first_byte(bytes: &[u8], mark: usize) -> usize {
-    if shown(bytes).len() <= COLUMNS || mark <= BEFORE_MARK {
+    if shown(bytes).len() <= COLUMNS {
         return 0;
     }
-    mark.min(bytes.len()) - BEFORE_MARK
+    let mut columns = 0;
+    let before = bytes[..mark.min(bytes.len())].iter().rev().take_while(|byte| {
+        columns += shown_byte(**byte).len();
+        columns <= BEFORE_MARK
+    });
+    mark.min(bytes.len()) - before.count()
 }
 
-/// The start of a line or query, for a heading.
+/// The start of a query or a term, for a heading.
 pub fn shortened(bytes: &[u8]) -> String {
-    window(bytes, &(0..1)).text
+    match bytes {
+        [] => "(empty)".to_string(),
+        _ => window(bytes, &(0..1)).text,
+    }
 }
 
 #[cfg(test)]
@@ -71,5 +80,9 @@ mod tests {
         let at_end = window(&line, &(4003..4004));
         assert_eq!(at_end.mark.start, at_end.text.len());
         assert!(window(&line, &(1024..4003)).mark.end <= COLUMNS + 6);
+        let binary = [0; 1000];
+        let at_end = window(&binary, &(1000..1001));
+        assert_eq!(at_end.mark.start, at_end.text.len());
+        assert_eq!(window(&binary, &(500..501)).mark.len(), 4);
     }
 }

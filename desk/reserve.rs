@@ -12,14 +12,18 @@ use crate::pack::{fields_of, Pack};
 use crate::page::{Page, Style};
 use crate::quoting::shortened;
 use crate::report::{disagreement_json, Disagreement, Misuse, Report, Status};
-use crate::words::shown;
+use crate::words::{listed, shown};
 use cerrundix::{Reservation, Verdict};
 use std::ffi::OsStr;
 
 /// The explanation of an answer.
 enum Explanation<'t> {
     /// Each claim on the predicate; `asked` is the asked argument.
-    Claims { predicate: String, asked: usize, uses: Vec<ClaimUse> },
+    Claims {
+        predicate: String,
+        asked: usize,
+        uses: Vec<ClaimUse>,
+    },
     Query(Refusal<'t>),
     /// The pack is refused, and so is every query.
     Pack,
@@ -76,15 +80,21 @@ fn explain<'t>(
     match (finding, library) {
         (Ok(Finding::Accepted(pack)), Reservation::Refused { number }) => refused(pack, query, *number),
         (Ok(Finding::Accepted(pack)), _) => by_claims(pack, query, library),
-        (Ok(Finding::Refused(refusal)), Reservation::Refused { number }) if *number == refusal.number => Ok(Explanation::Pack),
-        (Ok(Finding::Refused(_)), _) => Disagreement::that("The pack is refused, and the query is not refused with its number."),
+        (Ok(Finding::Refused(refusal)), Reservation::Refused { number }) if *number == refusal.number => {
+            Ok(Explanation::Pack)
+        }
+        (Ok(Finding::Refused(_)), _) => {
+            Disagreement::that("The pack is refused, and the query is not refused with its number.")
+        }
         (Err(_), _) => Disagreement::that("The pack's own verdict could not be confirmed."),
     }
 }
 
 fn refused<'t>(pack: &Pack, query: &'t [u8], number: u8) -> Result<Explanation<'t>, Disagreement> {
     let Some(fault) = faults::of_query(number, pack, query) else {
-        return Disagreement::that(format!("The library refuses the query with {number}; the desk finds no such fault in it."));
+        return Disagreement::that(format!(
+            "The library refuses the query with {number}; the desk finds no such fault in it."
+        ));
     };
     let quote = Some(Quote { number: None, text: query, mark: Some(fault.mark) });
     Ok(Explanation::Query(Refusal { number, quote, wrong: fault.wrong, mend: fault.mend, judgement: None }))
@@ -152,23 +162,34 @@ fn claim_sentences(asked: &str, library: &Reservation, uses: &[ClaimUse]) -> Vec
 fn deciding_sentence(asked: &str, used: &ClaimUse) -> String {
     let claim = format!("claim {} ({})", used.claim, used.inequality);
     match &used.gives {
-        Gives::Usable { working, numerator, divisor } if *numerator >= 0 => format!(
-            "By {claim}, {asked} is at most {}: the numerator is {working}, the divisor {divisor}, and {numerator} / {divisor} \
-             rounded down is {}.",
-            numerator / divisor,
-            numerator / divisor
-        ),
-        Gives::Usable { working, .. } => {
-            format!("By {claim} there is no such fact: the numerator is {working}, below 0, and no {asked} makes up for it.")
+        Gives::Usable { working, numerator, divisor, left_out } if *numerator >= 0 => {
+            let bound = numerator / divisor;
+            let division = format!("{numerator} / {divisor} rounded down is {bound}");
+            let unknown = in_brackets(left_out);
+            format!("By {claim}, {asked} is at most {bound}: the numerator is {working}{unknown}, the divisor {divisor}, and {division}.")
+        }
+        Gives::Usable { working, left_out, .. } => {
+            let unknown = in_brackets(left_out);
+            format!(
+                "By {claim} there is no such fact: the numerator is {working}{unknown}, below 0, whatever {asked} is."
+            )
         }
         Gives::Nothing { why } => format!("By {claim}, though {why}."),
+    }
+}
+
+/// Why sizes that are unknown are not in the working.
+fn in_brackets(left_out: &[String]) -> String {
+    match left_out {
+        [] => String::new(),
+        _ => format!(" (with {}, unknown, taken as 0)", listed(left_out, "and")),
     }
 }
 
 fn other_sentence(used: &ClaimUse) -> String {
     let claim = format!("Claim {} ({})", used.claim, used.inequality);
     match &used.gives {
-        Gives::Usable { working, numerator, divisor } if *numerator >= 0 => {
+        Gives::Usable { working, numerator, divisor, .. } if *numerator >= 0 => {
             format!("{claim} gives {}: numerator {working}, divisor {divisor}.", numerator / divisor)
         }
         Gives::Usable { working, .. } => format!("{claim} can't be met either: its numerator is {working}."),

@@ -99,7 +99,9 @@ impl Judgement<'_> {
             *place = *coefficient;
         }
         if self.variables.len() > 16 || worked_out != *area {
-            return Disagreement::that(format!("The library's residual is {area:?}, the desk works out {worked_out:?}."));
+            return Disagreement::that(format!(
+                "The library's residual is {area:?}, the desk works out {worked_out:?}."
+            ));
         }
         if self.below_zero().is_empty() {
             return Disagreement::that("The library refuses the claim, and no number of its residual is below 0.");

@@ -92,7 +92,8 @@ pub fn number(field: &[u8], lowest: i64, highest: i64) -> Result<i64, NumberFaul
     if digits.len() > 1 && digits[0] == b'0' {
         return Err(NumberFault::LeadingZeros);
     }
-    let value = digits.iter().fold(0_i64, |value, digit| value.saturating_mul(10).saturating_add(i64::from(digit - b'0')));
+    let value =
+        digits.iter().fold(0_i64, |value, digit| value.saturating_mul(10).saturating_add(i64::from(digit - b'0')));
     match if is_negative { -value } else { value } {
         value if value < lowest => Err(NumberFault::TooLow),
         value if value > highest => Err(NumberFault::TooHigh),
@@ -111,7 +112,9 @@ mod tests {
     #[test]
     fn names_and_variables_have_at_most_sixteen_bytes() {
         assert!(is_name(b"a") && is_name(b"abcdefghijklmnop") && is_name(b"p1_Z"));
-        assert!(!is_name(b"abcdefghijklmnopq") && !is_name(b"") && !is_name(b"Xs") && !is_name(b"_a") && !is_name(b"a-b"));
+        assert!(
+            !is_name(b"abcdefghijklmnopq") && !is_name(b"") && !is_name(b"Xs") && !is_name(b"_a") && !is_name(b"a-b")
+        );
         assert!(is_variable(b"Xs") && !is_variable(b"xs"));
         assert_eq!(symbol(b"cons/2"), Some((&b"cons"[..], 2)));
         assert!(symbol(b"cons").is_none() && symbol(b"cons/10").is_none() && symbol(b"Cons/2").is_none());

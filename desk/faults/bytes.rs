@@ -16,7 +16,9 @@ pub fn explain(what: &str, bytes: &[u8]) -> Option<Fault> {
 fn too_long(what: &str, bytes: &[u8]) -> Option<Fault> {
     let wrong = format!("The {what} has {}; it may have 1,024 at most.", count(bytes.len(), "byte"));
     let mend = match what {
-        "line" => "Shorten it: give its symbols and variables shorter names, or split the rule with a further predicate.",
+        "line" => {
+            "Shorten it: give its symbols and variables shorter names, or split the rule with a further predicate."
+        }
         _ => "Shorten it.",
     };
     Fault::at(LINE_BYTES..bytes.len(), wrong, mend)
@@ -28,7 +30,8 @@ fn foreign_byte(what: &str, bytes: &[u8], at: usize) -> Option<Fault> {
     let (wrong, mend) = match bytes[at] {
         b'\r' if is_last => (
             format!("The {what} ends with a carriage return (byte 13): the line ends are those of Windows, CRLF."),
-            "Use plain line ends (LF, byte 10 alone): save the file that way, or run sed -i 's/\\r$//' on it.".to_string(),
+            "Use plain line ends (LF, byte 10 alone): save the file that way, or run sed -i 's/\\r$//' on it."
+                .to_string(),
         ),
         b'\t' => (
             format!("There is a tab (byte 9) in the {what}."),
@@ -56,7 +59,7 @@ fn character(bytes: &[u8]) -> Option<char> {
 
 fn not_ascii(what: &str, bytes: &[u8]) -> (String, String) {
     let Some(character) = character(bytes) else {
-        let wrong = format!("There is a byte {} in the {what} that is neither ASCII nor UTF-8.", bytes[0]);
+        let wrong = format!("There is a byte in the {what} that is neither ASCII nor UTF-8 ({}).", shown(&bytes[..1]));
         return (wrong, "Use letters from a to z, digits and underscores.".to_string());
     };
     let code = format!("U+{:04X}, {}", u32::from(character), shown(&bytes[..character.len_utf8()]));

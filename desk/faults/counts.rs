@@ -19,7 +19,9 @@ pub fn of_line(seen: &Pack, line: &[u8]) -> Option<Fault> {
             let mend = "Take out a claim that follows from the others.";
             passed(line, predicate.claims.len(), CLAIMS, &what, mend)
         }
-        Letter::Head => passed(line, seen.rules.len(), RULES, "rules in a pack", SPLIT).or_else(|| of_variables(&[], line)),
+        Letter::Head => {
+            passed(line, seen.rules.len(), RULES, "rules in a pack", SPLIT).or_else(|| of_variables(&[], line))
+        }
         Letter::Subgoal => {
             let mend = "Put some of the subgoals into a rule of a further predicate, and call that one here.";
             passed(line, rule?.subgoals.len(), SUBGOALS, "subgoals in a rule", mend)

@@ -70,9 +70,7 @@ fn explain(line: &[u8], due: usize, expected: &str) -> Option<Fault> {
         _ if has_brackets => {
             Fault::at(mark, wrong, "Write terms without brackets and commas: cons(X,Xs) is cons/2 X Xs in a pack.")
         }
-        _ if found < due => {
-            Fault::at(mark, wrong, format!("Add {}.", fields_to_mend(due - found, "missing")))
-        }
+        _ if found < due => Fault::at(mark, wrong, format!("Add {}.", fields_to_mend(due - found, "missing"))),
         _ => {
             let mend = format!("Take out {}, or look for a comma too many.", fields_to_mend(found - due, "too many"));
             Fault::at(mark.start..line.len().max(mark.start + 1), wrong, mend)

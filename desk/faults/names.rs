@@ -8,7 +8,11 @@ use crate::words::{are, count, listed, quoted, shown, shown_byte};
 
 /// 7: the second field.
 pub fn of_line(line: &[u8]) -> Option<Fault> {
-    let Some(name) = fields_of(line).get(1).copied() else {
+    let fields = fields_of(line);
+    if !Letter::of(fields[0])?.takes_a_name() {
+        return None;
+    }
+    let Some(name) = fields.get(1) else {
         let wrong = "The second field, a predicate's name, is missing.";
         return Fault::at(place_of_field(line, 1), wrong, "Write a comma and the name after the letter.");
     };
@@ -56,12 +60,13 @@ fn why_not_in_a_name(word: &[u8], place: usize) -> Option<&'static str> {
 /// 8: declared already, not declared, or given where a head is to be ruled.
 pub fn of_declaration(seen: &Pack, line: &[u8]) -> Option<Fault> {
     let fields = fields_of(line);
-    let letter = Letter::of(fields[0])?;
+    let letter = Letter::of(fields[0]).filter(|letter| letter.takes_a_name())?;
     let name = *fields.get(1)?;
     let mark = place_of_field(line, 1);
     match (letter, seen.named(name)) {
         (Letter::Predicate, Some(taken)) => {
-            let wrong = format!("{} is declared already, on line {} as {}.", shown(name), taken.line, taken.indicator());
+            let wrong =
+                format!("{} is declared already, on line {} as {}.", shown(name), taken.line, taken.indicator());
             Fault::at(mark, wrong, "Give this predicate another name, or remove one of the two lines.")
         }
         (Letter::Head, Some(given)) if given.is_given => {
@@ -70,7 +75,11 @@ pub fn of_declaration(seen: &Pack, line: &[u8]) -> Option<Fault> {
                 given.indicator(),
                 given.line
             );
-            Fault::at(mark, wrong, "Declare it with kind R if rules derive it, or head the rule with another predicate.")
+            Fault::at(
+                mark,
+                wrong,
+                "Declare it with kind R if rules derive it, or head the rule with another predicate.",
+            )
         }
         (_, None) if letter != Letter::Predicate => not_declared(seen, name, mark.start),
         _ => None,
@@ -80,7 +89,11 @@ pub fn of_declaration(seen: &Pack, line: &[u8]) -> Option<Fault> {
 /// 14: a query's first field.
 pub fn of_query(pack: &Pack, query: &[u8]) -> Option<Fault> {
     if query.is_empty() {
-        return Fault::at(0..1, "The query is empty.", "Write name,i,s1,..,sn: a predicate, the asked argument, sizes.");
+        return Fault::at(
+            0..1,
+            "The query is empty.",
+            "Write name,i,s1,..,sn: a predicate, the asked argument, sizes.",
+        );
     }
     let name = fields_of(query)[0];
     match malformed(name, 0) {

@@ -62,7 +62,7 @@ pub fn of_asked_argument(pack: &Pack, query: &[u8]) -> Option<Fault> {
         let wrong = format!("{} has no arguments, so none can be asked for.", predicate.indicator());
         return Fault::at(place_of_field(query, 1), wrong, "Ask of a predicate that has arguments.");
     }
-    let outside = "Arguments are counted from 1.";
+    let outside = "Write the asked argument's number, counted from 1.";
     let mut fault = explain(query, 1, Range { called, lowest: 1, highest: predicate.arity as i64, outside })?;
     fault.wrong += &format!(" {} has {}.", predicate.indicator(), count(predicate.arity, "argument"));
     Some(fault)
@@ -91,7 +91,10 @@ pub fn of_asked_size(query: &[u8]) -> Option<Fault> {
         return None;
     }
     let name = argument_name(asked);
-    let wrong = format!("{name}, the size of the asked argument, is given as {}; that is what the query asks for.", shown(size));
+    let wrong = format!(
+        "{name}, the size of the asked argument, is given as {}; that is what the query asks for.",
+        shown(size)
+    );
     Fault::at(place_of_field(query, asked + 1), wrong, format!("Write - for {name}, or ask for another argument."))
 }
 
@@ -102,13 +105,17 @@ fn explain(line: &[u8], field: usize, range: Range) -> Option<Fault> {
     let Range { called, lowest, highest, outside } = range;
     let as_written = quoted(written);
     let (wrong, mend) = match fault {
-        NumberFault::Empty => (format!("The {called} is empty."), format!("Write a whole number from {lowest} to {highest}.")),
+        NumberFault::Empty => {
+            (format!("The {called} is empty."), format!("Write a whole number from {lowest} to {highest}."))
+        }
         NumberFault::PlusSign => (format!("The {called}, {as_written}, has a plus sign."), plain(written)),
         NumberFault::LeadingZeros => (format!("The {called}, {as_written}, has leading zeros."), plain(written)),
-        NumberFault::MinusZero => (format!("The {called}, {as_written}, is no number: 0 has no sign."), "Write 0.".to_string()),
+        NumberFault::MinusZero => {
+            (format!("The {called}, {as_written}, is no number: 0 has no sign."), "Write 0.".to_string())
+        }
         NumberFault::NotDecimal => (
             format!("The {called}, {as_written}, is no whole number."),
-            format!("Write digits alone, with - before them if it is below 0: a number from {lowest} to {highest}."),
+            format!("Write a whole number from {lowest} to {highest}, in digits without spaces."),
         ),
         NumberFault::TooLow => (format!("The {called}, {as_written}, is below {lowest}."), outside.to_string()),
         NumberFault::TooHigh => (format!("The {called}, {as_written}, is above {highest}."), outside.to_string()),

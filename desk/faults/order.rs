@@ -65,7 +65,11 @@ fn missing_multipliers(seen: &Pack, rule: &Rule) -> String {
         number => format!("has only {} so far", count(number, "M line")),
     };
     let claims = count(head.claims.len(), "claim");
-    format!("An M line is due here: rule {}, with {claims} on its head {}, {so_far}.", seen.rules.len(), head.indicator())
+    format!(
+        "An M line is due here: rule {}, with {claims} on its head {}, {so_far}.",
+        seen.rules.len(),
+        head.indicator()
+    )
 }
 
 fn surplus_multipliers(seen: &Pack, rule: &Rule) -> String {
@@ -95,7 +99,8 @@ fn no_letter(seen: &Pack, line: &[u8]) -> (String, String) {
         return (wrong.into(), format!("Remove the line; {may_stand}."));
     }
     if Letter::of(&stripped).is_some() {
-        let wrong = format!("The first field is {}, and it must be one capital letter and nothing else.", quoted(first));
+        let wrong =
+            format!("The first field is {}, and it must be one capital letter and nothing else.", quoted(first));
         return (wrong, format!("Write {} without spaces around it; {may_stand}.", quoted(&stripped)));
     }
     if line.windows(2).any(|pair| pair == b":-") || first.contains(&b'(') {

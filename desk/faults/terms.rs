@@ -1,6 +1,7 @@
 //! 11 and 19: a field that is no term, and a term with a variable where a size is asked for.
 
 use super::{place_of_field, Fault};
+use crate::letters::Letter;
 use crate::limits::NAME_BYTES;
 use crate::pack::{add_variables, fields_of};
 use crate::terms::{read_term, TermFaultKind};
@@ -10,6 +11,9 @@ use crate::words::{are, count, listed, quoted, shown};
 /// 11: the first argument of a head or subgoal that is no term.
 pub fn of_line(line: &[u8]) -> Option<Fault> {
     let fields = fields_of(line);
+    if !Letter::of(fields[0])?.takes_terms() {
+        return None;
+    }
     (2..fields.len())
         .find_map(|field| explain(&format!("Argument {}", field - 1), fields[field], place_of_field(line, field).start))
 }
@@ -20,7 +24,9 @@ pub fn explain(called: &str, field: &[u8], start: usize) -> Option<Fault> {
     let at = fault.at.start.min(field.len())..fault.at.end.min(field.len());
     let bytes = &field[at];
     let (wrong, mend) = match fault.kind {
-        TermFaultKind::Empty => (format!("{called} is empty."), "Write a variable or a symbol, for instance X or nil/0.".to_string()),
+        TermFaultKind::Empty => {
+            (format!("{called} is empty."), "Write a variable or a symbol, for instance X or nil/0.".to_string())
+        }
         TermFaultKind::Space => (
             format!("{called} has a space too many."),
             "Put one space between tokens, and none at the front or the end.".to_string(),
@@ -38,8 +44,11 @@ pub fn explain(called: &str, field: &[u8], start: usize) -> Option<Fault> {
 fn unfinished(called: &str, token: &[u8], found: usize) -> (String, String) {
     let due = symbol(token).map_or(0, |(_, arity)| arity);
     let missing = due - found;
-    let wrong =
-        format!("{called} ends too early: {} is followed by {}, and here by {found}.", shown(token), count(due, "term"));
+    let wrong = format!(
+        "{called} ends too early: {} is followed by {}, and here by {found}.",
+        shown(token),
+        count(due, "term")
+    );
     (wrong, format!("Add the {} that {} missing, or change the arity.", count(missing, "term"), are(missing)))
 }
 
@@ -52,7 +61,10 @@ fn of_token(called: &str, token: &[u8]) -> (String, String) {
 fn why_no_token(token: &[u8]) -> (String, String) {
     let has = |bytes: &[u8]| token.iter().any(|byte| bytes.contains(byte));
     let (why, mend) = if has(b"()") {
-        ("a term in the usual notation", "Write it front to back without brackets: cons(X,Xs) is cons/2 X Xs in a pack.")
+        (
+            "a term in the usual notation",
+            "Write it front to back without brackets: cons(X,Xs) is cons/2 X Xs in a pack.",
+        )
     } else if has(b"[]|") {
         ("a list in brackets", "Write a list with symbols: [X] is cons/2 X nil/0.")
     } else if token.starts_with(b"_") {
@@ -94,12 +106,13 @@ pub fn of_variable(term: &[u8]) -> Option<Fault> {
     add_variables(&[read], &mut variables);
     let first = *variables.first()?;
     let names: Vec<String> = variables.iter().map(|variable| shown(variable)).collect();
-    let wrong = match names.len() {
-        1 => format!("{} is a variable, so the term has no size of its own.", names[0]),
-        _ => format!("{} are variables, so the term has no size of its own.", listed(&names, "and")),
+    let (verb, mend) = match names.len() {
+        1 => ("is a variable", "Put a term without variables in its place."),
+        _ => ("are variables", "Put a term without variables in place of each."),
     };
+    let wrong = format!("{} {verb}, so the term has no size of its own.", listed(&names, "and"));
     let start = tokens_of(term).find(|(_, token)| *token == first).map_or(0, |(start, _)| start);
-    Fault::at(start..start + first.len(), wrong, "Put a term without variables in place of each.")
+    Fault::at(start..start + first.len(), wrong, mend)
 }
 
 /// The tokens of a field, each with its place.

@@ -44,7 +44,11 @@ fn too_long(length: Length) -> Option<TextFault> {
     let wrong = match length {
         Length::Exactly(bytes) if bytes <= most => return None,
         Length::Exactly(bytes) => {
-            format!("The pack has {} bytes, {} more than the 32,768 that it may have.", grouped(bytes), grouped(bytes - most))
+            format!(
+                "The pack has {} bytes, {} more than the 32,768 that it may have.",
+                grouped(bytes),
+                grouped(bytes - most)
+            )
         }
         Length::Over(bytes) => format!("The pack has over {} bytes; it may have 32,768 at most.", grouped(bytes)),
     };
@@ -59,7 +63,10 @@ fn unfinished(text: &[u8]) -> Option<TextFault> {
     let (wrong, mend) = if has_old_line_ends {
         ("The pack has carriage returns (byte 13) in place of line ends.", "End each line with byte 10 (LF) alone.")
     } else {
-        ("The last line has no line end (byte 10).", "End it like the others, with a line end after its last character.")
+        (
+            "The last line has no line end (byte 10).",
+            "End it like the others, with a line end after its last character.",
+        )
     };
     Some(TextFault { last_line: Some(LastLine::EndMissing), wrong: wrong.to_string(), mend: mend.to_string() })
 }
