@@ -29,6 +29,7 @@ pub struct Judgement<'t> {
     pub variables: Vec<&'t [u8]>,
     pub head_sizes: Vec<Form>,
     pub head_form: Form,
+    pub subgoals: usize,
     pub subgoal_claims: Vec<SubgoalClaim>,
     pub residual: Form,
 }
@@ -56,6 +57,7 @@ pub fn work_out<'t>(pack: &Pack<'t>) -> Option<Judgement<'t>> {
         variables,
         head_sizes,
         head_form,
+        subgoals: rule.subgoals.len(),
         subgoal_claims,
         residual,
     })
@@ -120,8 +122,9 @@ impl Judgement<'_> {
     /// What is wrong, in a sentence.
     pub fn wrong(&self) -> String {
         let below: Vec<String> = self.below_zero().iter().map(|(what, number)| format!("{what} ({number})")).collect();
+        let how = if self.subgoal_claims.is_empty() { "Rule" } else { "With these multipliers rule" };
         format!(
-            "With these multipliers rule {} does not justify claim {} on {}: its residual is below 0 at {}.",
+            "{how} {} does not justify claim {} on {}: its residual is below 0 at {}.",
             self.rule,
             self.claim,
             self.predicate,
@@ -131,41 +134,57 @@ impl Judgement<'_> {
 
     /// What to mend: which multipliers would raise what is below 0, if any, and what else may do.
     pub fn mend(&self) -> String {
-        let hints: Vec<String> = self.places_below_zero().iter().map(|place| self.hint(*place)).collect();
-        format!(
-            "{} Else another claim on a subgoal, a weaker claim on {}, or another base case may mend it.",
-            hints.join(" "),
-            self.predicate
-        )
+        let weaker = format!("a weaker claim on {} or another base case", self.predicate);
+        let else_mends = format!("another claim on a subgoal, {weaker}");
+        if self.subgoals == 0 {
+            return format!("The rule has no subgoals to draw on: {weaker} may mend it.");
+        }
+        if self.subgoal_claims.is_empty() {
+            return format!("The subgoals have no claims to draw on: claims on them, {weaker} may mend it.");
+        }
+        let places: Vec<usize> =
+            (0..=self.variables.len()).filter(|place| number_at(&self.residual, *place) < 0).collect();
+        let out_of_reach: Vec<String> = places
+            .iter()
+            .filter(|place| self.hint(**place).is_none())
+            .map(|place| self.number_called(*place))
+            .collect();
+        if !out_of_reach.is_empty() {
+            let numbers = listed(&out_of_reach, "and");
+            return format!("No multiplier on this line can raise {numbers}: {else_mends} may mend it.");
+        }
+        let hints: Vec<String> = places.iter().filter_map(|place| self.hint(*place)).collect();
+        format!("{} If other multipliers do not do, {else_mends} may.", hints.join(" "))
     }
 
-    /// The places in the area that are below 0.
-    fn places_below_zero(&self) -> Vec<usize> {
-        (0..=self.variables.len()).filter(|place| number_at(&self.residual, *place) < 0).collect()
-    }
-
-    /// How the number at a place of the residual can be raised by other multipliers.
-    fn hint(&self, place: usize) -> String {
-        let what = match place {
+    fn number_called(&self, place: usize) -> String {
+        match place {
             0 => "the constant".to_string(),
             _ => format!("the number of {}", shown(self.variables[place - 1])),
-        };
+        }
+    }
+
+    /// How the number at a place of the residual can be raised by other multipliers, if it can.
+    fn hint(&self, place: usize) -> Option<String> {
         let which = |wanted: fn(i64, i64) -> bool| -> Vec<String> {
             let helps = self.subgoal_claims.iter().filter(|used| wanted(number_at(&used.form, place), used.multiplier));
             helps.map(|used| format!("claim {} on subgoal {}", used.claim, used.subgoal)).collect()
         };
         let raise = which(|number, multiplier| number < 0 && multiplier < HIGHEST_NUMBER);
         let lower = which(|number, multiplier| number > 0 && multiplier > 0);
-        match (raise.is_empty(), lower.is_empty()) {
-            (true, true) => format!("No other multiplier raises {what}."),
-            (false, true) => format!("A higher multiplier of {} raises {what}.", listed(&raise, "or")),
-            (true, false) => format!("A lower multiplier of {} raises {what}.", listed(&lower, "or")),
-            (false, false) => format!(
-                "A higher multiplier of {}, or a lower one of {}, raises {what}.",
-                listed(&raise, "or"),
-                listed(&lower, "or")
-            ),
-        }
+        let change = match (raise.is_empty(), lower.is_empty()) {
+            (true, true) => return None,
+            (false, true) => format!("A higher multiplier of {} raises", listed(&raise, "or")),
+            (true, false) => format!("A lower multiplier of {} raises", listed(&lower, "or")),
+            (false, false) => {
+                format!(
+                    "A higher multiplier of {}, or a lower one of {}, raises",
+                    listed(&raise, "or"),
+                    listed(&lower, "or")
+                )
+            }
+        };
+        Some(format!("{change} {}.", self.number_called(place)))
     }
 }
 

@@ -30,8 +30,11 @@ fn foreign_byte(what: &str, bytes: &[u8], at: usize) -> Option<Fault> {
     let (wrong, mend) = match bytes[at] {
         b'\r' if is_last => (
             format!("The {what} ends with a carriage return (byte 13): the line ends are those of Windows, CRLF."),
-            "Use plain line ends (LF, byte 10 alone): save the file that way, or run sed -i 's/\\r$//' on it."
-                .to_string(),
+            "Save it with plain line ends (LF, byte 10 alone), for instance with dos2unix.".to_string(),
+        ),
+        b'\r' => (
+            format!("There is a carriage return (byte 13) in the {what}."),
+            "End each line with byte 10 (LF) alone.".to_string(),
         ),
         b'\t' => (
             format!("There is a tab (byte 9) in the {what}."),

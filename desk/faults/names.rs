@@ -123,9 +123,9 @@ fn not_declared(seen: &Pack, name: &[u8], start: usize) -> Option<Fault> {
     Fault::at(start..start + name.len(), wrong, mend)
 }
 
-/// The declared predicates whose names are like this one: two letters apart at most, or alike but for capitals.
+/// The declared predicates whose names are like this one: alike but for capitals, or a letter in three apart, two at most.
 fn near_names<'p, 't>(name: &[u8], predicates: &'p [Predicate<'t>]) -> Vec<&'p Predicate<'t>> {
-    let reach = (name.len() / 3).clamp(1, 2);
+    let reach = (name.len() / 3).min(2);
     let mut near: Vec<(usize, &Predicate)> = predicates
         .iter()
         .map(|predicate| (distance(&name.to_ascii_lowercase(), &predicate.name.to_ascii_lowercase()), predicate))

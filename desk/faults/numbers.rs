@@ -6,15 +6,15 @@ use crate::letters::Letter;
 use crate::limits::{HIGHEST_ARITY, HIGHEST_NUMBER, HIGHEST_SIZE};
 use crate::pack::{fields_of, Pack};
 use crate::tokens::{number, NumberFault};
-use crate::words::{count, quoted, shown};
+use crate::words::{capital, count, quoted, shown};
 
 /// What a field's number is called, and from where to where it goes.
 struct Range {
     called: String,
     lowest: i64,
     highest: i64,
-    /// What to mend where the number is out of the range.
-    outside: &'static str,
+    /// What to mend where the number is below the lowest, and where it is above the highest.
+    outside: [&'static str; 2],
 }
 
 /// 10: the first field that is malformed or out of range.
@@ -29,18 +29,22 @@ pub fn of_line(line: &[u8]) -> Option<Fault> {
 }
 
 fn arity() -> Range {
-    let outside = "A predicate has at most 8 arguments: put several of them into one term.";
-    Range { called: "arity".to_string(), lowest: 0, highest: HIGHEST_ARITY, outside }
+    let outside =
+        ["Write a digit from 0 to 8.", "A predicate has at most 8 arguments: put several of them into one term."];
+    Range { called: "the arity".to_string(), lowest: 0, highest: HIGHEST_ARITY, outside }
 }
 
 fn claim_number(place: usize) -> Range {
-    let called = format!("number c{place}");
+    let called = format!("the number c{place}");
     let outside = "Divide all numbers of the claim by a common divisor, or claim something weaker with smaller ones.";
-    Range { called, lowest: -HIGHEST_NUMBER, highest: HIGHEST_NUMBER, outside }
+    Range { called, lowest: -HIGHEST_NUMBER, highest: HIGHEST_NUMBER, outside: [outside; 2] }
 }
 
 fn multiplier(place: usize) -> Range {
-    let outside = "A multiplier is from 0 to 9999: a claim can't be turned round. If the opposite holds, claim it too.";
+    let outside = [
+        "A claim can't be turned round by a multiplier; if the opposite holds, make it a further claim and use that.",
+        "Make a multiple of the subgoal's claim a further claim, and use a smaller multiplier of that.",
+    ];
     Range { called: format!("multiplier {place}"), lowest: 0, highest: HIGHEST_NUMBER, outside }
 }
 
@@ -49,7 +53,10 @@ fn of_kind(line: &[u8]) -> Option<Fault> {
     if kind == b"G" || kind == b"R" {
         return None;
     }
-    let wrong = format!("{} is no kind of predicate.", quoted(kind));
+    let wrong = match kind {
+        b"" => "The kind is empty.".to_string(),
+        _ => format!("{} is no kind of predicate.", quoted(kind)),
+    };
     let mend = "Write G where the facts are given, from outside, or R where rules derive them.";
     Fault::at(place_of_field(line, 3), wrong, mend)
 }
@@ -57,12 +64,12 @@ fn of_kind(line: &[u8]) -> Option<Fault> {
 /// 16: the asked argument.
 pub fn of_asked_argument(pack: &Pack, query: &[u8]) -> Option<Fault> {
     let predicate = pack.named(fields_of(query)[0])?;
-    let called = "asked argument".to_string();
+    let called = "the asked argument".to_string();
     if predicate.arity == 0 {
         let wrong = format!("{} has no arguments, so none can be asked for.", predicate.indicator());
         return Fault::at(place_of_field(query, 1), wrong, "Ask of a predicate that has arguments.");
     }
-    let outside = "Write the asked argument's number, counted from 1.";
+    let outside = ["Write the asked argument's number, counted from 1."; 2];
     let mut fault = explain(query, 1, Range { called, lowest: 1, highest: predicate.arity as i64, outside })?;
     fault.wrong += &format!(" {} has {}.", predicate.indicator(), count(predicate.arity, "argument"));
     Some(fault)
@@ -72,8 +79,11 @@ pub fn of_asked_argument(pack: &Pack, query: &[u8]) -> Option<Fault> {
 pub fn of_size(query: &[u8]) -> Option<Fault> {
     let fields = fields_of(query);
     (2..fields.len()).filter(|field| fields[*field] != b"-").find_map(|field| {
-        let called = format!("size {}", argument_name(field - 1));
-        let outside = "Sizes in a query are from 0 to 65535; write - where one is unknown.";
+        let called = format!("the size {}", argument_name(field - 1));
+        let outside = [
+            "A size is never below 0; write - where it is unknown.",
+            "Sizes in a query go up to 65535; write - where one is unknown.",
+        ];
         let mut fault = explain(query, field, Range { called, lowest: 0, highest: HIGHEST_SIZE, outside })?;
         if !fault.mend.contains("unknown") {
             fault.mend += " Where a size is unknown, write - alone.";
@@ -102,23 +112,24 @@ pub fn of_asked_size(query: &[u8]) -> Option<Fault> {
 fn explain(line: &[u8], field: usize, range: Range) -> Option<Fault> {
     let written = *fields_of(line).get(field)?;
     let fault = number(written, range.lowest, range.highest).err()?;
-    let Range { called, lowest, highest, outside } = range;
+    let Range { lowest, highest, outside: [below, above], .. } = range;
+    let called = capital(&range.called);
     let as_written = quoted(written);
     let (wrong, mend) = match fault {
         NumberFault::Empty => {
-            (format!("The {called} is empty."), format!("Write a whole number from {lowest} to {highest}."))
+            (format!("{called} is empty."), format!("Write a whole number from {lowest} to {highest}."))
         }
-        NumberFault::PlusSign => (format!("The {called}, {as_written}, has a plus sign."), plain(written)),
-        NumberFault::LeadingZeros => (format!("The {called}, {as_written}, has leading zeros."), plain(written)),
+        NumberFault::PlusSign => (format!("{called}, {as_written}, has a plus sign."), plain(written)),
+        NumberFault::LeadingZeros => (format!("{called}, {as_written}, has leading zeros."), plain(written)),
         NumberFault::MinusZero => {
-            (format!("The {called}, {as_written}, is no number: 0 has no sign."), "Write 0.".to_string())
+            (format!("{called}, {as_written}, is no number: 0 has no sign."), "Write 0.".to_string())
         }
         NumberFault::NotDecimal => (
-            format!("The {called}, {as_written}, is no whole number."),
+            format!("{called}, {as_written}, is no whole number."),
             format!("Write a whole number from {lowest} to {highest}, in digits without spaces."),
         ),
-        NumberFault::TooLow => (format!("The {called}, {as_written}, is below {lowest}."), outside.to_string()),
-        NumberFault::TooHigh => (format!("The {called}, {as_written}, is above {highest}."), outside.to_string()),
+        NumberFault::TooLow => (format!("{called}, {as_written}, is below {lowest}."), below.to_string()),
+        NumberFault::TooHigh => (format!("{called}, {as_written}, is above {highest}."), above.to_string()),
     };
     Fault::at(place_of_field(line, field), wrong, mend)
 }

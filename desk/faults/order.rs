@@ -3,7 +3,7 @@
 use super::Fault;
 use crate::letters::Letter;
 use crate::pack::{fields_of, Pack, Rule};
-use crate::words::{are, count, listed, quoted};
+use crate::words::{are, count, listed, quoted, shown};
 
 pub fn explain(seen: &Pack, line: &[u8]) -> Option<Fault> {
     let first = fields_of(line)[0];
@@ -101,7 +101,7 @@ fn no_letter(seen: &Pack, line: &[u8]) -> (String, String) {
     if Letter::of(&stripped).is_some() {
         let wrong =
             format!("The first field is {}, and it must be one capital letter and nothing else.", quoted(first));
-        return (wrong, format!("Write {} without spaces around it; {may_stand}.", quoted(&stripped)));
+        return (wrong, format!("Write {} alone; {may_stand}.", shown(&stripped)));
     }
     if line.windows(2).any(|pair| pair == b":-") || first.contains(&b'(') {
         let wrong = "This looks like a clause in the usual notation, and a pack has lines of fields.";

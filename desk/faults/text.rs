@@ -80,7 +80,8 @@ fn no_end(text: &[u8]) -> Option<TextFault> {
     let due = pack.multiplier_lines_due();
     if due > 0 {
         wrong += &format!(" Rule {}, the last one, lacks {} too.", pack.rules.len(), count(due, "M line"));
-        mend = format!("Add the {} due, and then a last line that is just E.", count(due, "M line"));
+        let lines = if due == 1 { "the M line".to_string() } else { format!("the {due} M lines") };
+        mend = format!("Add {lines}, and then a last line that is just E.");
     }
     Some(TextFault { last_line: Some(LastLine::LineMissing), wrong, mend })
 }

@@ -142,7 +142,9 @@ fn explain_check(text: &[u8]) -> u8 {
     explained(&check::report(&source, &verdict), text);
     if let Ok(Finding::Refused(refusal)) = examine(&source, &verdict) {
         assert!(refusal.wrong.ends_with(['.', '?']) && refusal.mend.ends_with('.'), "{}", refusal.wrong);
-        if let Some((quote, mark)) = refusal.quote.as_ref().and_then(|quote| quote.mark.clone().map(|mark| (quote, mark))) {
+        if let Some((quote, mark)) =
+            refusal.quote.as_ref().and_then(|quote| quote.mark.clone().map(|mark| (quote, mark)))
+        {
             assert!(mark.start < mark.end && mark.end <= quote.text.len() + 1, "{mark:?}");
         }
     }
