@@ -235,3 +235,43 @@ fn use_json(used: &ClaimUse) -> Json {
         Gives::Nothing { why } => json.with("usable", Json::Truth(false)).with("why", Json::text(why)),
     }
 }
+
+#[cfg(test)]
+mod tests {
+    use super::*;
+    use crate::pack::tests::JOIN;
+
+    const ACCEPTED: Verdict = Verdict::Accepted { lines: 11, rules: 2, multiplier_lines: 4 };
+
+    fn status_of(query: &[u8], reservation: Reservation) -> Status {
+        report(&Source::of(JOIN), &ACCEPTED, &[query.to_vec()], vec![reservation]).status
+    }
+
+    #[test]
+    fn a_right_answer_is_confirmed() {
+        assert_eq!(status_of(b"join,3,20,6,-", Reservation::Bound { size: 26, claim: 1 }), Status::Accepted);
+        assert_eq!(status_of(b"join,1,-,20,6", Reservation::Impossible { claim: 2 }), Status::Accepted);
+        assert_eq!(status_of(b"join,3,20,-,-", Reservation::NoBound), Status::Accepted);
+        assert_eq!(status_of(b"join,3,20,6,5", Reservation::Refused { number: 18 }), Status::Refused);
+    }
+
+    #[test]
+    fn a_wrong_answer_is_a_disagreement() {
+        assert_eq!(status_of(b"join,3,20,6,-", Reservation::Bound { size: 27, claim: 1 }), Status::Disagreement);
+        assert_eq!(status_of(b"join,3,20,6,5", Reservation::NoBound), Status::Disagreement);
+        for number in 0..=40 {
+            let refused = Reservation::Refused { number };
+            assert_eq!(status_of(b"join,3,20,6,-", refused), Status::Disagreement, "number {number}");
+        }
+    }
+
+    #[test]
+    fn a_query_to_a_refused_pack_is_refused_with_its_number() {
+        let source = Source::of(b"");
+        let refused = Verdict::Refused { number: 3, line: 0 };
+        let status_of = |reservation| report(&source, &refused, &[b"k,1,-".to_vec()], vec![reservation]).status;
+        assert_eq!(status_of(Reservation::Refused { number: 3 }), Status::Refused);
+        assert_eq!(status_of(Reservation::Refused { number: 14 }), Status::Disagreement);
+        assert_eq!(status_of(Reservation::NoBound), Status::Disagreement);
+    }
+}
