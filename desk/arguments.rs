@@ -113,7 +113,8 @@ pub fn help(command: Option<&Command>) -> String {
             .iter()
             .map(|command| format!("  packdesk {:<8} {:<13} {}\n", command.name, command.operands, command.about));
         let rows: String = rows.collect();
-        return format!("Says in words what the library answers of a pack, for those who write packs.\n\n{rows}\n{flags}\n{statuses}");
+        let about = "Says in words what the library answers of a pack, for those who write packs.";
+        return format!("{about}\n\n{rows}\n{flags}\n{statuses}");
     };
     format!(
         "packdesk {} {}: {}\n\n{}\n\n{flags}\n{statuses}",

@@ -1,5 +1,5 @@
-//! How a bound comes about. The desk works out for each claim on the predicate whether it is usable, its numerator and its
-//! divisor, and compares what follows with the library's answer.
+//! How a bound comes about. The desk works out for each claim on the predicate whether it is usable, its numerator and
+//! its divisor, and compares what follows with the library's answer.
 
 use crate::claims::{argument_name, inequality};
 use crate::forms::Sum;

@@ -1,7 +1,7 @@
-//! What a text says under its verdict: the pack as it is read, or the fault that the refusal names. What the desk finds is
-//! compared with the verdict; where it finds something else, that is a disagreement.
+//! What a text says under its verdict: the pack as it is read, or the fault that the refusal names. What the desk finds
+//! is compared with the verdict; where it finds something else, that is a disagreement.
 
-use crate::faults::{self, LastLine};
+use crate::faults::{self, Fault, LastLine};
 use crate::input::Source;
 use crate::pack::{lines_of, Pack};
 use crate::report::{Disagreement, Status};
@@ -28,6 +28,14 @@ pub struct Quote<'t> {
     pub number: Option<usize>,
     pub text: &'t [u8],
     pub mark: Option<Range<usize>>,
+}
+
+impl<'t> Refusal<'t> {
+    /// A line with its number, or a query or a term, which have none, refused for this fault.
+    pub fn of(number: u8, line: Option<usize>, text: &'t [u8], fault: Fault) -> Refusal<'t> {
+        let quote = Quote { number: line, text, mark: Some(fault.mark) };
+        Refusal { number, quote: Some(quote), wrong: fault.wrong, mend: fault.mend, judgement: None }
+    }
 }
 
 pub fn status(verdict: &Verdict, finding: &Result<Finding, Disagreement>) -> Status {
@@ -101,8 +109,7 @@ fn refused_line<'t>(lines: &[&'t [u8]], number: u8, line: usize) -> Result<Refus
             "The library refuses line {line} with {number}; the desk finds no such fault there."
         ));
     };
-    let quote = Quote { number: Some(line), text, mark: Some(fault.mark) };
-    Ok(Refusal { number, quote: Some(quote), wrong: fault.wrong, mend: fault.mend, judgement: None })
+    Ok(Refusal::of(number, Some(line), text, fault))
 }
 
 fn refused_text(source: &Source, number: u8) -> Result<Refusal<'_>, Disagreement> {

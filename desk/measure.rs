@@ -1,7 +1,7 @@
-//! `packdesk measure TERM..`: the library's size of each term, the term in the usual notation, and the sum of its arities.
+//! `packdesk measure TERM..`: the library's size of each term, the term in the usual notation, and its sum of arities.
 
 use crate::faults;
-use crate::findings::{Quote, Refusal};
+use crate::findings::Refusal;
 use crate::findings_json::refusal_json;
 use crate::findings_page::show_refusal;
 use crate::input::read_lines;
@@ -62,8 +62,7 @@ fn explain<'t>(term: &'t [u8], size: &Result<u64, u8>) -> Result<Explanation<'t>
                     "The library refuses the term with {number}; the desk finds no such fault in it."
                 ));
             };
-            let quote = Some(Quote { number: None, text: term, mark: Some(fault.mark) });
-            Ok(Explanation::Refused(Refusal { number, quote, wrong: fault.wrong, mend: fault.mend, judgement: None }))
+            Ok(Explanation::Refused(Refusal::of(number, None, term, fault)))
         }
     }
 }

@@ -36,8 +36,8 @@ impl Disagreement {
         page.sentence(indent, &self.0);
         page.sentence(
             indent,
-            "The answer is the library's, which is proved; the explanation is this program's. One of the two has a fault: \
-             please report it, with the pack and the arguments.",
+            "The answer is the library's, which is proved; the explanation is this program's. One of the two has a \
+             fault: please report it, with the pack and the arguments.",
         );
     }
 }

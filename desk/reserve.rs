@@ -3,7 +3,7 @@
 use crate::bounds::{self, ClaimUse, Gives};
 use crate::claims::argument_name;
 use crate::faults;
-use crate::findings::{examine, status, Finding, Quote, Refusal};
+use crate::findings::{examine, status, Finding, Refusal};
 use crate::findings_json::{refusal_json, verdict_json};
 use crate::findings_page::{show_refusal, show_verdict};
 use crate::input::{read_lines, read_pack, Source};
@@ -96,8 +96,7 @@ fn refused<'t>(pack: &Pack, query: &'t [u8], number: u8) -> Result<Explanation<'
             "The library refuses the query with {number}; the desk finds no such fault in it."
         ));
     };
-    let quote = Some(Quote { number: None, text: query, mark: Some(fault.mark) });
-    Ok(Explanation::Query(Refusal { number, quote, wrong: fault.wrong, mend: fault.mend, judgement: None }))
+    Ok(Explanation::Query(Refusal::of(number, None, query, fault)))
 }
 
 fn by_claims<'t>(pack: &Pack, query: &'t [u8], library: &Reservation) -> Result<Explanation<'t>, Disagreement> {
@@ -164,9 +163,9 @@ fn deciding_sentence(asked: &str, used: &ClaimUse) -> String {
     match &used.gives {
         Gives::Usable { working, numerator, divisor, left_out } if *numerator >= 0 => {
             let bound = numerator / divisor;
+            let numerator_is = format!("the numerator is {working}{}", in_brackets(left_out));
             let division = format!("{numerator} / {divisor} rounded down is {bound}");
-            let unknown = in_brackets(left_out);
-            format!("By {claim}, {asked} is at most {bound}: the numerator is {working}{unknown}, the divisor {divisor}, and {division}.")
+            format!("By {claim}, {asked} is at most {bound}: {numerator_is}, the divisor {divisor}, and {division}.")
         }
         Gives::Usable { working, left_out, .. } => {
             let unknown = in_brackets(left_out);

@@ -13,38 +13,19 @@ pub type Residual = [i64; 17];
 
 #[derive(Debug, PartialEq)]
 pub enum Verdict {
-    Accepted {
-        lines: u16,
-        rules: u8,
-        multiplier_lines: u16,
-    },
-    Unjustified {
-        line: u16,
-        rule: u8,
-        claim: u8,
-        residual: Residual,
-    },
+    Accepted { lines: u16, rules: u8, multiplier_lines: u16 },
+    Unjustified { line: u16, rule: u8, claim: u8, residual: Residual },
     /// Any other refusal: its number, and its line or 0.
-    Refused {
-        number: u8,
-        line: u16,
-    },
+    Refused { number: u8, line: u16 },
 }
 
 #[derive(Debug, PartialEq)]
 pub enum Reservation {
-    Bound {
-        size: u64,
-        claim: u8,
-    },
+    Bound { size: u64, claim: u8 },
     NoBound,
-    Impossible {
-        claim: u8,
-    },
+    Impossible { claim: u8 },
     /// The pack's number (2 to 13) or the query's (4, 14 to 18).
-    Refused {
-        number: u8,
-    },
+    Refused { number: u8 },
 }
 
 /// Checks a pack.

@@ -123,7 +123,7 @@ fn not_declared(seen: &Pack, name: &[u8], start: usize) -> Option<Fault> {
     Fault::at(start..start + name.len(), wrong, mend)
 }
 
-/// The declared predicates whose names are like this one: alike but for capitals, or a letter in three apart, two at most.
+/// The declared predicates with names like this one: alike but for capitals, or a letter in three apart, two at most.
 fn near_names<'p, 't>(name: &[u8], predicates: &'p [Predicate<'t>]) -> Vec<&'p Predicate<'t>> {
     let reach = (name.len() / 3).min(2);
     let mut near: Vec<(usize, &Predicate)> = predicates

@@ -1,5 +1,5 @@
-//! A wrapper that gives wrong answers: each is the library's own, with one number changed. `tests/desk/run` builds packdesk
-//! over it, to see that the whole program notices and ends with status 3.
+//! A wrapper that gives wrong answers: each is the library's own, with one number changed. `tests/desk/run` builds
+//! packdesk over it, to see that the whole program notices and ends with status 3.
 
 #[path = "../../wrapper/cerrundix.rs"]
 mod truth;
