@@ -34,6 +34,16 @@ impl Letter {
         Letter::ALL.into_iter().find(|letter| letter.written().as_bytes() == field)
     }
 
+    /// A line of it, at the start of a sentence.
+    pub fn line_called(self) -> String {
+        let article = match self {
+            Letter::Predicate | Letter::Claim | Letter::Subgoal => "A",
+            Letter::Head | Letter::Multipliers => "An",
+            Letter::End => "The",
+        };
+        format!("{article} {} line", self.written())
+    }
+
     /// Whether a line of this letter may come after these lines.
     pub fn may_stand(self, pack: &Pack) -> bool {
         if pack.end_line.is_some() {
@@ -55,6 +65,11 @@ impl Letter {
             Letter::Predicate | Letter::Claim | Letter::Head | Letter::Subgoal => true,
             Letter::Multipliers | Letter::End => false,
         }
+    }
+
+    /// Whether that name is of a predicate that a line before it declares.
+    pub fn takes_a_declared_name(self) -> bool {
+        self.takes_a_name() && self != Letter::Predicate
     }
 
     /// Whether the fields after its name are terms.

@@ -9,9 +9,9 @@ use crate::words::{count, listed};
 pub fn of_line(seen: &Pack, line: &[u8]) -> Option<Fault> {
     let fields = fields_of(line);
     let letter = Letter::of(fields[0])?;
-    let named = match letter {
-        Letter::Claim | Letter::Head | Letter::Subgoal => Some(seen.named(fields.get(1)?)?),
-        Letter::Predicate | Letter::Multipliers | Letter::End => None,
+    let named = match letter.takes_a_declared_name() {
+        true => Some(seen.named(fields.get(1)?)?),
+        false => None,
     };
     let due = letter.fields_due(seen, named);
     let form = letter.form(seen, named);
@@ -21,15 +21,7 @@ pub fn of_line(seen: &Pack, line: &[u8]) -> Option<Fault> {
         _ => String::new(),
     };
     let due_here = format!("{} here ({form}){why}", count(due, "field"));
-    explain(line, due, &format!("{} {} line has {due_here}", article(letter), letter.written()))
-}
-
-fn article(letter: Letter) -> &'static str {
-    match letter {
-        Letter::Head | Letter::Multipliers => "An",
-        Letter::End => "The",
-        _ => "A",
-    }
+    explain(line, due, &format!("{} has {due_here}", letter.line_called()))
 }
 
 /// Why an `M` line of the last rule has as many multipliers as it has.

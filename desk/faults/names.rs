@@ -81,7 +81,7 @@ pub fn of_declaration(seen: &Pack, line: &[u8]) -> Option<Fault> {
                 "Declare it with kind R if rules derive it, or head the rule with another predicate.",
             )
         }
-        (_, None) if letter != Letter::Predicate => not_declared(seen, name, mark.start),
+        (_, None) if letter.takes_a_declared_name() => not_declared(seen, name, mark.start),
         _ => None,
     }
 }
