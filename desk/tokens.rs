@@ -51,16 +51,12 @@ pub fn name_fault(word: &[u8]) -> Option<NameFault> {
             return Some(NameFault::Byte(place + 1));
         }
     }
-    if first.is_ascii_uppercase() {
-        return Some(NameFault::Capital);
+    match first {
+        _ if !first.is_ascii_alphabetic() => Some(NameFault::FirstByte),
+        _ if word.len() > NAME_BYTES => Some(NameFault::Long),
+        _ if first.is_ascii_uppercase() => Some(NameFault::Capital),
+        _ => None,
     }
-    if !first.is_ascii_lowercase() {
-        return Some(NameFault::FirstByte);
-    }
-    if word.len() > NAME_BYTES {
-        return Some(NameFault::Long);
-    }
-    None
 }
 
 /// What is wrong with a number.
@@ -129,6 +125,7 @@ mod tests {
         }
         assert_eq!(name_fault(b"a b"), Some(NameFault::Byte(1)));
         assert_eq!(name_fault(b"Trail"), Some(NameFault::Capital));
+        assert_eq!(name_fault(b"Abcdefghijklmnopq"), Some(NameFault::Long));
     }
 
     #[test]
