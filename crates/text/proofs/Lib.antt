@@ -16,7 +16,7 @@ pub mod ZeroRuns
 pub mod Marks
 pub mod Counts
 pub mod Fitness
-pub mod Packing
+pub mod ByteSums
 pub mod WordReading
 pub mod WordsBetween
 pub mod Places
