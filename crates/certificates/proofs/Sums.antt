@@ -24,8 +24,8 @@ abbrev pub weightOf : List ℤ → ℕ → ℕ → ℤ
 weightOf weights atom k = elements weights (atom * 9 + 1 + k)
 
 -- what the row adds to the number at place i
-abbrev part : List ℤ → List ℕ → ℕ → ℕ → ℕ → ℤ
-part weights rows atom k i = weightOf weights atom k *ℤ cell rows (rowPlace atom k + i)
+abbrev rowShare : List ℤ → List ℕ → ℕ → ℕ → ℕ → ℤ
+rowShare weights rows atom k i = weightOf weights atom k *ℤ cell rows (rowPlace atom k + i)
 
 -- the sum of the first atoms, the next one's weight for the constant and its first k rows
 pub record RowsAdded (weights : List ℤ) (rows : List ℕ) (atom : ℕ) (f : Form) (k : ℕ) : Type 0 where
@@ -66,16 +66,16 @@ module _ {weights : List ℤ} {rows : List ℕ} {atom : ℕ} (safe : Summable we
     cell-small : (i : ℕ) → natAbs (cell rows (rowPlace atom k + i)) ≤ 2 ^ 16
     cell-small i = omega (arith, safe .row .small (rowPlace atom k + i))
 
-    part-small : (i : ℕ) → natAbs (part weights rows atom k i) ≤ 2 ^ 50
-    part-small i = omega (arith, natAbs-mul (weightOf weights atom k) (cell rows (rowPlace atom k + i)), mul-le-mul weight-small (cell-small i))
+    share-small : (i : ℕ) → natAbs (rowShare weights rows atom k i) ≤ 2 ^ 50
+    share-small i = omega (arith, natAbs-mul (weightOf weights atom k) (cell rows (rowPlace atom k + i)), mul-le-mul weight-small (cell-small i))
 
     module _ {f : Form} (added : RowsAdded weights rows atom f k) where
-      rows-more : {r : Form} → ((i : ℕ) → i < 17 → numberAt r i ≡ numberAt f i +ℤ part weights rows atom k i) → RowsAdded weights rows atom r (k + 1)
+      rows-more : {r : Form} → ((i : ℕ) → i < 17 → numberAt r i ≡ numberAt f i +ℤ rowShare weights rows atom k i) → RowsAdded weights rows atom r (k + 1)
       unfolding rowsSum
       rows-more step =
           record {
             number = λ i h. rw (add-one k, step i h, added .number i h, +ℤ-assoc (atomsSum weights rows i atom), +ℤ-assoc (ownPart weights atom i));
-            small = λ i h. rw (step i h) (omega (arith, natAbs-add (numberAt f i) (part weights rows atom k i), added .small i h, part-small i));
+            small = λ i h. rw (step i h) (omega (arith, natAbs-add (numberAt f i) (rowShare weights rows atom k i), added .small i h, share-small i));
           }
 
       -- a weight whose bits are 0 adds nothing
@@ -96,14 +96,14 @@ module _ {weights : List ℤ} {rows : List ℕ} {atom : ℕ} (safe : Summable we
       )
 
       module _ {product : Form} (multiple : Multiple row (keptAt w64 z) product) where
-        product-number : (i : ℕ) → i < 17 → numberAt product i ≡ part weights rows atom k i
+        product-number : (i : ℕ) → i < 17 → numberAt product i ≡ rowShare weights rows atom k i
         product-number i h = multiple-number multiple i h ∙ rw (weight-read (atom * 9 + 1 + k) z is, row-number i h)
 
         module _ {f : Form} (added : RowsAdded weights rows atom f k) where
           pub row-plus : Within (2 ^ 61) f × Within (2 ^ 61) product
           row-plus = (
             numbers-within f λ i h. omega (arith, added .small i h),
-            numbers-within product λ i h. rw (product-number i h) (omega (arith, part-small i)),
+            numbers-within product λ i h. rw (product-number i h) (omega (arith, share-small i)),
           )
 
           pub row-added : {r s : Form} → Sum f product s → r ≡ s → RowsAdded weights rows atom r (k + 1)
