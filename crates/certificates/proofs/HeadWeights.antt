@@ -14,7 +14,7 @@ use Rattle.tables.specs.declared.Closing.the-variants.{Done, Misclosed}
 use Rattle.tables.specs.Tables.{claimPlace, SafeClaims, NoWeights}
 use Rattle.tables.proofs.Outcomes.{done-misclosed}
 use Rattle.certificates.specs.Weights.{largest, HeadWeighed}
-use Rattle.certificates.specs.Sums.{Summable, SumsTo, Judged}
+use Rattle.certificates.specs.Sums.{width, Summable, SumsTo, Judged}
 use Rattle.certificates.specs.Multipliers.{ClosesM, withMultipliers}
 
 pub head-summable : {claims : List ℤ} {place : ℕ} {before after : List ℤ} {rows : List ℕ} → SafeClaims claims → Summable before rows → HeadWeighed claims place before after → Summable after rows
@@ -26,7 +26,7 @@ head-summable {claims} {place} {before} {after} safe sums head =
     weight i (no high) = rw (head .above i (omega arith)) (sums .weight i)
 
 module _ (s : State) (claims weights₀ : List ℤ) (rows : List ℕ) (place : ℕ) (isPlace : place ≡ claimPlace (s .head) (s .multipliers)) (weighed : List ℤ) (head : HeadWeighed claims place weights₀ weighed)
-    (sum : Form) (sums : SumsTo weighed rows (s .subgoals + 1) sum) (justified : Bool) (judged : Judged sum justified) where
+    (sum : Form) (sums : SumsTo weighed rows (width (s .variables)) (s .subgoals + 1) sum) (justified : Bool) (judged : Judged sum justified) where
   pub line-refused : justified ≡ false → ClosesM s claims weights₀ rows (Misclosed Unjustified) weighed
   line-refused negative =
       record {

@@ -4,10 +4,10 @@ use mathlib.Core.Bool.{Bool, true, false, cond}
 use mathlib.Core.List.{List, [], map}
 use Prim.Native.Nat.{ℕ, zero, suc, _+_, _*_, _≤_, _<_}
 use native.Mathlib.Omega.{arith}
-use lib.Dec.{eqb, ltb}
+use native.Mathlib.Decide.{decLt}
+use lib.Dec.{eqb}
 use lib.IntN.{ℤ, pos, negℤ, _+ℤ_, _-ℤ_, _*ℤ_, negℤ-+ℤ}
 use lib.ListN.{length, getD, length-map, List·getD-map}
-use Rattle.groundwork.proofs.Truth.{by-truth, ltb-lt, ltb-ge}
 use Rattle.groundwork.proofs.Stretches.{elements, from}
 use Rattle.theory.specs.Text.{Bytes, natural, isDecimal}
 use Rattle.theory.specs.Terms.{Term, arity, structural}
@@ -19,63 +19,76 @@ use Rattle.tables.specs.declared.State.{State}
 use Rattle.tables.specs.Tables.{Tables, rowPlace, ClaimAt, RowStands, AtomStands, subgoalAt, SlotStands, RuleStands}
 use Rattle.tables.specs.Lines.{at}
 use Rattle.certificates.specs.Weights.{HeadWeighed}
-use Rattle.certificates.specs.Sums.{rowsSum, ownPart, atomSum, atomsSum}
+use Rattle.certificates.specs.Sums.{width, seen, rowsSum, ownPart, atomSum, atomsSum}
 use Rattle.certificates.specs.Multipliers.{weightAfter, ProgressM}
-use Rattle.certificates.proofs.Rows.{cell}
+use Rattle.certificates.proofs.Rows.{seen-count, seen-none, seen-constant, width-narrow, width-whole}
 use Rattle.certificates.proofs.WeightedSums.{sumBelow, sum-same, sum-none, sum-first, sum-minus, sum-one, own, weightedSum, weighted-same, weighted-none, weighted-minus, weighted-times}
 use Rattle.certificates.proofs.FormNumbers.{formNumber, coefficient-at, coefficient-beyond, number-minus, number-claim, number-combined}
 
--- argument k of an atom, at one place of its row
-abbrev rowAt : List ℕ → ℕ → ℕ → ℕ → ℤ
-rowAt rows atom i k = cell rows (rowPlace atom k + i)
+-- argument k of an atom, at one place of its row, as it is looked at
+abbrev rowAt : List ℕ → ℕ → ℕ → ℕ → ℕ → ℤ
+rowAt rows variables atom i k = pos (seen rows (width variables) (rowPlace atom k) i)
 
 pub same-place : (f : ℕ → ℤ) (a b : ℕ) → a ≡ b → f a ≡ f b
 same-place f a b e = ap f e
 
-row-number : (rows : List ℕ) (base : ℕ) (xs : List Bytes) (t : Term) (i : ℕ) → i < 17 → RowStands rows base xs t → cell rows (base + i) ≡ formNumber xs (formOf structural t) i
-row-number rows base xs t zero less row = same-place (cell rows) (base + 0) base (omega arith) ∙ row .constant
-row-number rows base xs t (suc i) less row =
-    same-place (cell rows) (base + suc i) (base + 1 + i) (omega arith)
-    ∙ by-truth (λ (b : Bool). cell rows (base + 1 + i) ≡ formNumber xs (formOf structural t) (suc i)) (ltb i (length xs))
-    (λ e. row .coefficient i (ltb-lt i (length xs) e) ∙ sym (coefficient-at (formOf structural t .coefficient) xs i (ltb-lt i (length xs) e)))
-    (λ e. ap pos (row .beyond i (ltb-ge i (length xs) e) (omega arith)) ∙ sym (coefficient-beyond (formOf structural t .coefficient) xs i (ltb-ge i (length xs) e)))
+-- what is not looked at is past the variables
+width-covers : (variables i : ℕ) → width variables ≤ i → i < 16 → variables ≤ i
+width-covers variables i high less = go (decLt 8 variables)
+  where
+    go : Dec (8 < variables) → variables ≤ i
+    go (yes many) = absurd (omega (arith, width-whole variables many))
+    go (no few) = omega (arith, width-narrow variables (omega arith))
+
+row-number : (rows : List ℕ) (base : ℕ) (xs : List Bytes) (t : Term) (i : ℕ) → i < 17 → RowStands rows base xs t → pos (seen rows (width (length xs)) base i) ≡ formNumber xs (formOf structural t) i
+row-number rows base xs t zero less row = ap pos (seen-constant rows (width (length xs)) base) ∙ row .constant
+row-number rows base xs t (suc i) less row = go (decLt i (length xs)) (decLt i (width (length xs)))
+  where
+    form : Bytes → ℤ
+    form = formOf structural t .coefficient
+
+    go : Dec (i < length xs) → Dec (i < width (length xs)) → pos (seen rows (width (length xs)) base (suc i)) ≡ formNumber xs (formOf structural t) (suc i)
+    go (yes inside) (yes looked) = ap pos (seen-count rows (width (length xs)) base i looked) ∙ (row .coefficient i inside ∙ sym (coefficient-at form xs i inside))
+    go (yes inside) (no not-looked) = absurd (omega (arith, width-covers (length xs) i (omega arith) (omega arith)))
+    go (no past) (yes looked) = ap pos (seen-count rows (width (length xs)) base i looked ∙ row .beyond i (omega arith) (omega arith)) ∙ sym (coefficient-beyond form xs i (omega arith))
+    go (no past) (no not-looked) = ap pos (seen-none rows (width (length xs)) base i (omega arith)) ∙ sym (coefficient-beyond form xs i (omega arith))
 
 -- a claim's numbers as the weights of an atom
 claim-number : (rows : List ℕ) (atom : ℕ) (xs : List Bytes) (a : Atom) (claims : List ℤ) (place : ℕ) (c : Claim) (i : ℕ) → i < 17
     → AtomStands rows atom xs (a .terms) → ClaimAt claims place c → length (c .coefficients) ≡ arity (a .terms)
-    → weightedSum (from claims place) (rowAt rows atom i) i ≡ formNumber xs (claimForm structural a c) i
+    → weightedSum (from claims place) (rowAt rows (length xs) atom i) i ≡ formNumber xs (claimForm structural a c) i
 claim-number rows atom xs a claims place c i less stands numbered full =
-    number-claim xs (from claims place) (rowAt rows atom i) i a c full (stands .few)
+    number-claim xs (from claims place) (rowAt rows (length xs) atom i) i a c full (stands .few)
     (same-place (elements claims) (place + 0) place (omega arith) ∙ numbered .constant)
     (λ k below. same-place (elements claims) (place + suc k) (place + 1 + k) (omega arith) ∙ numbered .coefficient k below)
     (λ k below. row-number rows (rowPlace atom k) xs _ i less (stands .row k below))
 
 -- ---- an atom's sum
 
-module _ (weights : List ℤ) (rows : List ℕ) where
+module _ (weights : List ℤ) (rows : List ℕ) (variables : ℕ) where
   own-sum : (atom i : ℕ) → ownPart weights atom i ≡ own (elements weights (atom * 9 + 0)) i
   own-sum atom zero = same-place (elements weights) (atom * 9) (atom * 9 + 0) (omega arith)
   own-sum atom (suc i) = refl
 
-  rows-sum : (atom i n : ℕ) → rowsSum weights rows atom i n ≡ sumBelow (λ k. elements weights (atom * 9 + suc k) *ℤ rowAt rows atom i k) n
+  rows-sum : (atom i n : ℕ) → rowsSum weights rows (width variables) atom i n ≡ sumBelow (λ k. elements weights (atom * 9 + suc k) *ℤ rowAt rows variables atom i k) n
   unfolding rowsSum sumBelow
   rows-sum atom i zero = refl
   rows-sum atom i (suc n) =
-      ap₂ _+ℤ_ (rows-sum atom i n) (ap (λ z. z *ℤ rowAt rows atom i n) (same-place (elements weights) (atom * 9 + 1 + n) (atom * 9 + suc n) (omega arith)))
+      ap₂ _+ℤ_ (rows-sum atom i n) (ap (λ z. z *ℤ rowAt rows variables atom i n) (same-place (elements weights) (atom * 9 + 1 + n) (atom * 9 + suc n) (omega arith)))
 
   -- the weights may be known otherwise
-  atom-sum : (atom i : ℕ) (weight : ℕ → ℤ) → ((j : ℕ) → j < 9 → elements weights (atom * 9 + j) ≡ weight j) → atomSum weights rows atom i ≡ weightedSum weight (rowAt rows atom i) i
-  atom-sum atom i weight same = ap₂ _+ℤ_ (own-sum atom i) (rows-sum atom i 8) ∙ weighted-same _ weight (rowAt rows atom i) i same
+  atom-sum : (atom i : ℕ) (weight : ℕ → ℤ) → ((j : ℕ) → j < 9 → elements weights (atom * 9 + j) ≡ weight j) → atomSum weights rows (width variables) atom i ≡ weightedSum weight (rowAt rows variables atom i) i
+  atom-sum atom i weight same = ap₂ _+ℤ_ (own-sum atom i) (rows-sum atom i 8) ∙ weighted-same _ weight (rowAt rows variables atom i) i same
 
   -- ---- all atoms
 
-  atoms-below : (i n : ℕ) → atomsSum weights rows i n ≡ sumBelow (λ atom. atomSum weights rows atom i) n
+  atoms-below : (i n : ℕ) → atomsSum weights rows (width variables) i n ≡ sumBelow (λ atom. atomSum weights rows (width variables) atom i) n
   unfolding atomsSum sumBelow
   atoms-below i zero = refl
-  atoms-below i (suc n) = ap (λ z. z +ℤ atomSum weights rows n i) (atoms-below i n)
+  atoms-below i (suc n) = ap (λ z. z +ℤ atomSum weights rows (width variables) n i) (atoms-below i n)
 
-  atoms-sum : (i n : ℕ) → atomsSum weights rows i (suc n) ≡ atomSum weights rows 0 i +ℤ sumBelow (λ s. atomSum weights rows (suc s) i) n
-  atoms-sum i n = atoms-below i (suc n) ∙ sum-first (λ atom. atomSum weights rows atom i) n
+  atoms-sum : (i n : ℕ) → atomsSum weights rows (width variables) i (suc n) ≡ atomSum weights rows (width variables) 0 i +ℤ sumBelow (λ s. atomSum weights rows (width variables) (suc s) i) n
+  atoms-sum i n = atoms-below i (suc n) ∙ sum-first (λ atom. atomSum weights rows (width variables) atom i) n
 
 -- ---- the subgoals
 
@@ -85,8 +98,8 @@ weighted-part true m v row i = weighted-times m v row i
 weighted-part false m v row i = weighted-none row i
 
 -- what a subgoal's weights come to after the first multipliers
-abbrev partAfter : List ℕ → List ℤ → List ℕ → List Bytes → ℕ → ℕ → ℕ → ℤ
-partAfter rows claims slots fs i index s = weightedSum (λ j. weightAfter claims slots fs s j index) (rowAt rows (suc s) i) i
+abbrev partAfter : List ℕ → ℕ → List ℤ → List ℕ → List Bytes → ℕ → ℕ → ℕ → ℤ
+partAfter rows variables claims slots fs i index s = weightedSum (λ j. weightAfter claims slots fs s j index) (rowAt rows variables (suc s) i) i
 
 -- a multiplier times its form
 abbrev taken : List Claim → List Atom → List Bytes → List Bytes → ℕ → ℕ → ℤ
@@ -95,12 +108,12 @@ taken cs subgoals xs fs i k = pos (multiplierFrom (at fs k)) *ℤ formNumber xs 
 module _ (rows : List ℕ) (claims : List ℤ) (slots : List ℕ) (cs : List Claim) (subgoals : List Atom) (xs fs : List Bytes) (i : ℕ) (less : i < 17)
     (stand : (s : ℕ) → s < length subgoals → AtomStands rows (suc s) xs (subgoalAt subgoals s .terms)) where
   subgoal-step : (k : ℕ) → SlotStands claims slots cs subgoals k
-      → sumBelow (partAfter rows claims slots fs i (suc k)) (length subgoals) ≡ sumBelow (partAfter rows claims slots fs i k) (length subgoals) -ℤ taken cs subgoals xs fs i k
+      → sumBelow (partAfter rows (length xs) claims slots fs i (suc k)) (length subgoals) ≡ sumBelow (partAfter rows (length xs) claims slots fs i k) (length subgoals) -ℤ taken cs subgoals xs fs i k
   unfolding weightAfter
   subgoal-step k slot =
-      sum-same _ _ (length subgoals) (λ s below. weighted-minus (old s) (λ j. cond (eqb subgoal s) (m *ℤ claim j) (pos 0)) (row s) i ∙ ap (λ z. partAfter rows claims slots fs i k s -ℤ z) (weighted-part (eqb subgoal s) m claim (row s) i))
-      ∙ (sum-minus (partAfter rows claims slots fs i k) (λ s. cond (eqb subgoal s) (m *ℤ weightedSum claim (row s) i) (pos 0)) (length subgoals)
-      ∙ ap (λ z. sumBelow (partAfter rows claims slots fs i k) (length subgoals) -ℤ z) (sum-one (λ s. m *ℤ weightedSum claim (row s) i) subgoal (length subgoals) (slot .subgoal) ∙ ap (λ z. m *ℤ z) form))
+      sum-same _ _ (length subgoals) (λ s below. weighted-minus (old s) (λ j. cond (eqb subgoal s) (m *ℤ claim j) (pos 0)) (row s) i ∙ ap (λ z. partAfter rows (length xs) claims slots fs i k s -ℤ z) (weighted-part (eqb subgoal s) m claim (row s) i))
+      ∙ (sum-minus (partAfter rows (length xs) claims slots fs i k) (λ s. cond (eqb subgoal s) (m *ℤ weightedSum claim (row s) i) (pos 0)) (length subgoals)
+      ∙ ap (λ z. sumBelow (partAfter rows (length xs) claims slots fs i k) (length subgoals) -ℤ z) (sum-one (λ s. m *ℤ weightedSum claim (row s) i) subgoal (length subgoals) (slot .subgoal) ∙ ap (λ z. m *ℤ z) form))
     where
       subgoal : ℕ
       subgoal = getD slots (128 + k) 0
@@ -112,7 +125,7 @@ module _ (rows : List ℕ) (claims : List ℤ) (slots : List ℕ) (cs : List Cla
       claim j = from claims (getD slots k 0) j
 
       row : ℕ → ℕ → ℤ
-      row s = rowAt rows (suc s) i
+      row s = rowAt rows (length xs) (suc s) i
 
       old : ℕ → ℕ → ℤ
       old s j = weightAfter claims slots fs s j k
@@ -122,9 +135,9 @@ module _ (rows : List ℕ) (claims : List ℤ) (slots : List ℕ) (cs : List Cla
           ∙ sym (ap (λ f. formNumber xs f i) (slot .form))
 
   subgoal-sums : (index : ℕ) → ((k : ℕ) → k < index → SlotStands claims slots cs subgoals k)
-      → sumBelow (partAfter rows claims slots fs i index) (length subgoals) ≡ negℤ (sumBelow (taken cs subgoals xs fs i) index)
+      → sumBelow (partAfter rows (length xs) claims slots fs i index) (length subgoals) ≡ negℤ (sumBelow (taken cs subgoals xs fs i) index)
   unfolding weightAfter sumBelow
-  subgoal-sums zero slot = sum-none _ (length subgoals) (λ s below. weighted-none (rowAt rows (suc s) i) i)
+  subgoal-sums zero slot = sum-none _ (length subgoals) (λ s below. weighted-none (rowAt rows (length xs) (suc s) i) i)
   subgoal-sums (suc k) slot =
       subgoal-step k (slot k (omega arith))
       ∙ (ap (λ z. z -ℤ taken cs subgoals xs fs i k) (subgoal-sums k (λ j below. slot j (omega arith)))
@@ -144,23 +157,26 @@ module _ (t : Tables) (s : State) (p : Pack) (r : Rule) (fs : List Bytes) (weigh
     (stands : RuleStands t s p r) (few : length (r .subgoals) ≤ 8)
     (progress : ProgressM fs (length fs) (t .claims) (t .slots) weights₀) (slots : length fs ≡ s .slots)
     (head : HeadWeighed (t .claims) place weights₀ weights) (due : ClaimAt (t .claims) place c) (full : length (c .coefficients) ≡ arity (r .head .terms)) where
-  head-number : (i : ℕ) → i < 17 → atomSum weights (t .rows) 0 i ≡ formNumber (ruleVariables (r .head) (r .subgoals)) (claimForm structural (r .head) c) i
-  head-number i less =
-      atom-sum weights (t .rows) 0 i (from (t .claims) place) (λ j below. same-place (elements weights) (0 * 9 + j) j (omega arith) ∙ head .weight j below)
-      ∙ claim-number (t .rows) 0 (ruleVariables (r .head) (r .subgoals)) (r .head) (t .claims) place c i less (stands .headRows) due full
+  abbrev xs : List Bytes
+  xs = ruleVariables (r .head) (r .subgoals)
 
-  subgoals-number : (i : ℕ) → i < 17 → sumBelow (λ a. atomSum weights (t .rows) (suc a) i) (s .subgoals) ≡ negℤ (sumBelow (taken (p .claims) (r .subgoals) (ruleVariables (r .head) (r .subgoals)) fs i) (length fs))
+  head-number : (i : ℕ) → i < 17 → atomSum weights (t .rows) (width (length xs)) 0 i ≡ formNumber xs (claimForm structural (r .head) c) i
+  head-number i less =
+      atom-sum weights (t .rows) (length xs) 0 i (from (t .claims) place) (λ j below. same-place (elements weights) (0 * 9 + j) j (omega arith) ∙ head .weight j below)
+      ∙ claim-number (t .rows) 0 xs (r .head) (t .claims) place c i less (stands .headRows) due full
+
+  subgoals-number : (i : ℕ) → i < 17 → sumBelow (λ a. atomSum weights (t .rows) (width (length xs)) (suc a) i) (s .subgoals) ≡ negℤ (sumBelow (taken (p .claims) (r .subgoals) xs fs i) (length fs))
   subgoals-number i less =
       ap (sumBelow _) (stands .subgoals)
-      ∙ (sum-same _ (partAfter (t .rows) (t .claims) (t .slots) fs i (length fs)) (length (r .subgoals))
-      (λ a below. atom-sum weights (t .rows) (suc a) i _ (λ j low. head .above (suc a * 9 + j) (omega arith) ∙ progress .weight a j (omega arith) low))
-      ∙ subgoal-sums (t .rows) (t .claims) (t .slots) (p .claims) (r .subgoals) (ruleVariables (r .head) (r .subgoals)) fs i less (stands .subgoalRows) (length fs) (λ k below. stands .slot k (omega arith)))
+      ∙ (sum-same _ (partAfter (t .rows) (length xs) (t .claims) (t .slots) fs i (length fs)) (length (r .subgoals))
+      (λ a below. atom-sum weights (t .rows) (length xs) (suc a) i _ (λ j low. head .above (suc a * 9 + j) (omega arith) ∙ progress .weight a j (omega arith) low))
+      ∙ subgoal-sums (t .rows) (t .claims) (t .slots) (p .claims) (r .subgoals) xs fs i less (stands .subgoalRows) (length fs) (λ k below. stands .slot k (omega arith)))
 
-  pub line-number : (i : ℕ) → i < 17 → atomsSum weights (t .rows) i (suc (s .subgoals)) ≡ formNumber (ruleVariables (r .head) (r .subgoals)) (residual structural (p .claims) (r .head) (r .subgoals) c (map multiplierFrom fs)) i
+  pub line-number : (i : ℕ) → i < 17 → atomsSum weights (t .rows) (width (s .variables)) i (suc (s .subgoals)) ≡ formNumber xs (residual structural (p .claims) (r .head) (r .subgoals) c (map multiplierFrom fs)) i
   unfolding residual
   line-number i less =
-      let xs = ruleVariables (r .head) (r .subgoals) in
       let forms = combined (map multiplierFrom fs) (subgoalForms structural (p .claims) (r .subgoals)) in
-      atoms-sum weights (t .rows) i (s .subgoals)
+      ap (λ (n : ℕ). atomsSum weights (t .rows) (width n) i (suc (s .subgoals))) (stands .variables)
+      ∙ (atoms-sum weights (t .rows) (length xs) i (s .subgoals)
       ∙ (ap₂ _+ℤ_ (head-number i less) (subgoals-number i less ∙ ap negℤ (sym (all-taken (p .claims) (r .subgoals) xs fs i)))
-      ∙ sym (number-minus xs (claimForm structural (r .head) c) forms i))
+      ∙ sym (number-minus xs (claimForm structural (r .head) c) forms i)))

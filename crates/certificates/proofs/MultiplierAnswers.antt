@@ -27,7 +27,7 @@ use Rattle.tables.specs.declared.Closing.the-variants.{Done, Misclosed}
 use Rattle.tables.specs.Tables.{Tables, claimPlace, predicateAt, ClaimAt, RuleStands, Holds, Safe}
 use Rattle.tables.specs.Faults.{numberOf, closingNumber}
 use Rattle.tables.specs.Lines.{Passed}
-use Rattle.certificates.specs.Sums.{atomsSum, numberAt, formNumbers, SumsTo}
+use Rattle.certificates.specs.Sums.{width, atomsSum, numberAt, formNumbers, SumsTo}
 use Rattle.certificates.specs.Multipliers.{ProgressM, ClosesM}
 use Rattle.certificates.proofs.FormNumbers.{residual-length, residual-number}
 use Rattle.certificates.proofs.LineResiduals.{line-number}
@@ -69,7 +69,7 @@ module _ {line : Bytes} {t : Tables} {s : State} {w : Written} {o : Opened} {wei
   residue-length = residual-length _ _
 
   -- the numbers of a sum by the line's weights are those of the residual
-  module _ (form : Form) (sums : SumsTo (closes .weighed) (t .rows) (s .subgoals + 1) form) where
+  module _ (form : Form) (sums : SumsTo (closes .weighed) (t .rows) (width (s .variables)) (s .subgoals + 1) form) where
     sum-number : (i : ℕ) → i < 17 → numberAt form i ≡ getD residue i (pos 0)
     unfolding residualDue multipliersFrom
     sum-number i less =
@@ -79,7 +79,7 @@ module _ {line : Bytes} {t : Tables} {s : State} {w : Written} {o : Opened} {wei
         let many : length fs ≡ s .slots = omega (arith, length-drop 1 (fieldsOf line), passed .named) in
         let one-more : s .subgoals + 1 ≡ suc (s .subgoals) = omega arith in
         sums .number i less
-        ∙ (ap (atomsSum (closes .weighed) (t .rows) i) one-more
+        ∙ (ap (atomsSum (closes .weighed) (t .rows) (width (s .variables)) i) one-more
         ∙ (line-number t s (w .pack) rule fs weights₀ (closes .weighed) _ (claimDue (w .pack)) stands few progress many (closes .head) (due-claim .0) (due-claim .1) i less
         ∙ sym (residual-number _ _ i less)))
 

@@ -32,7 +32,7 @@ use Rattle.tables.specs.Faults.{numberOf}
 use Rattle.tables.specs.Lines.{at, Passed, ClosedFor}
 use Rattle.tables.proofs.Outcomes.{field-passes, field-fails}
 use Rattle.certificates.specs.Weights.{largest, RoomFor, Weighs}
-use Rattle.certificates.specs.Sums.{formNumbers, SumsTo, Summable}
+use Rattle.certificates.specs.Sums.{width, formNumbers, SumsTo, Summable}
 use Rattle.certificates.specs.Multipliers.{FieldM, weightAfter, ProgressM, ClosesM}
 use Rattle.certificates.proofs.HeadWeights.{head-summable}
 use Rattle.certificates.proofs.LineResiduals.{same-place}
@@ -157,7 +157,7 @@ module _ {line : Bytes} {t : Tables} {s : State} {w : Written} {o : Opened} {wei
 
   -- what an unjustified line leaves: weights whose sum is the residual
   pub m-left : (f : Fault) → r ≡ Misclosed f → (f ≡ Unjustified) × (w .pack .rules ≡ [] → ⊥)
-      × ((form : Form) → length (form .coefficients) ≡ 16 → SumsTo weights (t .rows) (s .subgoals + 1) form → formNumbers form ≡ residualDue (w .pack) (multipliersFrom (fieldsOf line)))
+      × ((form : Form) → length (form .coefficients) ≡ 16 → SumsTo weights (t .rows) (width (s .variables)) (s .subgoals + 1) form → formNumbers form ≡ residualDue (w .pack) (multipliersFrom (fieldsOf line)))
   m-left f refused =
       let left = closes .unjustified f refused in (
         left .0,

@@ -23,7 +23,7 @@ use Rattle.tables.specs.declared.Closing.the-variants.{Done, Misclosed}
 use Rattle.tables.specs.Tables.{claimPlace, NoWeights}
 use Rattle.tables.specs.Lines.{at}
 use Rattle.certificates.specs.Weights.{Weighs, HeadWeighed}
-use Rattle.certificates.specs.Sums.{numberAt, SumsTo}
+use Rattle.certificates.specs.Sums.{width, numberAt, SumsTo}
 
 pub record FieldM (index : ℕ) (field : Bytes) (many : ℕ) (claims : List ℤ) (slots : List ℕ) (weights₀ : List ℤ) (r : Fielding) (weights : List ℤ) : Type 0 where
   pub answer : r ≡ cond (isMultiplier field) (Read many) (Misread Number)
@@ -50,6 +50,6 @@ pub record ClosesM (s : State) (claims weights₀ : List ℤ) (rows : List ℕ) 
   pub weighed : List ℤ
   pub head : HeadWeighed claims (claimPlace (s .head) (s .multipliers)) weights₀ weighed
   pub sum : Form
-  pub sums : SumsTo weighed rows (s .subgoals + 1) sum
+  pub sums : SumsTo weighed rows (width (s .variables)) (s .subgoals + 1) sum
   pub done : (next : State) → r ≡ Done next → (next ≡ withMultipliers s) × NoWeights weights × ((i : ℕ) → i < 17 → nonNeg (numberAt sum i) ≡ true)
   pub unjustified : (f : Fault) → r ≡ Misclosed f → (f ≡ Unjustified) × (weights ≡ weighed) × ((i : ℕ) × (i < 17) × (nonNeg (numberAt sum i) ≡ false))

@@ -21,7 +21,7 @@ use Rattle.tables.specs.declared.Closing.{Closing}
 use Rattle.tables.specs.declared.Closing.the-variants.{Done, Misclosed}
 use Rattle.tables.specs.Faults.{numberOf, closingNumber}
 use Rattle.tables.specs.Tables.{Tables, NoWeights, Safe}
-use Rattle.certificates.specs.Sums.{SumsTo, formNumbers}
+use Rattle.certificates.specs.Sums.{width, SumsTo, formNumbers}
 use Rattle.packs.specs.declared.Ending.the-variants.{AllPass, Stopped}
 use Rattle.packs.specs.Between.{LineJudged, Reached, LinesRead}
 use Rattle.packs.specs.Loading.{faultNumbers, faultResidue, LinesLoadedFor, LoadsLines}
@@ -156,7 +156,7 @@ module _ {text : Bytes} {start : State} {t₀ : Tables} {s : State} {t : Tables}
             }
 
     -- the next line is refused
-    pub lines-refused : {f : Fault} → r ≡ Misclosed f → {form : Form} → (f ≡ Unjustified → SumsTo weights₁ (t₁ .rows) (s .subgoals + 1) form) → {names signatures : List ℕ} {claims : List ℤ}
+    pub lines-refused : {f : Fault} → r ≡ Misclosed f → {form : Form} → (f ≡ Unjustified → SumsTo weights₁ (t₁ .rows) (width (s .variables)) (s .subgoals + 1) form) → {names signatures : List ℕ} {claims : List ℤ}
         → LoadsLines text start t₀ (record { ending = Stopped f; line = line + 1; state = s; residual = form }) names signatures claims
     lines-refused {f} bad {form} taken {names} {signatures} {claims} =
         record {

@@ -25,7 +25,7 @@ use Rattle.tables.specs.Tables.{Tables, Holds}
 use Rattle.tables.specs.Lines.{Passed, SafeOpened}
 use Rattle.tables.proofs.Outlines.{outline}
 use Rattle.opening.specs.Opening.{Opens}
-use Rattle.certificates.specs.Sums.{Summable, SumsTo}
+use Rattle.certificates.specs.Sums.{width, Summable, SumsTo}
 use Rattle.packs.specs.declared.Ending.the-variants.{Stopped}
 use Rattle.packs.specs.Steps.{Stores, FieldReady, FieldDone, variablesBefore, Tabled, CloseReady, CloseDone}
 use Rattle.packs.specs.Between.{FieldsRead, LineJudged, LinesRead}
@@ -96,6 +96,6 @@ module _ {text : Bytes} {start : State} {t₀ : Tables} {s : State} {t : Tables}
             turn-summable = judged .summable
 
             -- refused at its end
-            pub turn-refused : {f : Fault} → close ≡ Misclosed f → {form : Form} → SumsTo (y .weights) (x₀ .rows) (s .subgoals + 1) form → {names signatures : List ℕ} {claims : List ℤ}
+            pub turn-refused : {f : Fault} → close ≡ Misclosed f → {form : Form} → SumsTo (y .weights) (x₀ .rows) (width (s .variables)) (s .subgoals + 1) form → {names signatures : List ℕ} {claims : List ℤ}
                 → LoadsLines text start t₀ (record { ending = Stopped f; line = number + 1; state = s; residual = form }) names signatures claims
             turn-refused bad sums = lines-refused read inside finds judged bad (λ is. sums)

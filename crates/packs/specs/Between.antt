@@ -19,7 +19,7 @@ use Rattle.tables.specs.declared.Closing.{Closing}
 use Rattle.tables.specs.declared.Closing.the-variants.{Done, Misclosed}
 use Rattle.tables.specs.Tables.{Tables, Holds, SafeRows, NoWeights, Safe}
 use Rattle.tables.specs.Lines.{Passed, ClosedFor}
-use Rattle.certificates.specs.Sums.{Summable, SumsTo, formNumbers}
+use Rattle.certificates.specs.Sums.{width, Summable, SumsTo, formNumbers}
 use Rattle.certificates.specs.Multipliers.{ProgressM}
 use Rattle.packs.specs.Steps.{Stores, Progress}
 
@@ -67,7 +67,7 @@ pub record FieldsRead (letter : Letter) (line : Bytes) (t : Tables) (s : State) 
 -- the residual of an unjustified claim can be taken by the weights that are left
 pub record ResidualLeft (line : Bytes) (w : Written) (s : State) (weights : List ℤ) (rows : List ℕ) : Type 0 where
   pub ruled : w .pack .rules ≡ [] → ⊥
-  pub sum : (form : Form) → length (form .coefficients) ≡ 16 → SumsTo weights rows (s .subgoals + 1) form → formNumbers form ≡ residualDue (w .pack) (multipliersFrom (fieldsOf line))
+  pub sum : (form : Form) → length (form .coefficients) ≡ 16 → SumsTo weights rows (width (s .variables)) (s .subgoals + 1) form → formNumbers form ≡ residualDue (w .pack) (multipliersFrom (fieldsOf line))
 
 -- a line that is judged: where it passes, the tables after it; where its claim is not justified, the weights. They can be summed either way.
 pub record LineJudged (line : Bytes) (s : State) (t₀ : Tables) (r : Closing) (t : Tables) (weights : List ℤ) : Type 0 where

@@ -256,7 +256,7 @@ pub fn load_lines(
             }
             Closing::Misclosed(fault) => {
                 ending = Ending::Stopped(fault);
-                residual = certificates::residual(&weights, &rows, state.subgoals);
+                residual = certificates::residual(&weights, &rows, state.subgoals, state.variables);
                 break 'lines;
             }
         }

@@ -16,7 +16,7 @@ pub record Scanned (s : Bytes) (unfit : Bool) (i : ℕ) : Type 0 where
   pub high : i ≤ length s
   pub rest : not (every (between 32 126) s) ≡ (unfit || not (every (between 32 126) (drop i s)))
 
-below-is-not-above : (m n : ℕ) → ltb m n ≡ not (leb n m)
+pub below-is-not-above : (m n : ℕ) → ltb m n ≡ not (leb n m)
 below-is-not-above m n = by-truth (λ (c : Bool). ltb m n ≡ not c) (leb n m) (λ e. ge-ltb m n (leb-le n m e)) (λ e. lt-ltb m n (leb-gt n m e))
 
 -- the flag with one byte more, low and high saying whether it is within the bounds
@@ -30,6 +30,10 @@ module _ (s : Bytes) where
   pub unfit-long : 1024 < length s → true ≡ isUnfit s
   unfolding isUnfit
   unfit-long h = rw (lt-ltb 1024 (length s) h)
+
+  pub unfit-fine : length s ≤ 1024 → every (between 32 126) s ≡ true → false ≡ isUnfit s
+  unfolding isUnfit
+  unfit-fine short fine = rw (ge-ltb 1024 (length s) short, fine)
 
   pub scanned-none : Scanned s false 0
   scanned-none = record { high = omega arith; rest = refl }

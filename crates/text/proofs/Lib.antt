@@ -3,6 +3,7 @@ pub mod Cuts
 pub mod WordLaws
 pub mod WordKinds
 pub mod ZeroLaws
+pub mod PlainText
 -- Parts and classes of bytes, by places.
 pub mod Parts
 pub mod Classes
@@ -16,6 +17,7 @@ pub mod ZeroRuns
 pub mod Marks
 pub mod Counts
 pub mod Fitness
+pub mod PlainBytes
 pub mod ByteSums
 pub mod WordReading
 pub mod WordsBetween

@@ -1,13 +1,13 @@
 -- Parts of a byte string by their places, and where a byte stands.
 use mathlib.Core.Path.{_≡_}
-use mathlib.Core.Bool.{true, false, cond}
+use mathlib.Core.Bool.{Bool, true, false, cond, _||_}
 use mathlib.Core.List.{List, [], _∷_}
 use Prim.Native.Nat.{ℕ, zero, suc, _+_, _-_, _*_, _≤_, _<_}
 use Prim.Native.Char.{code}
 use lib.Dec.{leb, eqb}
 use lib.ListN.{length, getD, take, drop}
 use Rattle.theory.specs.Lists.{every}
-use Rattle.theory.specs.Text.{Bytes, partsAt, isNameByte}
+use Rattle.theory.specs.Text.{Bytes, partsAt, between, isNameByte}
 use Rattle.theory.proofs.Reading.Separators.{isFree}
 
 -- the bytes from place a up to place e
@@ -27,6 +27,10 @@ pub record EndsWord (s : Bytes) (from r : ℕ) : Type 0 where
   pub high : r ≤ length s
   pub named : every isNameByte (part s from r) ≡ true
   pub ended : r < length s → isNameByte (getD s r 0) ≡ false
+
+-- byte 10, or one that may stand in a line
+unfoldable pub isPlain : ℕ → Bool
+isPlain b = eqb b 10 || between 32 126 b
 
 -- the parts from a place on; none where the place is past the end
 unfoldable pub partsFrom : ℕ → Bytes → ℕ → List Bytes

@@ -104,11 +104,18 @@ fn zeros_of_eight(bytes: &[u8], at: usize) -> usize
     widths::u32_to_usize(u64::trailing_zeros(eight_bytes(bytes, at) ^ ZEROS)) / 16
 }
 
-/// How many fields `0`, each with the comma after it, stand from a place on. It stops where fewer than eight bytes are left.
+/// How many fields `0`, each with the comma after it, stand from a place on. It stops where fewer than eight bytes are left,
+/// and a first byte that is not `0` is looked at alone, so that fields that are not `0` cost little.
 pub fn zeros(bytes: &[u8], from: usize) -> usize
     requires { ⌜ from ≤ length (now bytes) ⌝ }
     ensures { λ r. ⌜ Zeros (now (bytes .entry)) from r ⌝ }
 {
+    if bytes.len() - from < 8 {
+        return 0;
+    }
+    if bytes[from] != b'0' {
+        return 0;
+    }
     let mut count: usize = 0;
     while 8 <= bytes.len() - from - 2 * count {
         let more = zeros_of_eight(bytes, from + 2 * count);

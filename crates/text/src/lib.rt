@@ -13,11 +13,14 @@ ghost use Rattle.text.specs.Numbers.{naturalOf, integerOf};
 mod block;
 mod eights;
 mod hints;
+mod plain;
 mod table;
 
 pub use eights::words_at;
 pub use eights::zeros;
 pub use hints::place_by;
+pub use plain::is_plain;
+pub use plain::is_unfit_in;
 pub use table::class_of;
 pub use table::class_table;
 pub use table::word_between;

@@ -3,16 +3,16 @@ use mathlib.Core.Path.{_≡_}
 use Prim.Native.Nat.{_+_, _-_, _≤_}
 use native.Mathlib.Omega.{arith}
 use borrow.Author.Needs.{needs}
-use Rattle.certificates.specs.Sums.{Partial}
+use Rattle.certificates.specs.Sums.{width, Partial}
 use Rattle.certificates.proofs.Sums.{no-atoms}
 use Rattle.certificates.proofs.residual.Statement.{statement}
 use Rattle.certificates.proofs.residual.Tie as tie
 
 abbrev Inv-loop : tie.InvT-loop
-Inv-loop weights rows subgoals form₀ atom₀ form atom = (atom ≤ subgoals + 1) × Partial weights rows atom form
+Inv-loop weights rows subgoals variables form₀ atom₀ form atom = (atom ≤ subgoals + 1) × Partial weights rows (width variables) atom form
 
 abbrev μ-loop : tie.MeasureT-loop
-μ-loop weights rows subgoals form₀ atom₀ form atom = subgoals + 1 - atom
+μ-loop weights rows subgoals variables form₀ atom₀ form atom = subgoals + 1 - atom
 
 loop-holds : tie.Need-loop-holds Inv-loop μ-loop
 loop-holds c = (search needs, no-atoms (c .zero .ensures))

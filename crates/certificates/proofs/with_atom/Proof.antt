@@ -3,15 +3,16 @@ use mathlib.Core.Logic.{⊎-elim}
 use Prim.Native.Nat.{_-_, _≤_}
 use native.Mathlib.Omega.{arith}
 use borrow.Author.Needs.{needs}
-use Rattle.certificates.proofs.Sums.{RowsAdded, constant-requires, rows-none, row-times, row-plus, row-added, row-skipped, atom-done}
+use Rattle.certificates.specs.Sums.{width}
+use Rattle.certificates.proofs.Sums.{RowsAdded, constant-requires, rows-none, row-requires, row-weighed, row-skipped, atom-done}
 use Rattle.certificates.proofs.with_atom.Statement.{statement}
 use Rattle.certificates.proofs.with_atom.Tie as tie
 
 abbrev Inv-loop : tie.InvT-loop
-Inv-loop weights rows atom form₀ k₀ form k = (k ≤ 8) × RowsAdded weights rows atom form k
+Inv-loop weights rows atom variables form₀ k₀ form k = (k ≤ 8) × RowsAdded weights rows (width variables) atom form k
 
 abbrev μ-loop : tie.MeasureT-loop
-μ-loop weights rows atom form₀ k₀ form k = 8 - k
+μ-loop weights rows atom variables form₀ k₀ form k = 8 - k
 
 with-constant-requires : tie.Need-with-constant-requires Inv-loop μ-loop
 with-constant-requires c κs = let pre = c .before .before .pre in constant-requires (pre .1) (pre .0) (pre .2) (c .i32-to-i64 .ensures)
@@ -19,16 +20,12 @@ with-constant-requires c κs = let pre = c .before .before .pre in constant-requ
 loop-holds : tie.Need-loop-holds Inv-loop μ-loop
 loop-holds c = let pre = c .before .before .before .pre in (search needs, rows-none (pre .1) (pre .0) (pre .2) (c .before .i32-to-i64 .ensures) (c .with-constant .ensures))
 
-times-requires : tie.Need-times-requires Inv-loop μ-loop
-times-requires c κs =
-    let pre = c .before .before .before .before .before .before .before .before .before .before .pre in
-    row-times (pre .1) (pre .0) (omega arith) (c .before .before .row-place .ensures) (c .before .form-at .ensures) (c .i32-to-i642 .ensures)
-
-plus-requires : tie.Need-plus-requires Inv-loop μ-loop
-plus-requires c κs =
-    let pre = c .before .before .before .before .before .before .before .before .before .before .before .pre in
-    let added = c .before .before .before .before .before .before .before .loop .inv .1 in
-    row-plus (pre .1) (pre .0) (omega arith) (c .before .before .before .row-place .ensures) (c .before .before .form-at .ensures) (c .before .i32-to-i642 .ensures) (c .times .ensures) added
+with-row-requires : tie.Need-with-row-requires Inv-loop μ-loop
+with-row-requires c κs =
+    let pre = c .before .before .before .before .before .before .before .before .before .pre in
+    let added = c .before .before .before .before .before .loop .inv .1 in
+    let needed = row-requires (pre .1) (pre .0) (omega arith) added (c .i32-to-i642 .ensures) in
+    (search needs, pre .1 .row, needed .0, needed .1)
 
 loop-again : tie.Need-loop-again Inv-loop μ-loop
 loop-again c =
@@ -36,7 +33,7 @@ loop-again c =
     let added = c .before .before .before .loop .inv .1 in (
       search needs,
       ⊎-elim
-          (λ way. row-added (pre .1) (pre .0) (omega arith) (way .1 .ensures) (way .2 .ensures) (way .3 .ensures) (way .4 .ensures) added (way .5 .ensures) (way .6))
+          (λ way. row-weighed (pre .1) (pre .0) (omega arith) added (way .2 .ensures) (way .1 .ensures) (way .3 .ensures) (way .4))
           (λ way. row-skipped (pre .1) (pre .0) (omega arith) added (way .0 .left) (way .1))
           (c .if1 .came),
     )
@@ -49,4 +46,4 @@ with-atom-spec =
     tie.close (tie.spec Inv-loop μ-loop (λ c. search needs) (λ c. search needs) (λ c. search needs)
     (λ c κs. search needs) with-constant-requires loop-holds (λ c. search needs) (λ c. search needs)
     (λ c. search needs) (λ c. search needs) (λ c. search needs) (λ c κs. search needs) (λ c κs. search needs)
-    (λ c κs. search needs) times-requires plus-requires (λ c. search needs) (λ c. search needs) loop-again returns)
+    with-row-requires (λ c. search needs) (λ c. search needs) loop-again returns)
