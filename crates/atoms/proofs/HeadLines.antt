@@ -50,8 +50,8 @@ h-fault {line = line} {w = w} passed inside done bad = passed .left ∙ atom-fau
 -- ---- the line's end
 
 -- the rule that a line with these fields begins
-abbrev begun : List Bytes → Rule
-begun fields = headAlone (atomFrom fields)
+abbrev ruleBegun : List Bytes → Rule
+ruleBegun fields = headAlone (atomFrom fields)
 
 abbrev headVariables : List Bytes → List Bytes
 headVariables fields = ruleVariables (atomFrom fields) []
@@ -65,7 +65,7 @@ module _ {line : Bytes} {t : Tables} {s : State} {w : Written} {o : Opened} {man
   abbrev filled : Tables
   filled = tables (t .names) (t .signatures) (t .claims) variables rows (t .slots)
 
-  head-stands : RuleStands filled (withHead (o .predicate) many s) (onRules (ending (begun (fieldsOf line))) (w .pack)) (begun (fieldsOf line))
+  head-stands : RuleStands filled (withHead (o .predicate) many s) (onRules (ending (ruleBegun (fieldsOf line))) (w .pack)) (ruleBegun (fieldsOf line))
   unfolding atomFrom mathlib.Core.List.flatMap
   head-stands = record {
     head = named .below;
@@ -87,9 +87,9 @@ module _ {line : Bytes} {t : Tables} {s : State} {w : Written} {o : Opened} {man
     declares = holds .declares;
     claims = holds .claims;
     claimed = holds .claimed;
-    rules = omega (arith, holds .rules, length-end (w .pack .rules) (begun (fieldsOf line)));
-    lines = omega (arith, holds .lines, multiplierLines-end (w .pack .rules) (begun (fieldsOf line)));
-    last = λ unempty. rw (lastOf-end noRule (w .pack .rules) (begun (fieldsOf line))) head-stands;
+    rules = omega (arith, holds .rules, length-end (w .pack .rules) (ruleBegun (fieldsOf line)));
+    lines = omega (arith, holds .lines, multiplierLines-end (w .pack .rules) (ruleBegun (fieldsOf line)));
+    last = λ unempty. rw (lastOf-end noRule (w .pack .rules) (ruleBegun (fieldsOf line))) head-stands;
     ended = holds .ended;
   }
 

@@ -7,12 +7,12 @@ use native.Mathlib.Decide.{decLe}
 use native.Mathlib.Omega.{arith}
 use lib.ListN.{getD, set, length-set}
 use Rattle.groundwork.proofs.Truth.{never-both}
+use Rattle.groundwork.proofs.Stretches.{replaced}
 use Rattle.theory.specs.Text.{Bytes}
 use Rattle.theory.specs.Faults.{isTerm}
 use Rattle.terms.specs.declared.Tokens.{Tokens}
 use Rattle.terms.specs.TokenRows.{SmallArities, PlacesStand, TokensRead, AritiesSummed}
 use Rattle.terms.specs.Rows.{Counted}
-use Rattle.terms.proofs.RowStores.{each-stored}
 use Rattle.tables.specs.declared.Fault.{Fault}
 use Rattle.tables.specs.declared.Fault.the-variants.{NoTerm}
 use Rattle.tables.specs.declared.Fielding.{Fielding}
@@ -59,7 +59,7 @@ module _ (atom index many : ℕ) (field : Bytes) (names₀ rows₀ : List ℕ) (
           stored = λ e. rw place;
           sizes = (counted .nameSize, length-set counts base constant ∙ counted .size);
           high = counted .high;
-          small = λ safe. record { small = λ i. each-stored (λ n. n < 65536) 0 constant (omega (arith, summed .small)) counts base i (of-row safe i (decLe i base) (decLe (base + 17) i)) };
+          small = λ safe. record { small = λ i. replaced (λ n. n < 65536) counts base i constant 0 (omega (arith, summed .small)) (of-row safe i (decLe i base) (decLe (base + 17) i)) };
         }
       where
         of-row : SafeRows rows₀ → (i : ℕ) → Dec (i ≤ base) → Dec (base + 17 ≤ i) → getD counts i 0 < 65536

@@ -53,11 +53,11 @@ abbrev knownFrom : Query → Claim → ℕ → ℤ
 knownFrom q c k = knownPart (drop k (c .coefficients)) (drop k (q .sizes))
 
 -- the number of the claim at a place of the table for the argument at place k
-abbrev numberOf : List ℤ → ℕ → ℕ → ℤ
-numberOf claims place k = getD claims (place + 1 + k) (pos 0)
+abbrev argumentNumber : List ℤ → ℕ → ℕ → ℤ
+argumentNumber claims place k = getD claims (place + 1 + k) (pos 0)
 
 module _ {claims : List ℤ} {place arity : ℕ} {sizes : List ℕ} {q : Query} {c : Claim} (stands : ClaimStands claims place arity sizes q c) {k : ℕ} (less : k < arity) (few : arity ≤ 8) where
-  number-is : numberOf claims place k ≡ getD (c .coefficients) k (pos 0)
+  number-is : argumentNumber claims place k ≡ getD (c .coefficients) k (pos 0)
   number-is = stands .at .coefficient k (omega arith)
 
   within : k < length (c .coefficients)
@@ -69,12 +69,12 @@ module _ {claims : List ℤ} {place arity : ℕ} {sizes : List ℕ} {q : Query} 
   size-is : getD sizes k 0 ≡ entryOf (getD (q .sizes) k none)
   size-is = stands .stand .entry k size-within
 
-  unknowns-next : unknownsFrom q c k ≡ (not (blocked (numberOf claims place k) (getD sizes k 0)) && unknownsFrom q c (k + 1))
+  unknowns-next : unknownsFrom q c k ≡ (not (blocked (argumentNumber claims place k) (getD sizes k 0)) && unknownsFrom q c (k + 1))
   unknowns-next =
       rw (add-one k, drop-cons (c .coefficients) k (pos 0) within, drop-cons (q .sizes) k none size-within, number-is, size-is)
       (unknowns-first _ _ _ _ (λ s e. stands .stand .small k s size-within e))
 
-  known-next : knownFrom q c k ≡ share (numberOf claims place k) (getD sizes k 0) +ℤ knownFrom q c (k + 1)
+  known-next : knownFrom q c k ≡ share (argumentNumber claims place k) (getD sizes k 0) +ℤ knownFrom q c (k + 1)
   known-next =
       rw (add-one k, drop-cons (c .coefficients) k (pos 0) within, drop-cons (q .sizes) k none size-within, number-is, size-is)
       (known-first _ _ _ _ (λ s e. stands .stand .small k s size-within e))
@@ -120,7 +120,7 @@ module _ {claims : List ℤ} {place arity : ℕ} {sizes : List ℕ} where
     }
 
     -- a turn; y is the claim's number as the code reads it
-    module _ (less : k < arity) (y : ℤ) (read : kept y ≡ numberOf claims place k) where
+    module _ (less : k < arity) (y : ℤ) (read : kept y ≡ argumentNumber claims place k) where
       -- what the argument does to the test
       tested : (q : Query) (c : Claim) → ClaimStands claims place arity sizes q c → unknownsAtMostZero (c .coefficients) (q .sizes) ≡ (not (blocked (kept y) (getD sizes k 0)) && unknownsFrom q c (k + 1))
       tested q c stands = weighing .tells q c stands .unknowns ∙ unknowns-next stands less few ∙ rw read

@@ -14,11 +14,11 @@ use Rattle.theory.specs.Forms.{Form, zeroForm, plus, times, minus, constantForm
 use Rattle.theory.specs.Packs.{Claim, Atom}
 use Rattle.theory.specs.Residuals.{weighted as weightedForm, claimForm, combined, residualNumbers}
 use Rattle.tables.specs.Tables.{argument}
-use Rattle.certificates.proofs.WeightedSums.{sumBelow, sum-same, sum-none, sum-first, own, weighted}
+use Rattle.certificates.proofs.WeightedSums.{sumBelow, sum-same, sum-none, sum-first, own, weightedSum}
 
 -- at place 0 the constant, at place i + 1 the coefficient of the variable at place i, zeros after the last
-abbrev pub numberOf : List Bytes → Form → ℕ → ℤ
-numberOf xs f i = getD (f .constant ∷ map (f .coefficient) xs) i (pos 0)
+abbrev pub formNumber : List Bytes → Form → ℕ → ℤ
+formNumber xs f i = getD (f .constant ∷ map (f .coefficient) xs) i (pos 0)
 
 pub coefficient-at : (h : Bytes → ℤ) (xs : List Bytes) (i : ℕ) → i < length xs → getD (map h xs) i (pos 0) ≡ h (getD xs i [])
 coefficient-at h [] i less = absurd (omega arith)
@@ -38,28 +38,28 @@ by-place op zeros f g (x ∷ xs) zero = refl
 by-place op zeros f g (x ∷ xs) (suc i) = by-place op zeros f g xs i
 
 module _ (xs : List Bytes) where
-  number-plus : (f g : Form) (i : ℕ) → numberOf xs (plus f g) i ≡ numberOf xs f i +ℤ numberOf xs g i
+  number-plus : (f g : Form) (i : ℕ) → formNumber xs (plus f g) i ≡ formNumber xs f i +ℤ formNumber xs g i
   unfolding plus
   number-plus f g zero = refl
   number-plus f g (suc i) = by-place _+ℤ_ refl (f .coefficient) (g .coefficient) xs i
 
-  number-times : (k : ℤ) (f : Form) (i : ℕ) → numberOf xs (times k f) i ≡ k *ℤ numberOf xs f i
+  number-times : (k : ℤ) (f : Form) (i : ℕ) → formNumber xs (times k f) i ≡ k *ℤ formNumber xs f i
   unfolding times
   number-times k f zero = refl
   number-times k f (suc i) = by-place (λ a b. k *ℤ a) (*ℤ-zero k) (f .coefficient) (f .coefficient) xs i
 
-  pub number-minus : (f g : Form) (i : ℕ) → numberOf xs (minus f g) i ≡ numberOf xs f i -ℤ numberOf xs g i
+  pub number-minus : (f g : Form) (i : ℕ) → formNumber xs (minus f g) i ≡ formNumber xs f i -ℤ formNumber xs g i
   unfolding minus
   number-minus f g i =
-      number-plus f (times (negsuc 0) g) i ∙ ap (λ z. numberOf xs f i +ℤ z) (number-times (negsuc 0) g i ∙ sym (neg-as-times (numberOf xs g i)))
+      number-plus f (times (negsuc 0) g) i ∙ ap (λ z. formNumber xs f i +ℤ z) (number-times (negsuc 0) g i ∙ sym (neg-as-times (formNumber xs g i)))
 
   -- a form that has a constant alone
-  number-constant : (c : ℤ) (i : ℕ) → numberOf xs (constantForm c) i ≡ own c i
+  number-constant : (c : ℤ) (i : ℕ) → formNumber xs (constantForm c) i ≡ own c i
   unfolding constantForm
   number-constant c zero = refl
   number-constant c (suc i) = List·getD-map (λ x. pos 0) xs i []
 
-  number-zero : (i : ℕ) → numberOf xs zeroForm i ≡ pos 0
+  number-zero : (i : ℕ) → formNumber xs zeroForm i ≡ pos 0
   unfolding zeroForm constantForm
   number-zero zero = refl
   number-zero (suc i) = number-constant (pos 0) (suc i)
@@ -67,8 +67,8 @@ module _ (xs : List Bytes) where
   -- ---- a claim with an atom's sizes put in
 
   number-weighted : (row : ℕ → ℤ) (i : ℕ) (cs : List ℤ) (ts : Terms) (n : ℕ) → length cs ≡ arity ts → length cs ≤ n
-      → ((k : ℕ) → k < arity ts → row k ≡ numberOf xs (formOf structural (argument ts k)) i)
-      → sumBelow (λ k. getD cs k (pos 0) *ℤ row k) n ≡ numberOf xs (weightedForm structural cs ts) i
+      → ((k : ℕ) → k < arity ts → row k ≡ formNumber xs (formOf structural (argument ts k)) i)
+      → sumBelow (λ k. getD cs k (pos 0) *ℤ row k) n ≡ formNumber xs (weightedForm structural cs ts) i
   unfolding weightedForm argument arity
   number-weighted row i [] ts n full few rows = sum-none _ n (λ k less. zero-*ℤ (row k)) ∙ sym (number-zero i)
   number-weighted row i (c ∷ cs) nil n full few rows = absurd (omega arith)
@@ -80,8 +80,8 @@ module _ (xs : List Bytes) where
 
   pub number-claim : (weight row : ℕ → ℤ) (i : ℕ) (a : Atom) (c : Claim) → length (c .coefficients) ≡ arity (a .terms) → arity (a .terms) ≤ 8
       → weight 0 ≡ c .constant → ((k : ℕ) → k < 8 → weight (suc k) ≡ getD (c .coefficients) k (pos 0))
-      → ((k : ℕ) → k < arity (a .terms) → row k ≡ numberOf xs (formOf structural (argument (a .terms) k)) i)
-      → weighted weight row i ≡ numberOf xs (claimForm structural a c) i
+      → ((k : ℕ) → k < arity (a .terms) → row k ≡ formNumber xs (formOf structural (argument (a .terms) k)) i)
+      → weightedSum weight row i ≡ formNumber xs (claimForm structural a c) i
   unfolding claimForm
   number-claim weight row i a c full few constant coefficient rows =
       let first = ap (λ z. own z i) constant ∙ sym (number-constant (c .constant) i) in
@@ -90,14 +90,14 @@ module _ (xs : List Bytes) where
 
   -- ---- multipliers
 
-  pub number-combined : (ms : List ℕ) (fs : List Form) (i : ℕ) → numberOf xs (combined ms fs) i ≡ sumBelow (λ k. pos (getD ms k 0) *ℤ numberOf xs (getD fs k zeroForm) i) (length ms)
+  pub number-combined : (ms : List ℕ) (fs : List Form) (i : ℕ) → formNumber xs (combined ms fs) i ≡ sumBelow (λ k. pos (getD ms k 0) *ℤ formNumber xs (getD fs k zeroForm) i) (length ms)
   unfolding combined
   number-combined [] fs i = number-zero i ∙ sym (sum-none _ 0 (λ k less. absurd (omega arith)))
   number-combined (m ∷ ms) [] i = number-zero i ∙ sym (sum-none _ (length (m ∷ ms)) (λ k less. ap (λ z. pos (getD (m ∷ ms) k 0) *ℤ z) (number-zero i) ∙ *ℤ-zero (pos (getD (m ∷ ms) k 0))))
   number-combined (m ∷ ms) (f ∷ fs) i =
       number-plus (times (pos m) f) (combined ms fs) i
       ∙ (ap₂ _+ℤ_ (number-times (pos m) f i) (number-combined ms fs i)
-      ∙ sym (sum-first (λ k. pos (getD (m ∷ ms) k 0) *ℤ numberOf xs (getD (f ∷ fs) k zeroForm) i) (length ms)))
+      ∙ sym (sum-first (λ k. pos (getD (m ∷ ms) k 0) *ℤ formNumber xs (getD (f ∷ fs) k zeroForm) i) (length ms)))
 
 -- ---- the residual's numbers as they are listed
 
@@ -112,7 +112,7 @@ residual-length xs f =
     let all = f .constant ∷ map (f .coefficient) xs in
     length-take-le 17 (all ++ replicate 16 (pos 0)) (omega (arith, length-append all (replicate 16 (pos 0))))
 
-pub residual-number : (xs : List Bytes) (f : Form) (i : ℕ) → i < 17 → getD (residualNumbers xs f) i (pos 0) ≡ numberOf xs f i
+pub residual-number : (xs : List Bytes) (f : Form) (i : ℕ) → i < 17 → getD (residualNumbers xs f) i (pos 0) ≡ formNumber xs f i
 unfolding residualNumbers
 residual-number xs f i less =
     let all = f .constant ∷ map (f .coefficient) xs in

@@ -22,8 +22,8 @@ use Rattle.certificates.specs.Weights.{HeadWeighed}
 use Rattle.certificates.specs.Sums.{width, seen, rowsSum, ownPart, atomSum, atomsSum}
 use Rattle.certificates.specs.Multipliers.{weightAfter, ProgressM}
 use Rattle.certificates.proofs.Rows.{seen-count, seen-none, seen-constant, width-narrow, width-whole}
-use Rattle.certificates.proofs.WeightedSums.{sumBelow, sum-same, sum-none, sum-first, sum-minus, sum-one, own, weighted, weighted-same, weighted-none, weighted-minus, weighted-times}
-use Rattle.certificates.proofs.FormNumbers.{numberOf, coefficient-at, coefficient-beyond, number-minus, number-claim, number-combined}
+use Rattle.certificates.proofs.WeightedSums.{sumBelow, sum-same, sum-none, sum-first, sum-minus, sum-one, own, weightedSum, weighted-same, weighted-none, weighted-minus, weighted-times}
+use Rattle.certificates.proofs.FormNumbers.{formNumber, coefficient-at, coefficient-beyond, number-minus, number-claim, number-combined}
 
 -- argument k of an atom, at one place of its row, as it is looked at
 abbrev rowAt : List ℕ → ℕ → ℕ → ℕ → ℕ → ℤ
@@ -40,14 +40,14 @@ width-covers variables i high less = go (decLt 8 variables)
     go (yes many) = absurd (omega (arith, width-whole variables many))
     go (no few) = omega (arith, width-narrow variables (omega arith))
 
-row-number : (rows : List ℕ) (base : ℕ) (xs : List Bytes) (t : Term) (i : ℕ) → i < 17 → RowStands rows base xs t → pos (seen rows (width (length xs)) base i) ≡ numberOf xs (formOf structural t) i
+row-number : (rows : List ℕ) (base : ℕ) (xs : List Bytes) (t : Term) (i : ℕ) → i < 17 → RowStands rows base xs t → pos (seen rows (width (length xs)) base i) ≡ formNumber xs (formOf structural t) i
 row-number rows base xs t zero less row = ap pos (seen-constant rows (width (length xs)) base) ∙ row .constant
 row-number rows base xs t (suc i) less row = go (decLt i (length xs)) (decLt i (width (length xs)))
   where
     form : Bytes → ℤ
     form = formOf structural t .coefficient
 
-    go : Dec (i < length xs) → Dec (i < width (length xs)) → pos (seen rows (width (length xs)) base (suc i)) ≡ numberOf xs (formOf structural t) (suc i)
+    go : Dec (i < length xs) → Dec (i < width (length xs)) → pos (seen rows (width (length xs)) base (suc i)) ≡ formNumber xs (formOf structural t) (suc i)
     go (yes inside) (yes looked) = ap pos (seen-count rows (width (length xs)) base i looked) ∙ (row .coefficient i inside ∙ sym (coefficient-at form xs i inside))
     go (yes inside) (no not-looked) = absurd (omega (arith, width-covers (length xs) i (omega arith) (omega arith)))
     go (no past) (yes looked) = ap pos (seen-count rows (width (length xs)) base i looked ∙ row .beyond i (omega arith) (omega arith)) ∙ sym (coefficient-beyond form xs i (omega arith))
@@ -56,7 +56,7 @@ row-number rows base xs t (suc i) less row = go (decLt i (length xs)) (decLt i (
 -- a claim's numbers as the weights of an atom
 claim-number : (rows : List ℕ) (atom : ℕ) (xs : List Bytes) (a : Atom) (claims : List ℤ) (place : ℕ) (c : Claim) (i : ℕ) → i < 17
     → AtomStands rows atom xs (a .terms) → ClaimAt claims place c → length (c .coefficients) ≡ arity (a .terms)
-    → weighted (from claims place) (rowAt rows (length xs) atom i) i ≡ numberOf xs (claimForm structural a c) i
+    → weightedSum (from claims place) (rowAt rows (length xs) atom i) i ≡ formNumber xs (claimForm structural a c) i
 claim-number rows atom xs a claims place c i less stands numbered full =
     number-claim xs (from claims place) (rowAt rows (length xs) atom i) i a c full (stands .few)
     (same-place (elements claims) (place + 0) place (omega arith) ∙ numbered .constant)
@@ -77,7 +77,7 @@ module _ (weights : List ℤ) (rows : List ℕ) (variables : ℕ) where
       ap₂ _+ℤ_ (rows-sum atom i n) (ap (λ z. z *ℤ rowAt rows variables atom i n) (same-place (elements weights) (atom * 9 + 1 + n) (atom * 9 + suc n) (omega arith)))
 
   -- the weights may be known otherwise
-  atom-sum : (atom i : ℕ) (weight : ℕ → ℤ) → ((j : ℕ) → j < 9 → elements weights (atom * 9 + j) ≡ weight j) → atomSum weights rows (width variables) atom i ≡ weighted weight (rowAt rows variables atom i) i
+  atom-sum : (atom i : ℕ) (weight : ℕ → ℤ) → ((j : ℕ) → j < 9 → elements weights (atom * 9 + j) ≡ weight j) → atomSum weights rows (width variables) atom i ≡ weightedSum weight (rowAt rows variables atom i) i
   atom-sum atom i weight same = ap₂ _+ℤ_ (own-sum atom i) (rows-sum atom i 8) ∙ weighted-same _ weight (rowAt rows variables atom i) i same
 
   -- ---- all atoms
@@ -93,17 +93,17 @@ module _ (weights : List ℤ) (rows : List ℕ) (variables : ℕ) where
 -- ---- the subgoals
 
 -- a claim that is of this atom or of another one
-weighted-part : (b : Bool) (m : ℤ) (v row : ℕ → ℤ) (i : ℕ) → weighted (λ j. cond b (m *ℤ v j) (pos 0)) row i ≡ cond b (m *ℤ weighted v row i) (pos 0)
+weighted-part : (b : Bool) (m : ℤ) (v row : ℕ → ℤ) (i : ℕ) → weightedSum (λ j. cond b (m *ℤ v j) (pos 0)) row i ≡ cond b (m *ℤ weightedSum v row i) (pos 0)
 weighted-part true m v row i = weighted-times m v row i
 weighted-part false m v row i = weighted-none row i
 
 -- what a subgoal's weights come to after the first multipliers
 abbrev partAfter : List ℕ → ℕ → List ℤ → List ℕ → List Bytes → ℕ → ℕ → ℕ → ℤ
-partAfter rows variables claims slots fs i index s = weighted (λ j. weightAfter claims slots fs s j index) (rowAt rows variables (suc s) i) i
+partAfter rows variables claims slots fs i index s = weightedSum (λ j. weightAfter claims slots fs s j index) (rowAt rows variables (suc s) i) i
 
 -- a multiplier times its form
 abbrev taken : List Claim → List Atom → List Bytes → List Bytes → ℕ → ℕ → ℤ
-taken cs subgoals xs fs i k = pos (multiplierFrom (at fs k)) *ℤ numberOf xs (getD (subgoalForms structural cs subgoals) k zeroForm) i
+taken cs subgoals xs fs i k = pos (multiplierFrom (at fs k)) *ℤ formNumber xs (getD (subgoalForms structural cs subgoals) k zeroForm) i
 
 module _ (rows : List ℕ) (claims : List ℤ) (slots : List ℕ) (cs : List Claim) (subgoals : List Atom) (xs fs : List Bytes) (i : ℕ) (less : i < 17)
     (stand : (s : ℕ) → s < length subgoals → AtomStands rows (suc s) xs (subgoalAt subgoals s .terms)) where
@@ -112,8 +112,8 @@ module _ (rows : List ℕ) (claims : List ℤ) (slots : List ℕ) (cs : List Cla
   unfolding weightAfter
   subgoal-step k slot =
       sum-same _ _ (length subgoals) (λ s below. weighted-minus (old s) (λ j. cond (eqb subgoal s) (m *ℤ claim j) (pos 0)) (row s) i ∙ ap (λ z. partAfter rows (length xs) claims slots fs i k s -ℤ z) (weighted-part (eqb subgoal s) m claim (row s) i))
-      ∙ (sum-minus (partAfter rows (length xs) claims slots fs i k) (λ s. cond (eqb subgoal s) (m *ℤ weighted claim (row s) i) (pos 0)) (length subgoals)
-      ∙ ap (λ z. sumBelow (partAfter rows (length xs) claims slots fs i k) (length subgoals) -ℤ z) (sum-one (λ s. m *ℤ weighted claim (row s) i) subgoal (length subgoals) (slot .subgoal) ∙ ap (λ z. m *ℤ z) form))
+      ∙ (sum-minus (partAfter rows (length xs) claims slots fs i k) (λ s. cond (eqb subgoal s) (m *ℤ weightedSum claim (row s) i) (pos 0)) (length subgoals)
+      ∙ ap (λ z. sumBelow (partAfter rows (length xs) claims slots fs i k) (length subgoals) -ℤ z) (sum-one (λ s. m *ℤ weightedSum claim (row s) i) subgoal (length subgoals) (slot .subgoal) ∙ ap (λ z. m *ℤ z) form))
     where
       subgoal : ℕ
       subgoal = getD slots (128 + k) 0
@@ -130,9 +130,9 @@ module _ (rows : List ℕ) (claims : List ℤ) (slots : List ℕ) (cs : List Cla
       old : ℕ → ℕ → ℤ
       old s j = weightAfter claims slots fs s j k
 
-      form : weighted claim (row subgoal) i ≡ numberOf xs (getD (subgoalForms structural cs subgoals) k zeroForm) i
+      form : weightedSum claim (row subgoal) i ≡ formNumber xs (getD (subgoalForms structural cs subgoals) k zeroForm) i
       form = claim-number rows (suc subgoal) xs (subgoalAt subgoals subgoal) claims (getD slots k 0) _ i less (stand subgoal (slot .subgoal)) (slot .claim) (slot .full)
-          ∙ sym (ap (λ f. numberOf xs f i) (slot .form))
+          ∙ sym (ap (λ f. formNumber xs f i) (slot .form))
 
   subgoal-sums : (index : ℕ) → ((k : ℕ) → k < index → SlotStands claims slots cs subgoals k)
       → sumBelow (partAfter rows (length xs) claims slots fs i index) (length subgoals) ≡ negℤ (sumBelow (taken cs subgoals xs fs i) index)
@@ -146,12 +146,12 @@ module _ (rows : List ℕ) (claims : List ℤ) (slots : List ℕ) (cs : List Cla
 -- ---- the line
 
 all-taken : (cs : List Claim) (subgoals : List Atom) (xs fs : List Bytes) (i : ℕ)
-    → numberOf xs (combined (map multiplierFrom fs) (subgoalForms structural cs subgoals)) i ≡ sumBelow (taken cs subgoals xs fs i) (length fs)
+    → formNumber xs (combined (map multiplierFrom fs) (subgoalForms structural cs subgoals)) i ≡ sumBelow (taken cs subgoals xs fs i) (length fs)
 unfolding natural isDecimal
 all-taken cs subgoals xs fs i =
     number-combined xs (map multiplierFrom fs) (subgoalForms structural cs subgoals) i
     ∙ (ap (sumBelow _) (length-map fs multiplierFrom)
-    ∙ sum-same _ (taken cs subgoals xs fs i) (length fs) (λ k less. ap (λ m. pos m *ℤ numberOf xs (getD (subgoalForms structural cs subgoals) k zeroForm) i) (List·getD-map multiplierFrom fs k [])))
+    ∙ sum-same _ (taken cs subgoals xs fs i) (length fs) (λ k less. ap (λ m. pos m *ℤ formNumber xs (getD (subgoalForms structural cs subgoals) k zeroForm) i) (List·getD-map multiplierFrom fs k [])))
 
 module _ (t : Tables) (s : State) (p : Pack) (r : Rule) (fs : List Bytes) (weights₀ weights : List ℤ) (place : ℕ) (c : Claim)
     (stands : RuleStands t s p r) (few : length (r .subgoals) ≤ 8)
@@ -160,7 +160,7 @@ module _ (t : Tables) (s : State) (p : Pack) (r : Rule) (fs : List Bytes) (weigh
   abbrev xs : List Bytes
   xs = ruleVariables (r .head) (r .subgoals)
 
-  head-number : (i : ℕ) → i < 17 → atomSum weights (t .rows) (width (length xs)) 0 i ≡ numberOf xs (claimForm structural (r .head) c) i
+  head-number : (i : ℕ) → i < 17 → atomSum weights (t .rows) (width (length xs)) 0 i ≡ formNumber xs (claimForm structural (r .head) c) i
   head-number i less =
       atom-sum weights (t .rows) (length xs) 0 i (from (t .claims) place) (λ j below. same-place (elements weights) (0 * 9 + j) j (omega arith) ∙ head .weight j below)
       ∙ claim-number (t .rows) 0 xs (r .head) (t .claims) place c i less (stands .headRows) due full
@@ -172,7 +172,7 @@ module _ (t : Tables) (s : State) (p : Pack) (r : Rule) (fs : List Bytes) (weigh
       (λ a below. atom-sum weights (t .rows) (length xs) (suc a) i _ (λ j low. head .above (suc a * 9 + j) (omega arith) ∙ progress .weight a j (omega arith) low))
       ∙ subgoal-sums (t .rows) (t .claims) (t .slots) (p .claims) (r .subgoals) xs fs i less (stands .subgoalRows) (length fs) (λ k below. stands .slot k (omega arith)))
 
-  pub line-number : (i : ℕ) → i < 17 → atomsSum weights (t .rows) (width (s .variables)) i (suc (s .subgoals)) ≡ numberOf xs (residual structural (p .claims) (r .head) (r .subgoals) c (map multiplierFrom fs)) i
+  pub line-number : (i : ℕ) → i < 17 → atomsSum weights (t .rows) (width (s .variables)) i (suc (s .subgoals)) ≡ formNumber xs (residual structural (p .claims) (r .head) (r .subgoals) c (map multiplierFrom fs)) i
   unfolding residual
   line-number i less =
       let forms = combined (map multiplierFrom fs) (subgoalForms structural (p .claims) (r .subgoals)) in

@@ -24,8 +24,8 @@ abbrev pub weightOf : List ℤ → ℕ → ℕ → ℤ
 weightOf weights atom k = elements weights (atom * 9 + 1 + k)
 
 -- what the row adds to the number at place i
-abbrev part : List ℤ → List ℕ → ℕ → ℕ → ℕ → ℕ → ℤ
-part weights rows width atom k i = weightOf weights atom k *ℤ pos (seen rows width (rowPlace atom k) i)
+abbrev rowShare : List ℤ → List ℕ → ℕ → ℕ → ℕ → ℕ → ℤ
+rowShare weights rows width atom k i = weightOf weights atom k *ℤ pos (seen rows width (rowPlace atom k) i)
 
 -- the sum of the first atoms, the next one's weight for the constant and its first k rows
 pub record RowsAdded (weights : List ℤ) (rows : List ℕ) (width atom : ℕ) (f : Form) (k : ℕ) : Type 0 where
@@ -66,15 +66,15 @@ module _ {weights : List ℤ} {rows : List ℕ} {atom : ℕ} (safe : Summable we
     seen-below : (i : ℕ) → seen rows width (rowPlace atom k) i ≤ 2 ^ 16
     seen-below i = omega (arith, seen-small (safe .row) width (rowPlace atom k) i)
 
-    part-small : (i : ℕ) → natAbs (part weights rows width atom k i) ≤ 2 ^ 50
-    part-small i = omega (arith, natAbs-mul (weightOf weights atom k) (pos (seen rows width (rowPlace atom k) i)), mul-le-mul weight-small (seen-below i))
+    share-small : (i : ℕ) → natAbs (rowShare weights rows width atom k i) ≤ 2 ^ 50
+    share-small i = omega (arith, natAbs-mul (weightOf weights atom k) (pos (seen rows width (rowPlace atom k) i)), mul-le-mul weight-small (seen-below i))
 
-    rows-more : {r : Form} → ((i : ℕ) → i < 17 → numberAt r i ≡ numberAt f i +ℤ part weights rows width atom k i) → RowsAdded weights rows width atom r (k + 1)
+    rows-more : {r : Form} → ((i : ℕ) → i < 17 → numberAt r i ≡ numberAt f i +ℤ rowShare weights rows width atom k i) → RowsAdded weights rows width atom r (k + 1)
     unfolding rowsSum
     rows-more step =
         record {
           number = λ i h. rw (add-one k, step i h, added .number i h, +ℤ-assoc (atomsSum weights rows width i atom), +ℤ-assoc (ownPart weights atom i));
-          small = λ i h. rw (step i h) (omega (arith, natAbs-add (numberAt f i) (part weights rows width atom k i), added .small i h, part-small i));
+          small = λ i h. rw (step i h) (omega (arith, natAbs-add (numberAt f i) (rowShare weights rows width atom k i), added .small i h, share-small i));
         }
 
     -- a weight whose bits are 0 adds nothing

@@ -65,8 +65,8 @@ own c zero = c
 own c (suc i) = pos 0
 
 -- at one place: the weight of the constant, and eight rows times their weights
-abbrev pub weighted : (ℕ → ℤ) → (ℕ → ℤ) → ℕ → ℤ
-weighted weight row i = own (weight 0) i +ℤ sumBelow (λ k. weight (suc k) *ℤ row k) 8
+abbrev pub weightedSum : (ℕ → ℤ) → (ℕ → ℤ) → ℕ → ℤ
+weightedSum weight row i = own (weight 0) i +ℤ sumBelow (λ k. weight (suc k) *ℤ row k) 8
 
 own-minus : (c d : ℤ) (i : ℕ) → own (c -ℤ d) i ≡ own c i -ℤ own d i
 own-minus c d zero = refl
@@ -80,22 +80,22 @@ own-none : (i : ℕ) → own (pos 0) i ≡ pos 0
 own-none zero = refl
 own-none (suc i) = refl
 
-pub weighted-same : (u v row : ℕ → ℤ) (i : ℕ) → ((j : ℕ) → j < 9 → u j ≡ v j) → weighted u row i ≡ weighted v row i
+pub weighted-same : (u v row : ℕ → ℤ) (i : ℕ) → ((j : ℕ) → j < 9 → u j ≡ v j) → weightedSum u row i ≡ weightedSum v row i
 weighted-same u v row i same =
     ap₂ _+ℤ_ (ap (λ c. own c i) (same 0 (omega arith))) (sum-same _ _ 8 (λ k less. ap (λ z. z *ℤ row k) (same (suc k) (omega arith))))
 
-pub weighted-none : (row : ℕ → ℤ) (i : ℕ) → weighted (λ j. pos 0) row i ≡ pos 0
+pub weighted-none : (row : ℕ → ℤ) (i : ℕ) → weightedSum (λ j. pos 0) row i ≡ pos 0
 weighted-none row i = ap₂ _+ℤ_ (own-none i) (sum-none _ 8 (λ k less. zero-*ℤ (row k)))
 
 minus-*ℤ : (a b c : ℤ) → (a -ℤ b) *ℤ c ≡ a *ℤ c -ℤ b *ℤ c
 minus-*ℤ = by-diff₃ _ λ p n q m r o. simp to-diff (diff-eq _ _ _ _ (omega arith))
 
-pub weighted-minus : (u v row : ℕ → ℤ) (i : ℕ) → weighted (λ j. u j -ℤ v j) row i ≡ weighted u row i -ℤ weighted v row i
+pub weighted-minus : (u v row : ℕ → ℤ) (i : ℕ) → weightedSum (λ j. u j -ℤ v j) row i ≡ weightedSum u row i -ℤ weightedSum v row i
 weighted-minus u v row i =
     let rows = sum-same _ _ 8 (λ k less. minus-*ℤ (u (suc k)) (v (suc k)) (row k)) ∙ sum-minus (λ k. u (suc k) *ℤ row k) (λ k. v (suc k) *ℤ row k) 8 in
     ap₂ _+ℤ_ (own-minus (u 0) (v 0) i) rows ∙ sym (-ℤ-middle (own (u 0) i) _ (own (v 0) i) _)
 
-pub weighted-times : (m : ℤ) (v row : ℕ → ℤ) (i : ℕ) → weighted (λ j. m *ℤ v j) row i ≡ m *ℤ weighted v row i
+pub weighted-times : (m : ℤ) (v row : ℕ → ℤ) (i : ℕ) → weightedSum (λ j. m *ℤ v j) row i ≡ m *ℤ weightedSum v row i
 weighted-times m v row i =
     let rows = sum-same _ _ 8 (λ k less. *ℤ-assoc m (v (suc k)) (row k)) ∙ sum-times m (λ k. v (suc k) *ℤ row k) 8 in
     ap₂ _+ℤ_ (own-times m (v 0) i) rows ∙ sym (*ℤ-distrib-left m (own (v 0) i) _)

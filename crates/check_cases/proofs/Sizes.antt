@@ -22,9 +22,9 @@ unfolding diff
 from-minus-one (pos n) e = absurd (omega (arith, ltb-lt n 0 e))
 from-minus-one (negsuc n) e = sym (pos-diff n (suc n) 1 (omega arith))
 
-one-more : (z : ℤ) → ltZ z (pos 0) ≡ true → mag z + 1 ≡ natAbs z
-one-more (pos n) e = absurd (omega (arith, ltb-lt n 0 e))
-one-more (negsuc n) e = omega arith
+negative-size : (z : ℤ) → ltZ z (pos 0) ≡ true → mag z + 1 ≡ natAbs z
+negative-size (pos n) e = absurd (omega (arith, ltb-lt n 0 e))
+negative-size (negsuc n) e = omega arith
 
 module _ (z : ℤ) (fits : SFits w64 z) where
   same : kept z ≡ z
@@ -50,4 +50,4 @@ module _ (z : ℤ) (fits : SFits w64 z) where
     sum-fits = rw rest-same record { fits = omega (arith, fits .sfits) }
 
     pub size-is : natAbs (kept (negsuc 0 -ℤ kept z)) + 1 ≡ natAbs z
-    size-is = rw rest-same (one-more z (rw same at below))
+    size-is = rw rest-same (negative-size z (rw same at below))

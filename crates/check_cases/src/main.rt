@@ -78,8 +78,8 @@ fn run_case(input: &[u8], at: usize) -> usize
     requires { ⌜ at < length (now input) ⌝ }
     ensures { λ r. ⌜ at < r ⌝ }
 {
-    let end = text::find(input, 10, at);
-    let comma = text::find(input, 44, at);
+    let end = text::find(input, b'\n', at);
+    let comma = text::find(input, b',', at);
     if end <= comma {
         return input.len();
     }

@@ -13,11 +13,11 @@ use mir.Syntax.{w16}
 use mir.Val.{SFits, toZ, ofZ}
 use Rattle.groundwork.proofs.Truth.{never-both}
 use Rattle.widths.proofs.Kept.{small-fits}
+use Rattle.groundwork.proofs.Stretches.{replaced}
 use Rattle.theory.specs.Lists.{isSome}
 use Rattle.theory.specs.Text.{Bytes, integer}
 use Rattle.theory.specs.Faults.{isClaimNumber}
 use Rattle.theory.proofs.Reading.Spelling.{integer-within}
-use Rattle.theory.proofs.Reading.Places.{replaced}
 use Rattle.text.specs.declared.Integer.{Integer}
 use Rattle.text.specs.declared.Integer.the-variants.{Signed, NoInteger}
 use Rattle.text.specs.Numbers.{integerOf}

@@ -12,6 +12,7 @@ use lib.ListN.{length, getD, set, drop, length-set, length-map, length-drop}
 use lib.Seq.{getD-set-other}
 use Rattle.groundwork.proofs.Truth.{leb-gt}
 use Rattle.groundwork.proofs.Lists.{length-end}
+use Rattle.groundwork.proofs.Stretches.{replaced}
 use Rattle.theory.specs.Lists.{every}
 use Rattle.theory.specs.Text.{Bytes, integer, fieldsOf}
 use Rattle.theory.specs.Packs.{claimKey, claimsOn, claimLimit, numberLimit}
@@ -19,7 +20,7 @@ use Rattle.theory.specs.declared.Letter.the-variants.{C}
 use Rattle.theory.specs.Written.{Written, claimFrom, integerFrom, add}
 use Rattle.theory.specs.Faults.{isClaimNumber, firstOf, claimTests, tests, fault}
 use Rattle.theory.proofs.Reading.Presence.{some-is, is-empty, filled-is}
-use Rattle.theory.proofs.Reading.Places.{replaced, places-every, not-every}
+use Rattle.theory.proofs.Reading.Places.{places-every, not-every}
 use Rattle.theory.proofs.Judging.Sections.{claims-stand}
 use Rattle.theory.proofs.Judging.LineWriting.{writes-letter}
 use Rattle.tables.specs.declared.State.{State}

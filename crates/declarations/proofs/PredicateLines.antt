@@ -10,6 +10,7 @@ use lib.ListN.{length, getD, set, drop, length-set}
 use lib.Seq.{getD-set-other, getD-drop}
 use Rattle.groundwork.proofs.Truth.{and-left, and-right, and-both, and-not-left, and-not-right, leb-gt}
 use Rattle.groundwork.proofs.Lists.{length-end}
+use Rattle.groundwork.proofs.Stretches.{replaced}
 use Rattle.theory.specs.Lists.{isSome, isEmpty}
 use Rattle.theory.specs.Text.{Bytes, natural, fieldsOf}
 use Rattle.theory.specs.Packs.{predicateLimit}
@@ -17,7 +18,6 @@ use Rattle.theory.specs.declared.Letter.the-variants.{P}
 use Rattle.theory.specs.Written.{Written, predicateFrom, add, field}
 use Rattle.theory.specs.Faults.{isKind, firstOf, predicateTests, tests, fault}
 use Rattle.theory.proofs.Reading.Presence.{some-is, is-empty}
-use Rattle.theory.proofs.Reading.Places.{replaced}
 use Rattle.theory.proofs.Judging.Sections.{predicates-stand}
 use Rattle.theory.proofs.Judging.LineWriting.{writes-letter}
 use Rattle.text.specs.Words.{wordsOf}
@@ -80,16 +80,16 @@ p-left : (line : Bytes) (s : State) (w : Written) (o : Opened) → Passed P line
 unfolding firstOf tests predicateTests
 p-left line s w o passed = rw (getD-drop 2 (fieldsOf line) 0 [], getD-drop 2 (fieldsOf line) 1 []) (passed .left)
 
-not-both : (index : ℕ) → index < 2 → (fs : List Bytes) → goodAt index (at fs index) ≡ false → (goodAt 0 (at fs 0) && goodAt 1 (at fs 1)) ≡ false
-not-both zero less fs bad = and-not-left (goodAt 0 (at fs 0)) (goodAt 1 (at fs 1)) bad
-not-both (suc zero) less fs bad = and-not-right (goodAt 0 (at fs 0)) (goodAt 1 (at fs 1)) bad
-not-both (suc (suc index)) less fs bad = absurd (omega arith)
+either-bad : (index : ℕ) → index < 2 → (fs : List Bytes) → goodAt index (at fs index) ≡ false → (goodAt 0 (at fs 0) && goodAt 1 (at fs 1)) ≡ false
+either-bad zero less fs bad = and-not-left (goodAt 0 (at fs 0)) (goodAt 1 (at fs 1)) bad
+either-bad (suc zero) less fs bad = and-not-right (goodAt 0 (at fs 0)) (goodAt 1 (at fs 1)) bad
+either-bad (suc (suc index)) less fs bad = absurd (omega arith)
 
 pub p-fault : (line : Bytes) (s : State) (w : Written) (o : Opened) (index many : ℕ) (small₀ small : List ℕ) (r : Fielding) (f : Fault) → Passed P line s w o → index < 2 → FieldP index (at (drop 2 (fieldsOf line)) index) many small₀ r small → r ≡ Misread f → fault w line ≡ numberOf f
 p-fault line s w o index many small₀ small r f passed less done is =
     let fs = drop 2 (fieldsOf line) in
     let failed = field-fails many Number (goodAt index (at fs index)) (answer index less done) is in
-    rw (p-left line s w o passed, not-both index less fs (failed .0)) (ap numberOf (failed .1))
+    rw (p-left line s w o passed, either-bad index less fs (failed .0)) (ap numberOf (failed .1))
 
 -- ---- what a line adds
 

@@ -1,17 +1,13 @@
 -- For callers: the code's operations on forms that stand for the definitions' forms give what stands for the definitions' operations.
-use mathlib.Core.Bool.{Bool}
-use mathlib.Core.List.{List, []}
-use Prim.Native.Nat.{ℕ, _≤_}
+use mathlib.Core.List.{List}
+use Prim.Native.Nat.{_≤_}
 use native.Mathlib.Omega.{arith}
-use lib.IntN.{ℤ, natAbs, *ℤ-zero}
-use lib.ListN.{length, getD}
-use lib.Dec.{ltb}
-use Rattle.groundwork.proofs.Truth.{by-truth, ltb-lt, ltb-ge}
+use lib.IntN.{ℤ, *ℤ-zero}
+use lib.ListN.{length}
 use Rattle.theory.specs.Text.{Bytes}
 use Rattle.theory.specs.Forms.{Form as NamedForm, zeroForm, plus as plusNamed, times as timesNamed}
-use Rattle.theory.proofs.Soundness.FormBounds.{Within as WithinNamed}
 use Rattle.forms.specs.declared.Form.{Form}
-use Rattle.forms.specs.Sums.{at, Within, Zero, Sum, Multiple, StandsFor}
+use Rattle.forms.specs.Sums.{Zero, Sum, Multiple, StandsFor}
 
 module _ {xs : List Bytes} where
   pub stands-zero : {r : Form} → length xs ≤ 16 → Zero r → StandsFor xs zeroForm r
@@ -42,14 +38,4 @@ module _ {xs : List Bytes} where
         constant = rw (multiple .constant, form .constant);
         coefficient = λ i known. rw (multiple .coefficient i (omega arith), form .coefficient i known);
         beyond = λ i unknown less. rw (multiple .coefficient i less, form .beyond i unknown less) (*ℤ-zero k);
-      }
-
-  pub stands-within : {bound : ℕ} {f : NamedForm} {r : Form} → StandsFor xs f r → WithinNamed bound f → Within bound r
-  stands-within {bound} {f} {r} form within =
-      record {
-        constant = rw (form .constant) (within .constant);
-        coefficient =
-            λ i less. by-truth (λ (b : Bool). natAbs (at r i) ≤ bound) (ltb i (length xs))
-            (λ known. rw (form .coefficient i (ltb-lt i (length xs) known)) (within .coefficient (getD xs i [])))
-            (λ unknown. rw (form .beyond i (ltb-ge i (length xs) unknown) less) (omega arith));
       }

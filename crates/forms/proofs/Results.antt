@@ -70,8 +70,8 @@ module _ {f : Form} (k : ℤ) (small : Within (2 ^ 24) f × natAbs k ≤ 2 ^ 36)
 -- ---- arrays
 
 -- the elements below i are a rule's, and so are those below i + 1 after a store at i of the rule's number there
-pub one-more : (rule : ℕ → ℤ) (s : List ℤ) (i : ℕ) (z : ℤ) → i < length s → ((j : ℕ) → j < i → getD s j (pos 0) ≡ rule j) → z ≡ rule i → (j : ℕ) → j < i + 1 → getD (set s i z) j (pos 0) ≡ rule j
-one-more rule s i z within below here =
+pub rule-more : (rule : ℕ → ℤ) (s : List ℤ) (i : ℕ) (z : ℤ) → i < length s → ((j : ℕ) → j < i → getD s j (pos 0) ≡ rule j) → z ≡ rule i → (j : ℕ) → j < i + 1 → getD (set s i z) j (pos 0) ≡ rule j
+rule-more rule s i z within below here =
     below-more (λ (j : ℕ). getD (set s i z) j (pos 0) ≡ rule j) i
     (λ j less. getD-set-other s i j z (pos 0) (λ same. omega arith) ∙ below j less)
     (getD-set-same s i z (pos 0) within ∙ here)

@@ -1,9 +1,7 @@
 -- How large sums and products of integers are, by `natAbs`: what a signed width asks.
 use mathlib.Core.Path.{_≡_, refl}
-use mathlib.Core.List.{List, [], _∷_, List·Memᴰ, List·Memᴰ·head, List·Memᴰ·tail}
 use Prim.Native.Nat.{ℕ, zero, suc, _+_, _*_, _≤_}
 use native.Mathlib.Omega.{arith}
-use lib.ListN.{length}
 use lib.IntN.{ℤ, pos, negsuc, negℤ, natAbs, _+ℤ_, _-ℤ_, _*ℤ_}
 use lib.Signed.{mag}
 use Rattle.groundwork.proofs.Difference.{diff, diff-ind}
@@ -36,15 +34,3 @@ natAbs-mul (negsuc a) (negsuc b) = refl
 pub mag-le-natAbs : (a : ℤ) → mag a ≤ natAbs a
 mag-le-natAbs (pos n) = omega arith
 mag-le-natAbs (negsuc n) = omega arith
-
--- ---- sums of lists
-
-unfoldable pub sumℤ : List ℤ → ℤ
-sumℤ [] = pos 0
-sumℤ (z ∷ zs) = z +ℤ sumℤ zs
-
-pub natAbs-sum : (zs : List ℤ) (bound : ℕ) → ((z : ℤ) → List·Memᴰ z zs → natAbs z ≤ bound) → natAbs (sumℤ zs) ≤ length zs * bound
-unfolding sumℤ
-natAbs-sum [] bound h = omega arith
-natAbs-sum (z ∷ zs) bound h =
-    omega (arith, natAbs-add z (sumℤ zs), h z (List·Memᴰ·head refl), natAbs-sum zs bound (λ y m. h y (List·Memᴰ·tail m)))

@@ -1,22 +1,19 @@
 -- The order on the integers; "z is at least 0" is `pos 0 ≤ℤ z`. And floor division as an order.
 use mathlib.Core.Path.{_≡_, refl}
 use mathlib.Core.Logic.{_↔_}
-use mathlib.Core.Bool.{true, false}
+use mathlib.Core.Bool.{true}
 use Prim.Native.Nat.{ℕ, suc, _*_, _/_, _≤_, _<_}
 use native.Mathlib.Nat.{le-div-iff-mul-le}
 use native.Mathlib.Omega.{arith}
 use lib.IntN.{ℤ, pos, negsuc, _+ℤ_, _-ℤ_, _*ℤ_}
 use lib.Signed.{_≤ℤ_, nonNeg, yes-nonNeg}
 use Rattle.groundwork.proofs.Truth.{true-from, never-both}
-use Rattle.groundwork.proofs.Difference.{diff-eq, to-diff, by-naturals, by-diff₂, by-diff₃, by-diff₄}
+use Rattle.groundwork.proofs.Difference.{to-diff, by-naturals, by-diff₂, by-diff₃, by-diff₄}
 
 -- ---- the order itself (≤ℤ-refl is the kit's)
 
 pub ≤ℤ-trans : {a b c : ℤ} → a ≤ℤ b → b ≤ℤ c → a ≤ℤ c
 ≤ℤ-trans {a} {b} {c} = by-diff₃ (λ x y z. x ≤ℤ y → y ≤ℤ z → x ≤ℤ z) (λ p n q m r o. omega by-naturals) a b c
-
-pub ≤ℤ-antisym : {a b : ℤ} → a ≤ℤ b → b ≤ℤ a → a ≡ b
-≤ℤ-antisym {a} {b} = by-diff₂ (λ x y. x ≤ℤ y → y ≤ℤ x → x ≡ y) (λ p n q m h k. diff-eq _ _ _ _ (omega by-naturals)) a b
 
 pub +ℤ-mono : {a b c d : ℤ} → a ≤ℤ b → c ≤ℤ d → (a +ℤ c) ≤ℤ (b +ℤ d)
 +ℤ-mono {a} {b} {c} {d} = by-diff₄ (λ x y z w. x ≤ℤ y → z ≤ℤ w → (x +ℤ z) ≤ℤ (y +ℤ w)) (λ p n q m r o s t. simp to-diff (omega by-naturals)) a b c d
@@ -50,10 +47,6 @@ nonneg-test (negsuc n) e = never-both e refl
 
 pub test-nonneg : (z : ℤ) → pos 0 ≤ℤ z → nonNeg z ≡ true
 test-nonneg z h = true-from (nonNeg z) (yes-nonNeg h)
-
-pub test-negative : (z : ℤ) → (pos 0 ≤ℤ z → ⊥) → nonNeg z ≡ false
-test-negative (pos n) f = absurd (f (nonneg-pos n))
-test-negative (negsuc n) f = refl
 
 -- ---- floor division
 

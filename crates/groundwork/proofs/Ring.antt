@@ -2,7 +2,7 @@
 use mathlib.Core.Path.{_≡_}
 use native.Mathlib.Omega.{arith}
 use lib.IntN.{ℤ, negsuc, negℤ, _+ℤ_, _-ℤ_, _*ℤ_}
-use Rattle.groundwork.proofs.Difference.{diff-eq, to-diff, by-diff, by-diff₂, by-diff₃, by-diff₄}
+use Rattle.groundwork.proofs.Difference.{diff-eq, to-diff, by-diff, by-diff₃, by-diff₄}
 
 -- ---- the product
 
@@ -15,19 +15,10 @@ pub *ℤ-distrib-right : (a b c : ℤ) → (a +ℤ b) *ℤ c ≡ a *ℤ c +ℤ b
 pub *ℤ-assoc : (a b c : ℤ) → (a *ℤ b) *ℤ c ≡ a *ℤ (b *ℤ c)
 *ℤ-assoc = by-diff₃ _ λ p n q m r o. simp to-diff (diff-eq _ _ _ _ (omega arith))
 
-pub *ℤ-left-comm : (a b c : ℤ) → a *ℤ (b *ℤ c) ≡ b *ℤ (a *ℤ c)
-*ℤ-left-comm = by-diff₃ _ λ p n q m r o. simp to-diff (diff-eq _ _ _ _ (omega arith))
-
 -- ---- negation
 
 pub neg-as-times : (a : ℤ) → negℤ a ≡ negsuc 0 *ℤ a
 neg-as-times = by-diff _ λ p n. simp to-diff (diff-eq _ _ _ _ (omega arith))
-
-pub *ℤ-neg : (a b : ℤ) → a *ℤ negℤ b ≡ negℤ (a *ℤ b)
-*ℤ-neg = by-diff₂ _ λ p n q m. simp to-diff (diff-eq _ _ _ _ (omega arith))
-
-pub *ℤ-distrib-minus : (a b c : ℤ) → a *ℤ (b -ℤ c) ≡ a *ℤ b -ℤ a *ℤ c
-*ℤ-distrib-minus = by-diff₃ _ λ p n q m r o. simp to-diff (diff-eq _ _ _ _ (omega arith))
 
 -- ---- sums of sums
 
@@ -36,7 +27,3 @@ pub +ℤ-middle : (a b c d : ℤ) → (a +ℤ b) +ℤ (c +ℤ d) ≡ (a +ℤ c) 
 
 pub -ℤ-middle : (a b c d : ℤ) → (a +ℤ b) -ℤ (c +ℤ d) ≡ (a -ℤ c) +ℤ (b -ℤ d)
 -ℤ-middle = by-diff₄ _ λ p n q m r o s t. simp to-diff (diff-eq _ _ _ _ (omega arith))
-
--- lets simp sort a sum, with the kit's +ℤ-assoc and +ℤ-comm
-pub +ℤ-left-comm : (a b c : ℤ) → a +ℤ (b +ℤ c) ≡ b +ℤ (a +ℤ c)
-+ℤ-left-comm = by-diff₃ _ λ p n q m r o. simp to-diff (diff-eq _ _ _ _ (omega arith))

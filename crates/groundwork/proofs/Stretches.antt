@@ -1,4 +1,4 @@
--- Loops that store into a stretch of an array, one element each turn.
+-- A store into a list, and loops that store into a stretch of an array, one element each turn.
 use mathlib.Core.Path.{_≡_, refl, _∙_}
 use mathlib.Core.List.{List, [], _∷_}
 use Prim.Native.Nat.{ℕ, zero, suc, _+_, _≤_, _<_}
@@ -8,6 +8,24 @@ use borrow.Author.Count.{below-none, below-more}
 use lib.IntN.{ℤ, pos}
 use lib.ListN.{length, getD, set, length-set}
 use lib.Seq.{getD-set-same, getD-set-other}
+
+-- ---- one store, at a place of the list or past its end
+
+module _ {A : Type 0} where
+  -- what holds of an element and of the one that replaces it
+  pub replaced : (P : A → Type 0) (l : List A) (i j : ℕ) (a d : A) → P a → P (getD l j d) → P (getD (set l i a) j d)
+  replaced P [] i j a d new old = old
+  replaced P (x ∷ l) zero zero a d new old = new
+  replaced P (x ∷ l) zero (suc j) a d new old = old
+  replaced P (x ∷ l) (suc i) zero a d new old = old
+  replaced P (x ∷ l) (suc i) (suc j) a d new old = replaced P l i j a d new old
+
+  pub default-stored : (d : A) (l : List A) (i : ℕ) → getD (set l i d) i d ≡ d
+  default-stored d [] i = refl
+  default-stored d (x ∷ l) zero = refl
+  default-stored d (x ∷ l) (suc i) = default-stored d l i
+
+-- ---- a stretch of stores
 
 -- the first i elements of the stretch from start on are a rule's, and all the others are as they were
 pub record Stored {A : Type 0} (d : A) (rule : ℕ → A) (start : ℕ) (before after : List A) (i : ℕ) : Type 0 where
@@ -53,11 +71,5 @@ from s place j = elements s (place + j)
 abbrev pub zeros : ℕ → ℤ
 zeros j = pos 0
 
--- after its end too a list has zeros
-zero-stored : (s : List ℤ) (i : ℕ) → elements (set s i (pos 0)) i ≡ pos 0
-zero-stored [] i = refl
-zero-stored (x ∷ s) zero = refl
-zero-stored (x ∷ s) (suc i) = zero-stored s i
-
 pub zeros-more : {start : ℕ} {before after : List ℤ} {i : ℕ} (index : ℕ) → Stored (pos 0) zeros start before after i → index ≡ start + i → Stored (pos 0) zeros start before (set after index (pos 0)) (i + 1)
-zeros-more {after = after} index stored e = stored-next index (pos 0) stored e (zero-stored after index)
+zeros-more {after = after} index stored e = stored-next index (pos 0) stored e (default-stored (pos 0) after index)

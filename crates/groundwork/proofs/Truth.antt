@@ -18,10 +18,6 @@ true-from false t = absurd t
 pub holds-from : (b : Bool) → b ≡ true → T b
 holds-from b e = subst T (sym e) tt
 
-pub false-from : (b : Bool) → T (not b) → b ≡ false
-false-from true t = absurd t
-false-from false t = refl
-
 pub fails-from : (b : Bool) → b ≡ false → T (not b)
 fails-from b e = subst (λ (c : Bool). T (not c)) (sym e) tt
 

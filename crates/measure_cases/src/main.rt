@@ -14,7 +14,7 @@ fn measure_lines(input: &[u8]) {
     let n = input.len();
     let mut at: usize = 0;
     while at < n {
-        let end = text::find(input, 10, at);
+        let end = text::find(input, b'\n', at);
         show(answers::measured_of(terms::measure(&input[at..end])));
         at = end + 1;
     }

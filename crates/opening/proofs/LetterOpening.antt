@@ -21,7 +21,7 @@ use Rattle.tables.specs.declared.Opened.{Opened}
 use Rattle.tables.specs.declared.Opening.{Opening}
 use Rattle.tables.specs.declared.Opening.the-variants.{Line, Misopened}
 use Rattle.tables.specs.Tables.{SafeState, SafeSignatures, predicateAt, Outline}
-use Rattle.tables.specs.Lines.{skipped, opening, most, OldPredicate, NamedFor}
+use Rattle.tables.specs.Lines.{skipped, openingTests, most, OldPredicate, NamedFor}
 use Rattle.opening.specs.declared.Named.{Named}
 use Rattle.opening.specs.declared.Naming.{Naming}
 use Rattle.opening.specs.declared.Naming.the-variants.{Found, NoName}
@@ -47,7 +47,7 @@ module _ (names : List ℕ) (s : State) (line : Bytes) (naming : Naming) (read :
 
 record Shape (l : Letter) : Type 0 where
   skips : skipped l ≡ 2
-  opens : opening l ≡ 3
+  opens : openingTests l ≡ 3
   fits : (s : State) → 8 + besides l < skipped l + most l s
   other : l ≡ M → ⊥
   named : (line : Bytes) (s : State) (w : Written) (o : Opened) → OldPredicate (keyIn l (fieldsOf line)) (besides l + 1) line w o → NamedFor l line s w o
@@ -161,7 +161,7 @@ module _ (names : List ℕ) (s : State) (line : Bytes) (naming : Naming) (read :
 -- the commas of an `M` line are the claims on the last rule's subgoals; an `E` line has none
 record Bare (l : Letter) : Type 0 where
   skips : skipped l ≡ 1
-  opens : opening l ≡ 1
+  opens : openingTests l ≡ 1
   due : (names signatures : List ℕ) (s : State) (fields : List Bytes) (w : Written) → Outline names signatures s w → mayStand (w .pack) l ≡ true → fieldsDue l fields (w .pack) ≡ most l s + 1
   named : (line : Bytes) (s : State) (w : Written) (o : Opened) → length (fieldsOf line) ≡ most l s + 1 → NamedFor l line s w o
 

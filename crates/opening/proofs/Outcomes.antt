@@ -18,7 +18,7 @@ use Rattle.tables.specs.declared.Opened.{Opened}
 use Rattle.tables.specs.declared.Opening.the-variants.{Line, Misopened}
 use Rattle.tables.specs.Faults.{numberOf}
 use Rattle.tables.specs.Tables.{Outline}
-use Rattle.tables.specs.Lines.{skipped, opening, most, NamedFor, Passed, SafeOpened}
+use Rattle.tables.specs.Lines.{skipped, openingTests, most, NamedFor, Passed, SafeOpened}
 use Rattle.tables.proofs.Outcomes.{line-misopened, line-opened, misopened-fault}
 use Rattle.opening.specs.Opening.{OpenedFor, Opens, OpensLetter}
 use Rattle.opening.proofs.LineTests.{past-five}
@@ -49,7 +49,7 @@ pub record Keeps (l : Letter) (line : Bytes) (s : State) (predicate from : ℕ) 
 
 -- and what it needs of those
 pub record Clears (l : Letter) (line : Bytes) (s : State) (w : Written) (o : Opened) : Type 0 where
-  pub left : firstOf (tests l (fieldsOf line) (w .pack)) ≡ firstOf (drop (opening l) (tests l (fieldsOf line) (w .pack)))
+  pub left : firstOf (tests l (fieldsOf line) (w .pack)) ≡ firstOf (drop (openingTests l) (tests l (fieldsOf line) (w .pack)))
   pub named : NamedFor l line s w o
 
 abbrev pub opened : Letter → ℕ → Words → ℕ → Opened

@@ -23,13 +23,13 @@ use Rattle.packcheck.specs.Printing.{printedQueries, PutsQueries}
 abbrev numbersLine : Four → Bytes
 numbersLine four = textOf (printedNumbers (numbers (four .number) (four .line) (four .rule) (four .claim)) ∷ [])
 
-numbers-line : (four : Four) {n : Numbers} {page₀ page : List ℕ} {r : ℕ} → numbers (four .number) (four .line) (four .rule) (four .claim) ≡ n → Puts (numbersLine four) page₀ page r → take r page ≡ textOf (printedNumbers n ∷ [])
-numbers-line four is puts = front-is puts ∙ ap (λ (n : Numbers). textOf (printedNumbers n ∷ [])) is
+front-numbers : (four : Four) {n : Numbers} {page₀ page : List ℕ} {r : ℕ} → numbers (four .number) (four .line) (four .rule) (four .claim) ≡ n → Puts (numbersLine four) page₀ page r → take r page ≡ textOf (printedNumbers n ∷ [])
+front-numbers four is puts = front-is puts ∙ ap (λ (n : Numbers). textOf (printedNumbers n ∷ [])) is
 
 module _ (input : Bytes) where
   pub long-reply : (four : Four) {page₀ page : List ℕ} {r : ℕ} → 65536 < length input → numbers (four .number) (four .line) (four .rule) (four .claim) ≡ numbers 2 0 0 0 → Puts (numbersLine four) page₀ page r → r ≤ 24 → 589888 ≤ length page → (take r page ≡ reply input) × (r ≤ length page)
   unfolding reply
-  long-reply four long is puts few room = (numbers-line four is puts ∙ rw (lt-ltb _ _ long) refl, omega arith)
+  long-reply four long is puts few room = (front-numbers four is puts ∙ rw (lt-ltb _ _ long) refl, omega arith)
 
   -- the input is short enough, and its pack ends at a place
   pub whole-reply : (four : Four) {end : ℕ} {verdict : Verdict} {names signatures : List ℕ} {claims : List ℤ} {known : ℕ} {page₀ page₁ page : List ℕ} {written r : ℕ} → length input ≤ 65536 → PackEnds input end
@@ -41,5 +41,5 @@ module _ (input : Bytes) where
       let text = take end input in
       let numbered = is ∙ held .judged in
       let lines = printedQueries text (linesOf (drop end input)) in
-      let printed = more .tells text held ∙ ap (λ (bs : Bytes). bs ++ lines) (numbers-line four numbered puts) ∙ append-assoc (printedNumbers (verdictOf text .returned)) (10 ∷ []) lines in
+      let printed = more .tells text held ∙ ap (λ (bs : Bytes). bs ++ lines) (front-numbers four numbered puts) ∙ append-assoc (printedNumbers (verdictOf text .returned)) (10 ∷ []) lines in
       (printed ∙ rw (le-ltb _ _ short, ends .pack, ends .asked) refl, omega (arith, more .small))

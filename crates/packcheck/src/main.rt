@@ -45,7 +45,7 @@ fn put_queries(
     let mut at = from;
     let mut length = written;
     while at < len {
-        let end = text::find(input, 10, at);
+        let end = text::find(input, b'\n', at);
         let answer = reservation::respond(
             verdict,
             &input[at..end],

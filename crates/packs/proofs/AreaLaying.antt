@@ -10,11 +10,11 @@ use lib.Seq.{take-all}
 use Rattle.forms.specs.declared.Form.{Form}
 use Rattle.packs.specs.Loading.{Laid}
 
-one-more : (i : ℕ) (residue area₀ : List ℤ) → i < length residue → i < length area₀ → set (take i residue ++ drop i area₀) i (getD residue i (pos 0)) ≡ take (suc i) residue ++ drop (suc i) area₀
-one-more i [] area₀ inside within = absurd (omega arith)
-one-more i (x ∷ residue) [] inside within = absurd (omega arith)
-one-more zero (x ∷ residue) (y ∷ area₀) inside within = refl
-one-more (suc i) (x ∷ residue) (y ∷ area₀) inside within = ap (λ (l : List ℤ). x ∷ l) (one-more i residue area₀ (omega arith) (omega arith))
+one-laid : (i : ℕ) (residue area₀ : List ℤ) → i < length residue → i < length area₀ → set (take i residue ++ drop i area₀) i (getD residue i (pos 0)) ≡ take (suc i) residue ++ drop (suc i) area₀
+one-laid i [] area₀ inside within = absurd (omega arith)
+one-laid i (x ∷ residue) [] inside within = absurd (omega arith)
+one-laid zero (x ∷ residue) (y ∷ area₀) inside within = refl
+one-laid (suc i) (x ∷ residue) (y ∷ area₀) inside within = ap (λ (l : List ℤ). x ∷ l) (one-laid i residue area₀ (omega arith) (omega arith))
 
 constant-laid : (area : List ℤ) (constant : ℤ) → 17 ≤ length area → set area 0 constant ≡ constant ∷ drop 1 area
 constant-laid [] constant room = absurd (omega arith)
@@ -35,7 +35,7 @@ laying-more {coefficients = coefficients} {area} {i} {index} {z} laying place he
     record {
       within = omega arith;
       size = length-set area index z ∙ laying .size;
-      is = λ long constant before e room. rw (place, here, laying .is long constant before e room, add-one i) (one-more (suc i) (constant ∷ coefficients) before (omega arith) (omega arith));
+      is = λ long constant before e room. rw (place, here, laying .is long constant before e room, add-one i) (one-laid (suc i) (constant ∷ coefficients) before (omega arith) (omega arith));
     }
 
 pub laying-done : {area₀ begun : List ℤ} {form : Form} {area : List ℤ} {i : ℕ} → begun ≡ set area₀ 0 (form .constant) → 17 ≤ length area₀ → length (form .coefficients) ≡ 16 → Laying begun (form .coefficients) area i → 16 ≤ i → Laid area₀ form area

@@ -10,7 +10,7 @@ fn digit(n: u64) -> u8
     requires { ⌜ n < 10 ⌝ }
     ensures { λ r. ⌜ r ≡ 48 + n ⌝ }
 {
-    48 + n as u8
+    b'0' + n as u8
 }
 
 /// How many digits a number has.

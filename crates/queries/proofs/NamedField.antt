@@ -4,17 +4,22 @@ use mathlib.Core.Bool.{false}
 use mathlib.Core.List.{List}
 use Prim.Native.Nat.{ℕ}
 use native.Mathlib.Omega.{arith}
+use lib.ListN.{length}
 use Rattle.groundwork.proofs.Truth.{never-both}
 use Rattle.theory.specs.Text.{Bytes}
 use Rattle.text.specs.declared.Word.{Word}
 use Rattle.text.specs.declared.Word.the-variants.{Name, Variable, Neither}
 use Rattle.text.specs.declared.Words.{Words}
+use Rattle.text.specs.Scans.{part}
 use Rattle.text.specs.Words.{WordRead, StandsAt}
-use Rattle.text.proofs.WordKinds.{isNameWord, name-told}
-use Rattle.text.proofs.WordKinds.{read-words}
+use Rattle.text.proofs.Parts.{part-rest}
+use Rattle.text.proofs.WordKinds.{isNameWord, name-told, read-words}
 use Rattle.queries.specs.Queries.{Means}
 
-module _ (field : Bytes) (names : List ℕ) (known : ℕ) (word : Word) (read : WordRead field word) where
+module _ (field : Bytes) (names : List ℕ) (known : ℕ) (word : Word) (between : WordRead (part field 0 (length field)) word) where
+  read : WordRead field word
+  read = rw (part-rest field 0) at between
+
   unnamed : isNameWord word ≡ false → Means field names known known
   unnamed other = record {
     high = omega arith;

@@ -86,7 +86,8 @@ fn named_by(field: &[u8], names: &[u64; 64], known: usize) -> usize
     requires { ⌜ known ≤ 32 ⌝ }
     ensures { λ r. ⌜ Means (now (field .entry)) (now (names .entry)) known r ⌝ }
 {
-    let word = text::read_word(field);
+    let classes = text::class_table();
+    let word = text::word_between(field, 0, field.len(), &classes);
     match word {
         Word::Name(words) => text::place(names, known, words),
         Word::Variable(_) => known,
@@ -114,7 +115,7 @@ pub fn open_query(
         return refused(14);
     }
     let arity = signatures[place];
-    if text::count(query, 44) != widths::u8_to_usize(arity) + 1 {
+    if text::count(query, b',') != widths::u8_to_usize(arity) + 1 {
         return refused(15);
     }
     let from = stop + 1;

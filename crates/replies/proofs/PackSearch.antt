@@ -22,10 +22,10 @@ pub record Seeking (input : Bytes) (at : ℕ) : Type 0 where
   pub asked : queries input ≡ queries (drop at input)
 
 -- a list of one byte
-single : (bs : Bytes) {b : ℕ} → length bs ≡ 1 → getD bs 0 0 ≡ b → bs ≡ b ∷ []
-single [] one is = absurd (omega arith)
-single (x ∷ []) one is = ap (λ (y : ℕ). y ∷ []) is
-single (x ∷ y ∷ bs) one is = absurd (omega arith)
+one-byte : (bs : Bytes) {b : ℕ} → length bs ≡ 1 → getD bs 0 0 ≡ b → bs ≡ b ∷ []
+one-byte [] one is = absurd (omega arith)
+one-byte (x ∷ []) one is = ap (λ (y : ℕ). y ∷ []) is
+one-byte (x ∷ y ∷ bs) one is = absurd (omega arith)
 
 pub seeking-begin : (input : Bytes) → Seeking input 0
 seeking-begin input = record { within = omega arith; pack = refl; asked = refl }
@@ -88,7 +88,7 @@ module _ {input : Bytes} {at : ℕ} (seeking : Seeking input at) where
 
       pub seeking-found : end - at ≡ 1 → getD input at 0 ≡ 69 → PackEnds input (end + 1)
       seeking-found one is =
-          let letter : line ≡ 69 ∷ [] = single line (size ∙ one) (first (omega arith) ∙ is) in
+          let letter : line ≡ 69 ∷ [] = one-byte line (size ∙ one) (first (omega arith) ∙ is) in
           let split : drop at input ≡ 69 ∷ 10 ∷ rest = lines ∙ ap (λ (l : Bytes). l ++ 10 ∷ rest) letter in
           record {
             within = omega arith;

@@ -16,10 +16,10 @@ pub fn put_numbers(page: &mut [u8], four: Four) -> usize
     requires { ⌜ 24 ≤ length (now page) ⌝ }
     ensures { λ r. ⌜ (Puts (textOf (printedNumbers (numbers (four .number) (four .line) (four .rule) (four .claim)) ∷ [])) (now (page .entry)) (now (page .exit)) r) × (r ≤ 24) ⌝ }
 {
-    let first = pages::put_field(page, 0, four.number as u64, 44);
-    let second = pages::put_field(page, first, four.line as u64, 44);
-    let third = pages::put_field(page, second, four.rule as u64, 44);
-    pages::put_field(page, third, four.claim as u64, 10)
+    let first = pages::put_field(page, 0, four.number as u64, b',');
+    let second = pages::put_field(page, first, four.line as u64, b',');
+    let third = pages::put_field(page, second, four.rule as u64, b',');
+    pages::put_field(page, third, four.claim as u64, b'\n')
 }
 
 /// Writes reserve's fields as a line of at most 27 bytes.
@@ -28,9 +28,9 @@ pub fn put_fields(page: &mut [u8], three: Three) -> usize
     ensures { λ r. ⌜ (Puts (textOf (printedFields (fields (three .letter) (three .middle) (three .claim)) ∷ [])) (now (page .entry)) (now (page .exit)) r) × (r ≤ 27) ⌝ }
 {
     page[0] = three.letter;
-    page[1] = 44;
-    let second = pages::put_field(page, 2, three.middle, 44);
-    pages::put_field(page, second, three.claim as u64, 10)
+    page[1] = b',';
+    let second = pages::put_field(page, 2, three.middle, b',');
+    pages::put_field(page, second, three.claim as u64, b'\n')
 }
 
 /// The place after the first line `E`, with its byte 10; or the end where there is none.
@@ -40,7 +40,7 @@ pub fn pack_end(input: &[u8]) -> usize
     let len = input.len();
     let mut at: usize = 0;
     while at < len {
-        let end = text::find(input, 10, at);
+        let end = text::find(input, b'\n', at);
         if end == len {
             return len;
         }

@@ -33,14 +33,14 @@ skipped E = 1
 skipped NoLetter = 1
 
 -- how many of a letter's tests the opening does
-abbrev pub opening : Letter → ℕ
-opening P = 3
-opening C = 3
-opening H = 3
-opening B = 3
-opening M = 1
-opening E = 1
-opening NoLetter = 0
+abbrev pub openingTests : Letter → ℕ
+openingTests P = 3
+openingTests C = 3
+openingTests H = 3
+openingTests B = 3
+openingTests M = 1
+openingTests E = 1
+openingTests NoLetter = 0
 
 -- the most fields that are read one by one
 abbrev pub most : Letter → State → ℕ
@@ -82,7 +82,7 @@ pub record Passed (letter : Letter) (line : Bytes) (s : State) (w : Written) (o 
   pub short : length line ≤ 1024
   pub unended : w .ended ≡ false
   pub stands : mayStand (w .pack) letter ≡ true
-  pub left : fault w line ≡ firstOf (drop (opening letter) (tests letter (fieldsOf line) (w .pack)))
+  pub left : fault w line ≡ firstOf (drop (openingTests letter) (tests letter (fieldsOf line) (w .pack)))
   pub rest : partsFrom 44 line (o .from) ≡ drop (skipped letter) (fieldsOf line)
   pub named : NamedFor letter line s w o
 

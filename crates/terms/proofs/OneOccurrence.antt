@@ -7,7 +7,8 @@ use lib.ListN.{length, set, length-set}
 use Rattle.text.specs.Words.{StandsAt}
 use Rattle.text.specs.declared.Words.{Words}
 use Rattle.terms.specs.Rows.{Elsewhere, SmallRow, CountsOne, known-already, one-more, none-left, past}
-use Rattle.terms.proofs.RowStores.{countAt, countedAt, none-stored, one-stored, each-stored}
+use Rattle.groundwork.proofs.Stretches.{replaced}
+use Rattle.terms.proofs.RowStores.{countAt, countedAt, none-stored, one-stored}
 
 -- ---- the ways through `count_variable`
 
@@ -48,7 +49,7 @@ leaves-all names known rows base =
 
 grown : (rows : List ℕ) (base at : ℕ) → at < 16 → (bound : ℕ) → ((i : ℕ) → i < 16 → countAt rows base i ≤ bound) → (i : ℕ) → i < 16 → countAt (countedAt rows base at) base i ≤ bound + 1
 grown rows base at inside bound small i h =
-    each-stored (λ (n : ℕ). n ≤ bound + 1) 0 (countAt rows base at + 1) (omega (arith, small at inside)) rows (base + 1 + at) (base + 1 + i) (omega (arith, small i h))
+    replaced (λ (n : ℕ). n ≤ bound + 1) rows (base + 1 + at) (base + 1 + i) (countAt rows base at + 1) 0 (omega (arith, small at inside)) (omega (arith, small i h))
 
 module _ {words : Words} {names : List ℕ} {known : ℕ} {rows : List ℕ} {base : ℕ} where
   pub leaves : {r : ℕ} {names₁ : List ℕ} {rows₁ : List ℕ} → CountsOne words names known rows base r names₁ rows₁ → Leaves names known rows base r names₁ rows₁

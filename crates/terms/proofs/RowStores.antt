@@ -1,11 +1,12 @@
 -- Stores into a row of a table, which leave the rest of the table as it was; and the loop of `clear_row`.
 use mathlib.Core.Path.{_≡_, refl, _∙_}
-use mathlib.Core.List.{List, [], _∷_}
-use Prim.Native.Nat.{ℕ, zero, suc, _+_, _≤_, _<_}
+use mathlib.Core.List.{List}
+use Prim.Native.Nat.{ℕ, _+_, _≤_, _<_}
 use native.Mathlib.Omega.{arith}
 use borrow.Author.Count.{below-more}
 use lib.ListN.{getD, set, length-set}
 use lib.Seq.{getD-set-other}
+use Rattle.groundwork.proofs.Stretches.{default-stored}
 use Rattle.terms.specs.Rows.{Elsewhere, Cleared}
 
 -- the count at a place of the row at base
@@ -35,20 +36,6 @@ stored-again first again =
       above = λ i h. again .above i h ∙ first .above i h;
     }
 
--- what holds of an element, and of the one that is stored, holds of the element after the store
-pub each-stored : {A : Type 0} (P : A → Type 0) (d a : A) → P a → (xs : List A) (i j : ℕ) → P (getD xs j d) → P (getD (set xs i a) j d)
-each-stored P d a here [] i j h = h
-each-stored P d a here (x ∷ xs) zero zero h = here
-each-stored P d a here (x ∷ xs) zero (suc j) h = h
-each-stored P d a here (x ∷ xs) (suc i) zero h = h
-each-stored P d a here (x ∷ xs) (suc i) (suc j) h = each-stored P d a here xs i j h
-
--- past the end of the table too, where a number counts as 0
-zero-stored : (rows : List ℕ) (i : ℕ) → getD (set rows i 0) i 0 ≡ 0
-zero-stored [] i = refl
-zero-stored (n ∷ rows) zero = refl
-zero-stored (n ∷ rows) (suc i) = zero-stored rows i
-
 -- ---- the loop of `clear_row`
 
 module _ (rows₀ : List ℕ) (base : ℕ) where
@@ -63,7 +50,7 @@ module _ (rows₀ : List ℕ) (base : ℕ) where
           zeros =
               below-more (λ (j : ℕ). countAt (set rows (base + 1 + i) 0) base j ≡ 0) i
               (λ j k. getD-set-other rows (base + 1 + i) (base + 1 + j) 0 0 (λ e. omega arith) ∙ cleared .zeros j k)
-              (zero-stored rows (base + 1 + i));
+              (default-stored 0 rows (base + 1 + i));
         }
 
     pub cleared-all : 16 ≤ i → Cleared rows₀ base rows 16

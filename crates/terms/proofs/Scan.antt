@@ -70,35 +70,35 @@ same-test : (i j k l : ℕ) → (i ≡ j → k ≡ l) → (k ≡ l → i ≡ j) 
 same-test i j k l f g =
     by-truth (λ b. b ≡ eqb k l) (eqb i j) (λ e. sym (equal-eqb k l (f (eqb-equal i j e)))) (λ e. sym (eqb-different k l (λ h. eqb-unequal i j e (g h))))
 
-token-in-front : (p : ℕ) (token : Token) (ts : Terms) → scanToken p token (λ (q : ℕ). eqb q (arity ts)) ≡ asMany p (after token ts)
+scan-in-front : (p : ℕ) (token : Token) (ts : Terms) → scanToken p token (λ (q : ℕ). eqb q (arity ts)) ≡ asMany p (after token ts)
 unfolding scanToken asMany after arity
-token-in-front zero (variableNamed x) ts = sym (eqb·zero-suc (arity ts))
-token-in-front zero (symbolOf f k) ts = none-wanted (first-of k ts)
+scan-in-front zero (variableNamed x) ts = sym (eqb·zero-suc (arity ts))
+scan-in-front zero (symbolOf f k) ts = none-wanted (first-of k ts)
   where
     none-wanted : {o : Option (Terms × Terms)} → FirstOf k ts o → false ≡ asMany zero (Option·map (λ (p : Terms × Terms). cons (symbol f (p .0)) (p .1)) o)
     none-wanted (enough first rest cut) = sym (eqb·zero-suc (arity rest))
     none-wanted (too-few h) = refl
-token-in-front zero noToken ts = refl
-token-in-front (suc p) (variableNamed x) ts = sym (eqb·suc-suc p (arity ts))
-token-in-front (suc p) (symbolOf f k) ts = some-wanted (first-of k ts)
+scan-in-front zero noToken ts = refl
+scan-in-front (suc p) (variableNamed x) ts = sym (eqb·suc-suc p (arity ts))
+scan-in-front (suc p) (symbolOf f k) ts = some-wanted (first-of k ts)
   where
     some-wanted : {o : Option (Terms × Terms)} → FirstOf k ts o → eqb (p + k) (arity ts) ≡ asMany (suc p) (Option·map (λ (p : Terms × Terms). cons (symbol f (p .0)) (p .1)) o)
     some-wanted (enough first rest cut) = same-test (p + k) (arity ts) (suc p) (suc (arity rest)) (λ e. omega arith) (λ e. omega arith)
     some-wanted (too-few h) = eqb-different (p + k) (arity ts) (λ e. omega arith)
-token-in-front (suc p) noToken ts = refl
+scan-in-front (suc p) noToken ts = refl
 
-token-in-front-of-all : (p : ℕ) (token : Token) (o : Option Terms) → scanToken p token (λ (q : ℕ). asMany q o) ≡ asMany p (afterAll token o)
+scan-in-front-of-all : (p : ℕ) (token : Token) (o : Option Terms) → scanToken p token (λ (q : ℕ). asMany q o) ≡ asMany p (afterAll token o)
 unfolding scanToken asMany afterAll
-token-in-front-of-all zero token none = refl
-token-in-front-of-all (suc p) (variableNamed x) none = refl
-token-in-front-of-all (suc p) (symbolOf f k) none = refl
-token-in-front-of-all (suc p) noToken none = refl
-token-in-front-of-all p token (some ts) = token-in-front p token ts
+scan-in-front-of-all zero token none = refl
+scan-in-front-of-all (suc p) (variableNamed x) none = refl
+scan-in-front-of-all (suc p) (symbolOf f k) none = refl
+scan-in-front-of-all (suc p) noToken none = refl
+scan-in-front-of-all p token (some ts) = scan-in-front p token ts
 
 scan-counts : (ws : List Bytes) (p : ℕ) → scan p ws ≡ asMany p (termsOf ws)
 unfolding scan asMany termsOf arity
 scan-counts [] p = refl
-scan-counts (w ∷ ws) p = ap (scanToken p (tokenOf w)) (fun-ext (scan-counts ws)) ∙ token-in-front-of-all p (tokenOf w) (termsOf ws)
+scan-counts (w ∷ ws) p = ap (scanToken p (tokenOf w)) (fun-ext (scan-counts ws)) ∙ scan-in-front-of-all p (tokenOf w) (termsOf ws)
 
 one-term : (o : Option Terms) → asMany 1 o ≡ isSome (theOnly o)
 unfolding asMany theOnly isSome arity

@@ -53,11 +53,11 @@ data Summed (ws : List Bytes) : Option Terms → Type 0 where
   summed : (ts : Terms) → constants ws ≡ sizesTogether ts → variableTokens ws ≡ allVariables ts → Summed ws (some ts)
   unread : Summed ws none
 
-token-in-front : (w : Bytes) (ws : List Bytes) (us : Terms) → constants ws ≡ sizesTogether us → variableTokens ws ≡ allVariables us → {token : Token} → ReadAs w token → tokenOf w ≡ token → Summed (w ∷ ws) (after token us)
+sums-in-front : (w : Bytes) (ws : List Bytes) (us : Terms) → constants ws ≡ sizesTogether us → variableTokens ws ≡ allVariables us → {token : Token} → ReadAs w token → tokenOf w ≡ token → Summed (w ∷ ws) (after token us)
 unfolding after total size variables
-token-in-front w ws us sum names (as-variable h) e =
+sums-in-front w ws us sum names (as-variable h) e =
     summed (cons (variable w) us) (omega (arith, constants-variable w ws e)) (variable-first w ws h ∙ ap (λ l. w ∷ l) names)
-token-in-front w ws us sum names (as-symbol {f = f} {k = k} is named few) e = with-arguments (first-of k us)
+sums-in-front w ws us sum names (as-symbol {f = f} {k = k} is named few) e = with-arguments (first-of k us)
   where
     with-arguments : {o : Option (Terms × Terms)} → FirstOf k us o → Summed (w ∷ ws) (Option·map (λ (p : Terms × Terms). cons (symbol f (p .0)) (p .1)) o)
     with-arguments (enough first rest cut) =
@@ -66,7 +66,7 @@ token-in-front w ws us sum names (as-symbol {f = f} {k = k} is named few) e = wi
         (omega (arith, constants-symbol w ws f k e, structural-size f first, cut .taken))
         (other-first w ws (symbol-token w f k e) ∙ names ∙ cut .variablesJoin)
     with-arguments (too-few h) = unread
-token-in-front w ws us sum names as-none e = unread
+sums-in-front w ws us sum names as-none e = unread
 
 terms-summed : (ws : List Bytes) → Summed ws (termsOf ws)
 unfolding termsOf afterAll constants variableTokens total argumentSizes allVariables
@@ -74,7 +74,7 @@ terms-summed [] = summed nil refl refl
 terms-summed (w ∷ ws) = in-front (terms-summed ws)
   where
     in-front : {o : Option Terms} → Summed ws o → Summed (w ∷ ws) (afterAll (tokenOf w) o)
-    in-front (summed us sum names) = token-in-front w ws us sum names (read-as w) refl
+    in-front (summed us sum names) = sums-in-front w ws us sum names (read-as w) refl
     in-front unread = unread
 
 -- ---- a field that is a term

@@ -16,7 +16,10 @@ use theory::Measurement;
 fn is_digit(b: u8) -> bool
     ensures { λ r. ⌜ r ≡ isDigit b ⌝ }
 {
-    if 48 <= b { b <= 57 } else { false }
+    match b {
+        b'0'..=b'9' => true,
+        _ => false,
+    }
 }
 
 /// Whether a token may end at a place: a space or nothing stands there.

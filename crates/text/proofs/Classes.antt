@@ -3,11 +3,11 @@ use mathlib.Core.Path.{_≡_, refl, sym, _∙_, ap}
 use mathlib.Core.Bool.{Bool, true, false, _&&_, and-assoc, or-true}
 use mathlib.Core.List.{[], _∷_, _++_}
 use Prim.Native.Nat.{ℕ, _+_, _<_}
-use lib.Dec.{eqb, leb}
+use lib.Dec.{leb}
 use lib.ListN.{length, getD, take, drop, take-append-drop}
 use Rattle.groundwork.proofs.Truth.{and-left, and-right, and-not-left, and-not-right, gt-leb}
 use Rattle.theory.specs.Lists.{every}
-use Rattle.theory.specs.Text.{Bytes, between, isLower, isUpper, isDigit, isNameByte}
+use Rattle.theory.specs.Text.{Bytes, between, isLower, isUpper, isNameByte}
 use Rattle.text.proofs.Parts.{drop-more}
 
 module _ (test : ℕ → Bool) where
@@ -41,7 +41,7 @@ between-below low high b h = and-not-left (leb low b) (leb b high) (gt-leb low b
 pub between-above : (low high b : ℕ) → high < b → between low high b ≡ false
 between-above low high b h = and-not-right (leb low b) (leb b high) (gt-leb b high h)
 
--- ---- letters, digits and underscores
+-- ---- letters
 
 module _ (b : ℕ) where
   pub lower-in-name : isLower b ≡ true → isNameByte b ≡ true
@@ -51,11 +51,3 @@ module _ (b : ℕ) where
   pub upper-in-name : isUpper b ≡ true → isNameByte b ≡ true
   unfolding isNameByte
   upper-in-name h = simp (h, or-true)
-
-  pub digit-in-name : isDigit b ≡ true → isNameByte b ≡ true
-  unfolding isNameByte
-  digit-in-name h = simp (h, or-true)
-
-  pub other-in-name : isLower b ≡ false → isUpper b ≡ false → isDigit b ≡ false → isNameByte b ≡ eqb b 95
-  unfolding isNameByte
-  other-in-name h k l = simp (h, k, l)

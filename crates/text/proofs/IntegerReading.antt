@@ -36,9 +36,6 @@ module _ (n : ℕ) (h : 0 < n) (f : Fits w32 n) where
   pub minus-result : toZ w64 (ofZ w64 (pos 0 -ℤ toZ w64 n)) ≡ negsuc (n - 1)
   minus-result = toZ-ofZ minus-fits ∙ minus-is
 
-pub plus-result : (n : ℕ) → Fits w32 n → toZ w64 n ≡ pos n
-plus-result n f = toZ-pos w64 (omega arith)
-
 -- ---- answers
 
 pub integer-of-none : (limit : ℕ) (s : Bytes) → length s ≡ 0 → none ≡ integer limit s

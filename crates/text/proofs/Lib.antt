@@ -19,7 +19,7 @@ pub mod CountLoops
 pub mod MarkCounts
 pub mod Fitness
 pub mod PlainBytes
-pub mod Packing
+pub mod ByteSums
 pub mod WordReading
 pub mod WordsBetween
 pub mod Places

@@ -90,8 +90,8 @@ module _ (limit : ℕ) (s : Bytes) where
       pub reading-low : getD s i 0 < 48 → none ≡ natural limit s
       reading-low k = not-decimal limit s (digits-at ∙ and-not-left _ _ (between-below 48 57 (getD s i 0) k))
 
-      pub reading-high : 57 < getD s i 0 → none ≡ natural limit s
-      reading-high k = not-decimal limit s (digits-at ∙ and-not-left _ _ (between-above 48 57 (getD s i 0) k))
+      pub reading-high : 58 ≤ getD s i 0 → none ≡ natural limit s
+      reading-high k = not-decimal limit s (digits-at ∙ and-not-left _ _ (between-above 48 57 (getD s i 0) (omega arith)))
 
       module _ (d : ℕ) (e : (d ≡ getD s i 0 - 48) × (d < 10)) where
         worth-more : valueAfter 0 s ≡ valueAfter (value * 10 + d) (drop (i + 1) s)
@@ -100,11 +100,11 @@ module _ (limit : ℕ) (s : Bytes) where
         pub reading-over : limit < value * 10 + d → none ≡ natural limit s
         reading-over k = too-large limit s (omega (arith, worth-more, value-grows (value * 10 + d) (drop (i + 1) s)))
 
-        pub reading-more : 48 ≤ getD s i 0 → getD s i 0 ≤ 57 → value * 10 + d ≤ limit → Reading limit s (value * 10 + d) (i + 1)
+        pub reading-more : 48 ≤ getD s i 0 → getD s i 0 < 58 → value * 10 + d ≤ limit → Reading limit s (value * 10 + d) (i + 1)
         reading-more l m k = record {
           high = omega arith;
           small = k;
-          formed = digits-at ∙ rw (between-from 48 57 (getD s i 0) l m);
+          formed = digits-at ∙ rw (between-from 48 57 (getD s i 0) l (omega arith));
           worth = worth-more;
         }
 

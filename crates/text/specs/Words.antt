@@ -4,11 +4,9 @@ use mathlib.Core.Bool.{true, false}
 use mathlib.Core.List.{List, [], _∷_}
 use Prim.Native.Nat.{ℕ, _+_, _*_, _≤_, _<_}
 use lib.ListN.{getD, take, drop}
-use Rattle.theory.specs.Lists.{every}
-use Rattle.theory.specs.Text.{Bytes, isNameByte, isName, isVariable}
+use Rattle.theory.specs.Text.{Bytes, isName, isVariable}
 use Rattle.text.specs.Scans.{part}
 use Rattle.text.specs.declared.Words.{Words}
-use Rattle.text.specs.declared.Packed.{Packed}
 use Rattle.text.specs.declared.Word.{Word}
 use Rattle.text.specs.declared.Word.the-variants.{Name, Variable, Neither}
 
@@ -25,10 +23,6 @@ pub record Numbered (s : Bytes) (at n bound r : ℕ) : Type 0 where
 -- the first eight bytes and the others
 unfoldable pub wordsOf : Bytes → Words
 wordsOf bs = record { first = number (take 8 bs); second = number (drop 8 bs) }
-
-pub record PacksInto (bs : Bytes) (r : Packed) : Type 0 where
-  pub fine : r .fine ≡ every isNameByte bs
-  pub word : r .fine ≡ true → r .word ≡ number bs
 
 -- what the word reader found
 pub data WordRead (bs : Bytes) : Word → Type 0 where

@@ -1,14 +1,13 @@
 // Scanners over bytes, and the readers of names, variables and decimal numbers. Fields are handed on as parts of their
 // line; nothing is copied.
 ghost use mathlib.Core.Path.{_≡_};
-ghost use mathlib.Core.Bool.{true};
-ghost use Prim.Native.Nat.{_+_, _-_, _≤_, _<_, min};
+ghost use Prim.Native.Nat.{_+_, _-_, _≤_, _<_};
 ghost use lib.ListN.{length};
 ghost use lib.IntN.{negsuc};
-ghost use Rattle.theory.specs.Text.{isLower, isUpper, isNameByte, natural, integer};
+ghost use Rattle.theory.specs.Text.{natural, integer};
 ghost use Rattle.theory.specs.Faults.{isUnfit};
 ghost use Rattle.text.specs.Scans.{Finds};
-ghost use Rattle.text.specs.Words.{PacksInto, WordRead, StandsAt};
+ghost use Rattle.text.specs.Words.{StandsAt};
 ghost use Rattle.text.specs.Numbers.{naturalOf, integerOf};
 
 mod block;
@@ -93,66 +92,10 @@ pub fn is_unfit(line: &[u8]) -> bool
     let mut i: usize = 0;
     while i < line.len() {
         let b = line[i];
-        unfit = unfit | (b < 32) | (126 < b);
+        unfit = unfit | (b < b' ') | (b'~' < b);
         i += 1;
     }
     unfit
-}
-
-pub fn is_lower(b: u8) -> bool
-    ensures { λ r. ⌜ r ≡ isLower b ⌝ }
-{
-    if 97 <= b { b <= 122 } else { false }
-}
-
-pub fn is_upper(b: u8) -> bool
-    ensures { λ r. ⌜ r ≡ isUpper b ⌝ }
-{
-    if 65 <= b { b <= 90 } else { false }
-}
-
-/// A letter, a digit or an underscore.
-pub fn is_name_byte(b: u8) -> bool
-    ensures { λ r. ⌜ r ≡ isNameByte b ⌝ }
-{
-    if is_lower(b) {
-        return true;
-    }
-    if is_upper(b) {
-        return true;
-    }
-    if 48 <= b {
-        if b <= 57 {
-            return true;
-        }
-    }
-    b == 95
-}
-
-/// Up to eight bytes as one number, the first byte the lowest, and whether all may stand in a name.
-pub struct Packed {
-    pub fine: bool,
-    pub word: u64,
-}
-
-fn pack(bytes: &[u8]) -> Packed
-    requires { ⌜ length (now bytes) ≤ 8 ⌝ }
-    ensures { λ r. ⌜ PacksInto (now (bytes .entry)) r ⌝ }
-{
-    let mut word: u64 = 0;
-    let mut i = bytes.len();
-    while 0 < i {
-        i -= 1;
-        let b = bytes[i];
-        if !is_name_byte(b) {
-            return Packed {
-                fine: false,
-                word: 0,
-            };
-        }
-        word = word * 256 + widths::u8_to_u64(b);
-    }
-    Packed { fine: true, word }
 }
 
 /// A name or a variable as two words of eight bytes.
@@ -161,53 +104,11 @@ pub struct Words {
     pub second: u64,
 }
 
+/// What bytes are: a name, a variable or neither.
 pub enum Word {
     Name(Words),
     Variable(Words),
     Neither,
-}
-
-fn up_to_eight(n: usize) -> usize
-    ensures { λ r. ⌜ r ≡ min 8 n ⌝ }
-{
-    if n < 8 { n } else { 8 }
-}
-
-/// A field or a token as a name or a variable.
-pub fn read_word(bytes: &[u8]) -> Word
-    ensures { λ r. ⌜ WordRead (now (bytes .entry)) r ⌝ }
-{
-    let n = bytes.len();
-    if n == 0 {
-        return Word::Neither;
-    }
-    if 16 < n {
-        return Word::Neither;
-    }
-    let lower = is_lower(bytes[0]);
-    let upper = is_upper(bytes[0]);
-    let middle = up_to_eight(n);
-    let front = pack(&bytes[..middle]);
-    if !front.fine {
-        return Word::Neither;
-    }
-    let back = pack(&bytes[middle..]);
-    if !back.fine {
-        return Word::Neither;
-    }
-    if lower {
-        return Word::Name(Words {
-            first: front.word,
-            second: back.word,
-        });
-    }
-    if upper {
-        return Word::Variable(Words {
-            first: front.word,
-            second: back.word,
-        });
-    }
-    Word::Neither
 }
 
 /// Where the words of a name stand among the first of a table, or how many those are.
@@ -244,7 +145,7 @@ fn digit(b: u8) -> u32
     requires { ⌜ (48 ≤ b) × (b ≤ 57) ⌝ }
     ensures { λ r. ⌜ (r ≡ b - 48) × (r < 10) ⌝ }
 {
-    (b - 48) as u32
+    (b - b'0') as u32
 }
 
 /// A number from 0 to a limit, without leading zeros.
@@ -257,7 +158,7 @@ pub fn read_natural(field: &[u8], limit: u32) -> Natural
         return Natural::NoNatural;
     }
     if 1 < n {
-        if field[0] == 48 {
+        if field[0] == b'0' {
             return Natural::NoNatural;
         }
     }
@@ -265,13 +166,10 @@ pub fn read_natural(field: &[u8], limit: u32) -> Natural
     let mut i: usize = 0;
     while i < n {
         let b = field[i];
-        if b < 48 {
-            return Natural::NoNatural;
+        match b {
+            b'0'..=b'9' => value = value * 10 + digit(b),
+            _ => return Natural::NoNatural,
         }
-        if 57 < b {
-            return Natural::NoNatural;
-        }
-        value = value * 10 + digit(b);
         if limit < value {
             return Natural::NoNatural;
         }
@@ -295,7 +193,7 @@ pub fn read_integer(field: &[u8], limit: u32) -> Integer
     if field.len() == 0 {
         return Integer::NoInteger;
     }
-    if field[0] == 45 {
+    if field[0] == b'-' {
         let size = read_natural(&field[1..], limit);
         match size {
             Natural::Whole(n) => {

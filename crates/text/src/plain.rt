@@ -14,7 +14,7 @@ pub fn is_plain(text: &[u8]) -> bool
     let mut i: usize = 0;
     while i < text.len() {
         let b = text[i];
-        odd = odd | (((b < 32) | (126 < b)) & (b != b'\n'));
+        odd = odd | (((b < b' ') | (b'~' < b)) & (b != b'\n'));
         i += 1;
     }
     !odd

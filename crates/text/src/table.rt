@@ -296,7 +296,7 @@ pub fn word_end(bytes: &[u8], from: usize, classes: &[u8; 256]) -> usize
     i
 }
 
-/// As `read_word`, of the bytes between two places, by the table.
+/// The bytes between two places, as a name or a variable.
 pub fn word_between(bytes: &[u8], from: usize, end: usize, classes: &[u8; 256]) -> Word
     requires { ⌜ (from ≤ end) × (end ≤ length (now bytes)) × Classes (now classes) ⌝ }
     ensures { λ r. ⌜ WordRead (part (now (bytes .entry)) from end) r ⌝ }

@@ -39,6 +39,6 @@ returns-6 c = search (needs, reading-all)
 
 pub read-natural-spec : {M : Type 1} → statement M
 read-natural-spec =
-    tie.close (tie.spec Inv-loop μ-loop returns (λ c. search needs) returns-2 loop-holds (λ c. search needs) returns-3
-    returns-4 (λ c. search needs) (λ c κs. search needs) (λ c. search needs) returns-5 (λ c. search needs)
+    tie.close (tie.spec Inv-loop μ-loop returns (λ c. search needs) returns-2 loop-holds (λ c. search needs)
+    (λ c. search needs) (λ c κs. search needs) (λ c. search needs) returns-3 returns-4 returns-5 (λ c. search needs)
     (λ c. search needs) loop-again returns-6)

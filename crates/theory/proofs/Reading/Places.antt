@@ -1,11 +1,11 @@
--- Lists by their places: one element more, one replaced, a test of every one.
+-- Lists by their places: one element more, a test of every one.
 use mathlib.Core.Path.{_≡_, refl, sym, _∙_, ap}
 use mathlib.Core.Bool.{Bool, true, false}
 use mathlib.Core.List.{List, [], _∷_, _++_}
-use Prim.Native.Nat.{ℕ, zero, suc, _<_}
+use Prim.Native.Nat.{ℕ, _<_}
 use native.Mathlib.Omega.{arith}
 use borrow.Author.Count.{below-more}
-use lib.ListN.{length, getD, set, List·getD-append}
+use lib.ListN.{length, getD, List·getD-append}
 use lib.Seq.{getD-append-seam}
 use Rattle.groundwork.proofs.Truth.{by-truth, never-both}
 use Rattle.groundwork.proofs.Lists.{length-end, getD-member, member-getD}
@@ -21,14 +21,6 @@ module _ {A : Type 0} where
       (rw (getD-append-seam l x [] d) last)
       i
       (omega (arith, length-end l x))
-
-  -- what holds of an element and of the one that replaces it, whether there is one at the place or not
-  pub replaced : (P : A → Type 0) (l : List A) (i j : ℕ) (a d : A) → P a → P (getD l j d) → P (getD (set l i a) j d)
-  replaced P [] i j a d new old = old
-  replaced P (x ∷ l) zero zero a d new old = new
-  replaced P (x ∷ l) zero (suc j) a d new old = old
-  replaced P (x ∷ l) (suc i) zero a d new old = old
-  replaced P (x ∷ l) (suc i) (suc j) a d new old = replaced P l i j a d new old
 
   module _ (test : A → Bool) (l : List A) (d : A) where
     pub every-place : every test l ≡ true → (i : ℕ) → i < length l → test (getD l i d) ≡ true

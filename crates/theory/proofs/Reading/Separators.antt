@@ -1,10 +1,9 @@
 -- Cutting at a separator and joining again, for fields, tokens and lines.
 use mathlib.Core.Path.{_≡_, refl, sym, _∙_, ap, ap₂}
 use mathlib.Core.Bool.{Bool, true, false, cond, not, false≢true}
-use mathlib.Core.List.{List, [], _∷_, _++_, List·Memᴰ·head, List·Memᴰ·tail, List·Memᴰ·not-nil}
+use mathlib.Core.List.{List, [], _∷_, _++_, List·Memᴰ·head, List·Memᴰ·tail}
 use Prim.Native.Nat.{ℕ}
 use lib.Dec.{eqb}
-use Rattle.groundwork.proofs.Lists.{all-cons}
 use Rattle.groundwork.proofs.Truth.{by-truth, never-both, and-both, not-true, eqb-equal, eqb-same}
 use Rattle.theory.specs.Lists.{every, _∈_}
 use Rattle.theory.specs.Text.{Bytes, onFirst, partsAt, joined, linesOf}
@@ -76,23 +75,6 @@ pub parts-cons : (separator : ℕ) (bs : Bytes) → (first : Bytes) × (rest : L
 unfolding partsAt
 parts-cons separator [] = ([], [], refl)
 parts-cons separator (b ∷ bs) = cut-cons separator (partsAt separator) (parts-cut separator) b bs
-
-free-cons : (separator : ℕ) {part : Bytes} {parts : List Bytes} → isFree separator part ≡ true → AllFree separator parts → AllFree separator (part ∷ parts)
-free-cons separator = all-cons (λ part. isFree separator part ≡ true)
-
-free-onFirst : (separator b : ℕ) (parts : List Bytes) → eqb b separator ≡ false → AllFree separator parts → AllFree separator (onFirst b parts)
-unfolding every
-free-onFirst separator b [] e k = free-cons separator (rw e) k
-free-onFirst separator b (part ∷ parts) e k =
-    free-cons separator (rw e (k part (List·Memᴰ·head refl))) (λ other m. k other (List·Memᴰ·tail m))
-
-pub parts-free : (separator : ℕ) (bs : Bytes) → AllFree separator (partsAt separator bs)
-unfolding every partsAt
-parts-free separator [] = free-cons separator refl (λ part m. absurd (List·Memᴰ·not-nil m))
-parts-free separator (b ∷ bs) =
-    cut-cases separator (partsAt separator) (parts-cut separator) (AllFree separator) b bs
-    (λ _. free-cons separator refl (parts-free separator bs))
-    (λ e. free-onFirst separator b (partsAt separator bs) e (parts-free separator bs))
 
 -- ---- joining
 

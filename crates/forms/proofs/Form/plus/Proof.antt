@@ -7,7 +7,7 @@ use borrow.Author.Needs.{needs}
 use lib.IntN.{pos, _+ℤ_}
 use lib.ListN.{length, getD, length-set}
 use Rattle.forms.specs.Sums.{at}
-use Rattle.forms.proofs.Results.{constants-add, coefficients-add, one-more}
+use Rattle.forms.proofs.Results.{constants-add, coefficients-add, rule-more}
 use Rattle.forms.proofs.Form.plus.Statement.{statement}
 use Rattle.forms.proofs.Form.plus.Tie as tie
 
@@ -34,7 +34,7 @@ loop-again c =
       simp length-set (search needs),
       search needs,
       search needs,
-      one-more (λ j. at f j +ℤ at g j) (c .before .before .before .loop .sums) i _ (omega arith) (c .before .before .before .loop .inv .4) (next .result),
+      rule-more (λ j. at f j +ℤ at g j) (c .before .before .before .loop .sums) i _ (omega arith) (c .before .before .before .loop .inv .4) (next .result),
     )
 
 add-t20 : tie.Need-add-t20 Inv-loop μ-loop

@@ -9,7 +9,7 @@ use lib.ListN.{length, getD, length-set}
 use mir.Syntax.{w64}
 use mir.Val.{toZ}
 use Rattle.forms.specs.Sums.{at}
-use Rattle.forms.proofs.Results.{kept, constant-multiplies, coefficient-multiplies, one-more}
+use Rattle.forms.proofs.Results.{kept, constant-multiplies, coefficient-multiplies, rule-more}
 use Rattle.forms.proofs.Form.times.Statement.{statement}
 use Rattle.forms.proofs.Form.times.Tie as tie
 
@@ -36,7 +36,7 @@ loop-again c =
       search needs,
       simp length-set (search needs),
       search needs,
-      one-more (λ j. kept k *ℤ at f j) (c .before .before .loop .products) i _ (omega arith) (c .before .before .loop .inv .3) (next .result ∙ rw (next .left)),
+      rule-more (λ j. kept k *ℤ at f j) (c .before .before .loop .products) i _ (omega arith) (c .before .before .loop .inv .3) (next .result ∙ rw (next .left)),
     )
 
 mul-t15 : tie.Need-mul-t15 Inv-loop μ-loop

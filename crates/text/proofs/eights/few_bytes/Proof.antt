@@ -1,6 +1,6 @@
 -- `text::eights::few_bytes` meets its contract: from the end, the word is the number of the bytes passed. Assumes nothing.
 use borrow.Author.Needs.{needs}
-use Rattle.text.proofs.Packing.{Summed, summed-none, summed-more, summed-times, summed-plus, summed-all}
+use Rattle.text.proofs.ByteSums.{Summed, summed-none, summed-more, summed-times, summed-plus, summed-all}
 use Rattle.text.proofs.eights.few_bytes.Statement.{statement}
 use Rattle.text.proofs.eights.few_bytes.Tie as tie
 
