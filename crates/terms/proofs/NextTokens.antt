@@ -18,7 +18,7 @@ use Rattle.terms.proofs.SymbolTokens.{lastByte, frontOf, SymbolWritten,
 use Rattle.terms.proofs.WordEnding.{word-end-once, word-from}
 use Rattle.terms.proofs.TokenEnds.{word-spelled, spelled-word, size, front-place, slash-place, digit-place}
 
-space-no-name : isNameByte 32 ≡ false
+pub space-no-name : isNameByte 32 ≡ false
 unfolding isNameByte
 space-no-name = refl
 

@@ -8,7 +8,7 @@ ghost use Rattle.theory.specs.Measure.{measureOf};
 ghost use Rattle.theory.specs.Answers.{measuredOf};
 ghost use Rattle.text.specs.Classes.{Classes};
 ghost use Rattle.terms.specs.TokenRows.{EndsAt, ArityAt, Decides, SmallArities, PlacesStand, TokensRead, AritiesSummed, startOf, endOf};
-ghost use Rattle.terms.specs.Rows.{Cleared, SmallRow, CountsOne, Counted};
+ghost use Rattle.terms.specs.Rows.{Cleared, SmallRow, CountsOne, Counted, CountedAlone};
 use forms::Form;
 use text::Words;
 use theory::Measurement;
@@ -280,4 +280,20 @@ pub fn count_occurrences(
         i += 1;
     }
     many
+}
+
+/// As `count_occurrences`, of a field that is one variable, by its words.
+pub fn count_lone_variable(
+    words: Words,
+    names: &mut [u64; 64],
+    known: usize,
+    hints: &mut [u8; 128],
+    rows: &mut Rows,
+    base: usize,
+) -> usize
+    requires { ⌜ (known ≤ 17) × (base + 17 ≤ 1224) ⌝ }
+    ensures { λ r. ⌜ CountedAlone words (now (names .entry)) known (now (rows .entry)) base r (now (names .exit)) (now (rows .exit)) ⌝ }
+{
+    clear_row(rows, base);
+    count_variable(words, names, known, hints, rows, base)
 }
