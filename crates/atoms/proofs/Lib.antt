@@ -1,4 +1,5 @@
 -- A field of an `H` or a `B` line.
+pub mod StatedAtoms
 pub mod TermFields
 pub mod TermRows
 -- The ends of the lines.

@@ -36,7 +36,8 @@ use Rattle.tables.specs.Faults.{numberOf, closingNumber}
 use Rattle.tables.specs.Tables.{Tables, tables, SafeRows, AtomStands, noAtom, subgoalAt, SlotStands, RuleStands, Holds, Safe}
 use Rattle.tables.specs.Lines.{OldPredicate, Passed, at, ClosedFor}
 use Rattle.tables.proofs.Outcomes.{line-number}
-use Rattle.atoms.specs.Fields.{SubgoalAtom, FieldTerm, ProgressSubgoal}
+use Rattle.atoms.proofs.StatedAtoms.{subgoal-next}
+use Rattle.atoms.specs.Fields.{subgoalAtom, FieldTerm, ProgressSubgoal}
 use Rattle.atoms.specs.Ends.{withSubgoal, isPast, SlotsAdded, ClosesB}
 use Rattle.atoms.proofs.TermFields.{t-read}
 use Rattle.atoms.proofs.TermRows.{atom-over-more, terms-begin, term-field}
@@ -57,11 +58,11 @@ b-begin line {t} {s} {w} holds stands =
       good = λ i h. absurd (omega arith);
     }
 
-pub b-field : {line : Bytes} {t : Tables} {s : State} {w : Written} {atom index many : ℕ} {variables₀ variables rows₁ rows : List ℕ} {r : Fielding} {n : ℕ} → SubgoalAtom (s .subgoals) atom → index < 8
+pub b-field : {line : Bytes} {t : Tables} {s : State} {w : Written} {index many : ℕ} {variables₀ variables rows₁ rows : List ℕ} {r : Fielding} {n : ℕ} → index < 8
     → index < length (drop 2 (fieldsOf line)) → length rows₁ ≡ 1224 → ProgressSubgoal line w s t index many variables₀ rows₁
-    → FieldTerm atom index (at (drop 2 (fieldsOf line)) index) many variables₀ rows₁ r variables rows → r ≡ Read n → ProgressSubgoal line w s t (suc index) n variables rows
-b-field {line = line} {index = index} is place inside size before done fine = record {
-  terms = λ room. term-field (omega arith) place inside size (before .terms room) (rw (is .next room) at done) fine;
+    → FieldTerm (subgoalAtom (s .subgoals)) index (at (drop 2 (fieldsOf line)) index) many variables₀ rows₁ r variables rows → r ≡ Read n → ProgressSubgoal line w s t (suc index) n variables rows
+b-field {line = line} {s = s} {index = index} place inside size before done fine = record {
+  terms = λ room. term-field (omega arith) place inside size (before .terms room) (rw (subgoal-next (s .subgoals) room) at done) fine;
   good = λ i h. below-more (λ j. isTerm (at (drop 2 (fieldsOf line)) j) ≡ true) index (before .good) (t-read done fine .0) i (omega arith);
 }
 

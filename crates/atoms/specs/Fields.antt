@@ -3,7 +3,10 @@ use mathlib.Core.Path.{_≡_}
 use mathlib.Core.Bool.{true, cond}
 use mathlib.Core.List.{List}
 use Prim.Native.Nat.{ℕ, suc, _≤_, _<_}
+use lib.Dec.{ltb}
 use lib.ListN.{length, getD, set, take, drop}
+use Rattle.theory.specs.declared.Letter.{Letter}
+use Rattle.theory.specs.declared.Letter.the-variants.{P, C, H, B, M, E, NoLetter}
 use Rattle.theory.specs.Text.{Bytes, fieldsOf}
 use Rattle.theory.specs.Terms.{allVariables}
 use Rattle.theory.specs.Written.{termsFrom, Written}
@@ -19,9 +22,18 @@ use Rattle.tables.specs.Tables.{Tables, rowPlace, SafeRows, argument, RowStands
 use Rattle.tables.specs.Lines.{at}
 
 -- which atom of the rule the next subgoal is, or the eighth one's rows for a ninth
-pub record SubgoalAtom (subgoals r : ℕ) : Type 0 where
-  pub next : subgoals < 8 → r ≡ suc subgoals
-  pub high : r ≤ 8
+unfoldable pub subgoalAtom : ℕ → ℕ
+subgoalAtom subgoals = cond (ltb subgoals 8) (suc subgoals) 8
+
+-- which atom a line states
+abbrev pub atomOf : Letter → ℕ → ℕ
+atomOf P subgoals = 0
+atomOf C subgoals = 0
+atomOf H subgoals = 0
+atomOf B subgoals = subgoalAtom subgoals
+atomOf M subgoals = 0
+atomOf E subgoals = 0
+atomOf NoLetter subgoals = 0
 
 -- a term, into the row of an atom's argument
 pub record FieldTerm (atom index : ℕ) (field : Bytes) (many : ℕ) (names₀ rows₀ : List ℕ) (r : Fielding) (names rows : List ℕ) : Type 0 where

@@ -6,7 +6,7 @@ ghost use lib.ListN.{length, getD};
 ghost use Rattle.theory.specs.Text.{isUpper};
 ghost use Rattle.text.specs.Classes.{Classes};
 ghost use Rattle.tables.specs.Tables.{SafeSignatures};
-ghost use Rattle.atoms.specs.Fields.{FieldTerm, SubgoalAtom};
+ghost use Rattle.atoms.specs.Fields.{FieldTerm, subgoalAtom, atomOf};
 ghost use Rattle.atoms.specs.Ends.{isPast, ClosesH, SlotsAdded, ClosesB};
 use forms::Form;
 use tables::Closing;
@@ -19,15 +19,30 @@ use tables::Signatures;
 use tables::Slots;
 use tables::State;
 use tables::Variables;
+use theory::Letter;
 use text::Word;
 
 /// Which atom of the rule the next subgoal is. (A ninth one, which is refused when its line is done, takes the eighth one's
 /// rows.)
-pub fn subgoal_atom(subgoals: usize) -> usize
-    requires { ⌜ subgoals ≤ 8 ⌝ }
-    ensures { λ r. ⌜ SubgoalAtom subgoals r ⌝ }
+fn subgoal_atom(subgoals: usize) -> usize
+    ensures { λ r. ⌜ r ≡ subgoalAtom subgoals ⌝ }
 {
     if subgoals < 8 { subgoals + 1 } else { 8 }
+}
+
+/// Which atom of the rule a line states, by its letter: the head is atom 0.
+pub fn atom_of(letter: Letter, subgoals: usize) -> usize
+    ensures { λ r. ⌜ r ≡ atomOf letter subgoals ⌝ }
+{
+    match letter {
+        Letter::P => 0,
+        Letter::C => 0,
+        Letter::H => 0,
+        Letter::B => subgoal_atom(subgoals),
+        Letter::M => 0,
+        Letter::E => 0,
+        Letter::NoLetter => 0,
+    }
 }
 
 /// As `field_term`, of a field that begins with a capital: it is one variable or no term.

@@ -133,7 +133,7 @@ module _ {line : Bytes} {t : Tables} {s : State} {o : Opened} (safe : Safe t s) 
       ready P few weighed = (omega (arith, less), read .stores .smallSize)
       ready C few weighed = (omega (arith, less), read .stores .rowSize)
       ready H few weighed = (omega (arith, less), short-part, read .high)
-      ready B few weighed = ((omega (arith, less), short-part, read .high), safe .state .subgoals)
+      ready B few weighed = (omega (arith, less), short-part, read .high)
       ready M few weighed =
           let slot : index < s .slots = omega (arith, less) in
           (omega (arith, few-slots), safe .slots .place index slot, omega (arith, safe .slots .subgoal index slot, safe .state .subgoals), safe .claims, m-room safe slot weighed)
@@ -158,7 +158,7 @@ module _ {line : Bytes} {t : Tables} {s : State} {o : Opened} (safe : Safe t s) 
         misread P few done f bad w holds passed = p-fault line s w o index many (x₀ .small) (x .small) r f passed (omega (arith, less)) (rw (placed passed) at (done .0)) bad
         misread C few done f bad w holds passed = c-fault line s w o index many (x₀ .row) (x .row) r f passed (within passed) (rw (placed passed) at (done .0)) bad
         misread H few done f bad w holds passed = h-fault passed (within passed) (rw (placed passed) at (done .0)) bad
-        misread B few done f bad w holds passed = b-fault passed (within passed) (rw (placed passed) at (done .2)) bad
+        misread B few done f bad w holds passed = b-fault passed (within passed) (rw (placed passed) at (done .0)) bad
         misread M few done f bad w holds passed = m-fault passed (within passed) (rw (placed passed) at (done .0)) bad
         misread E few done f bad w holds passed = absurd done
         misread NoLetter few done f bad w holds passed = absurd done
@@ -168,7 +168,7 @@ module _ {line : Bytes} {t : Tables} {s : State} {o : Opened} (safe : Safe t s) 
         early P few done f bad = omega (arith, ap numberOf (p-misread (done .0) (omega (arith, less)) bad))
         early C few done f bad = omega (arith, ap numberOf (field-fails many Number (isClaimNumber (part line from stop)) (done .0 .answer) bad .1))
         early H few done f bad = omega (arith, ap numberOf (t-misread (done .0) bad))
-        early B few done f bad = omega (arith, ap numberOf (t-misread (done .2) bad))
+        early B few done f bad = omega (arith, ap numberOf (t-misread (done .0) bad))
         early M few done f bad = omega (arith, ap numberOf (field-fails many Number (isMultiplier (part line from stop)) (done .0 .answer) bad .1))
         early E few done f bad = absurd done
         early NoLetter few done f bad = absurd done
@@ -208,7 +208,7 @@ module _ {line : Bytes} {t : Tables} {s : State} {o : Opened} (safe : Safe t s) 
             rows = read .stores .rows;
           })
           stores-after H done = subst⁻¹ SafeStores (done .1) (term-stores (done .0))
-          stores-after B done = subst⁻¹ SafeStores (done .3) (term-stores (done .2))
+          stores-after B done = subst⁻¹ SafeStores (done .1) (term-stores (done .0))
           stores-after M done = subst⁻¹ SafeStores (done .1) (record {
             smallSize = read .stores .smallSize;
             arity = read .stores .arity;
@@ -225,7 +225,7 @@ module _ {line : Bytes} {t : Tables} {s : State} {o : Opened} (safe : Safe t s) 
           high-after P few done = omega (arith, p-count (done .0) (omega (arith, less)) good, read .high)
           high-after C few done = omega (arith, c-count (done .0) good, read .high)
           high-after H few done = t-high (done .0) good
-          high-after B few done = t-high (done .2) good
+          high-after B few done = t-high (done .0) good
           high-after M few done = omega (arith, m-count (done .0) good, read .high)
           high-after E few done = absurd done
           high-after NoLetter few done = absurd done
@@ -234,7 +234,7 @@ module _ {line : Bytes} {t : Tables} {s : State} {o : Opened} (safe : Safe t s) 
           untouched-after P done before = subst⁻¹ (Untouched P t) (done .1) before
           untouched-after C done before = subst⁻¹ (Untouched C t) (done .1) before
           untouched-after H done before = subst⁻¹ (Untouched H t) (done .1) before
-          untouched-after B done before = subst⁻¹ (Untouched B t) (done .3) before
+          untouched-after B done before = subst⁻¹ (Untouched B t) (done .1) before
           untouched-after M done before = subst⁻¹ (Untouched M t) (done .1) before
           untouched-after E done before = absurd done
           untouched-after NoLetter done before = absurd done
@@ -254,7 +254,7 @@ module _ {line : Bytes} {t : Tables} {s : State} {o : Opened} (safe : Safe t s) 
           progress P few done w passed before = p-field (drop 2 (fieldsOf line)) index many (x₀ .small) (x .small) r n (omega (arith, less)) before (rw (placed passed) at (done .0)) good
           progress C few done w passed before = c-field (drop 2 (fieldsOf line)) index many (x₀ .row) (x .row) r n before (rw (placed passed) at (done .0)) good
           progress H few done w passed before = h-field (omega (arith, less)) (within passed) (read .stores .rowsSize) before (rw (placed passed) at (done .0)) good
-          progress B few done w passed before = b-field (done .1) (omega (arith, less)) (within passed) (read .stores .rowsSize) before (rw (placed passed) at (done .2)) good
+          progress B few done w passed before = b-field (omega (arith, less)) (within passed) (read .stores .rowsSize) before (rw (placed passed) at (done .0)) good
           progress M few done w passed before = m-field before (rw (placed passed) at (done .0)) good
           progress E few done w passed before = tt
           progress NoLetter few done w passed before = before

@@ -19,7 +19,7 @@ use Rattle.tables.specs.declared.Closing.the-variants.{Done, Misclosed}
 use Rattle.tables.specs.Tables.{Tables, SafeSignatures, SafeClaims}
 use Rattle.declarations.specs.Fields.{FieldP, FieldC, ProgressP, ProgressC}
 use Rattle.declarations.specs.Ends.{ClosesP, ClosesC}
-use Rattle.atoms.specs.Fields.{FieldTerm, SubgoalAtom, ProgressTerms, ProgressSubgoal}
+use Rattle.atoms.specs.Fields.{FieldTerm, subgoalAtom, ProgressTerms, ProgressSubgoal}
 use Rattle.atoms.specs.Ends.{ClosesH, ClosesB}
 use Rattle.certificates.specs.Weights.{RoomFor}
 use Rattle.certificates.specs.Sums.{Summable}
@@ -46,7 +46,7 @@ abbrev pub FieldNeeds : Letter → ℕ → Bytes → State → ℕ → List ℤ 
 FieldNeeds P index field s many claims slots x = (index < 2) × (length (x .small) ≡ 2)
 FieldNeeds C index field s many claims slots x = (index < 9) × (length (x .row) ≡ 9)
 FieldNeeds H index field s many claims slots x = TermReady index field many
-FieldNeeds B index field s many claims slots x = TermReady index field many × (s .subgoals ≤ 8)
+FieldNeeds B index field s many claims slots x = TermReady index field many
 FieldNeeds M index field s many claims slots x =
     (index < 128) × (getD slots index 0 + 9 ≤ 4608) × (getD slots (128 + index) 0 < 8) × SafeClaims claims × RoomFor (x .weights) (getD slots (128 + index) 0 + 1)
 FieldNeeds E index field s many claims slots x = ⊥
@@ -59,8 +59,7 @@ FieldLeaves C index field s many claims slots x₀ r x = FieldC index field many
 FieldLeaves H index field s many claims slots x₀ r x =
     FieldTerm 0 index field many (x₀ .variables) (x₀ .rows) r (x .variables) (x .rows) × (x ≡ stores (x₀ .small) (x₀ .row) (x .variables) (x .rows) (x₀ .weights))
 FieldLeaves B index field s many claims slots x₀ r x =
-    (atom : ℕ) × SubgoalAtom (s .subgoals) atom × FieldTerm atom index field many (x₀ .variables) (x₀ .rows) r (x .variables) (x .rows)
-    × (x ≡ stores (x₀ .small) (x₀ .row) (x .variables) (x .rows) (x₀ .weights))
+    FieldTerm (subgoalAtom (s .subgoals)) index field many (x₀ .variables) (x₀ .rows) r (x .variables) (x .rows) × (x ≡ stores (x₀ .small) (x₀ .row) (x .variables) (x .rows) (x₀ .weights))
 FieldLeaves M index field s many claims slots x₀ r x =
     FieldM index field many claims slots (x₀ .weights) r (x .weights) × (x ≡ stores (x₀ .small) (x₀ .row) (x₀ .variables) (x₀ .rows) (x .weights))
 FieldLeaves E index field s many claims slots x₀ r x = ⊥

@@ -59,31 +59,10 @@ fn field(
     match letter {
         Letter::P => declarations::field_predicate(index, part, small, many),
         Letter::C => declarations::field_claim(index, part, row, many),
-        Letter::H => atoms::field_term(
-            0,
-            index,
-            part,
-            many,
-            variables,
-            rows,
-            hints,
-            arities,
-            places,
-            classes,
-        ),
-        Letter::B => {
-            let atom = atoms::subgoal_atom(state.subgoals);
+        Letter::H | Letter::B => {
+            let atom = atoms::atom_of(letter, state.subgoals);
             atoms::field_term(
-                atom,
-                index,
-                part,
-                many,
-                variables,
-                rows,
-                hints,
-                arities,
-                places,
-                classes,
+                atom, index, part, many, variables, rows, hints, arities, places, classes,
             )
         }
         Letter::M => certificates::field_multiplier(index, part, many, claims, slots, weights),

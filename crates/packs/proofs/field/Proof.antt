@@ -1,9 +1,9 @@
 -- `packs::field` meets its contract. Assumes nothing.
-use native.Mathlib.Omega.{arith}
 use borrow.Author.Needs.{needs}
 use mathlib.Core.Path.{refl}
-use Rattle.theory.specs.declared.Letter.the-variants.{P, C, H, B, M, E, NoLetter}
-use Rattle.packs.proofs.Steps.{field-done}
+use Rattle.theory.specs.declared.Letter.the-variants.{P, C, M, E, NoLetter}
+use Rattle.atoms.proofs.StatedAtoms.{atom-high}
+use Rattle.packs.proofs.Steps.{field-done, atom-ready, atom-done}
 use Rattle.packs.proofs.field.Statement.{statement}
 use Rattle.packs.proofs.field.Tie as tie
 
@@ -15,18 +15,11 @@ field-claim-requires c κs = c .before .before .before .before .pre .0 .of C (se
 
 field-term-requires : tie.Need-field-term-requires
 field-term-requires c κs =
-    let pre = c .before .before .before .before .before .before .before .before .pre in
-    let ready = pre .0 .of H (search needs) in
-    (omega arith, ready .0, ready .1, ready .2, pre .1, pre .2, pre .3)
-
-subgoal-atom-requires : tie.Need-subgoal-atom-requires
-subgoal-atom-requires c κs = c .before .before .before .pre .0 .of B (search needs) .1
-
-field-term-requires-2 : tie.Need-field-term-requires-2
-field-term-requires-2 c κs =
-    let pre = c .before .before .before .before .before .before .before .before .before .pre in
-    let ready = pre .0 .of B (search needs) .0 in
-    (search needs, ready .0, ready .1, ready .2, pre .1, pre .2, pre .3)
+    let stated = c .before .before .before .before .before in
+    let start = stated .before .before .before in
+    let pre = start .pre in
+    let ready = atom-ready (stated .before .match .keys3) (pre .0) in
+    (rw (stated .atom-of .ensures) (atom-high (start .args .letter) (start .args .state .subgoals)), ready .0, ready .1, ready .2, pre .1, pre .2, pre .3)
 
 field-multiplier-requires : tie.Need-field-multiplier-requires
 field-multiplier-requires c κs = c .before .before .before .before .pre .0 .of M (search needs)
@@ -38,23 +31,22 @@ returns-2 : tie.Need-returns-2
 returns-2 c = let pre = c .before .before .before .before .before .pre in ((pre .1, pre .2), field-done C (search needs) (c .field-claim .ensures, refl))
 
 returns-3 : tie.Need-returns-3
-returns-3 c = (c .field-term .ensures .0, field-done H (search needs) (c .field-term .ensures .1, refl))
+returns-3 c =
+    let stated = c .before .before .before .before .before .before in
+    let done = c .field-term .ensures in
+    (done .0, atom-done (stated .before .match .keys3) (rw (stated .atom-of .ensures) at (done .1)) refl)
 
 returns-4 : tie.Need-returns-4
-returns-4 c = (c .field-term2 .ensures .0, field-done B (search needs) (_, search needs, c .field-term2 .ensures .1, refl))
+returns-4 c = let pre = c .before .before .before .before .before .pre in ((pre .1, pre .2), field-done M (search needs) (c .field-multiplier .ensures, refl))
 
 returns-5 : tie.Need-returns-5
-returns-5 c = let pre = c .before .before .before .before .before .pre in ((pre .1, pre .2), field-done M (search needs) (c .field-multiplier .ensures, refl))
+returns-5 c = absurd (c .before .before .before .pre .0 .of E (search needs))
 
 returns-6 : tie.Need-returns-6
-returns-6 c = absurd (c .before .before .before .pre .0 .of E (search needs))
-
-returns-7 : tie.Need-returns-7
-returns-7 c = absurd (c .before .before .before .pre .0 .of NoLetter (search needs))
+returns-6 c = absurd (c .before .before .before .pre .0 .of NoLetter (search needs))
 
 pub field-spec : {M : Type 1} → statement M
 field-spec =
     tie.close (tie.spec (λ c. search needs) field-predicate-requires (λ c. search needs) field-claim-requires
-    (λ c. search needs) field-term-requires (λ c. search needs) subgoal-atom-requires field-term-requires-2
-    (λ c. search needs) field-multiplier-requires (λ c. search needs) (λ c. search needs) returns returns-2 returns-3
-    returns-4 returns-5 returns-6 returns-7)
+    (λ c κs. search needs) field-term-requires (λ c. search needs) field-multiplier-requires (λ c. search needs)
+    (λ c. search needs) returns returns-2 returns-3 returns-4 returns-5 returns-6)
