@@ -19,8 +19,8 @@ use tables::Signatures;
 use tables::Slots;
 use tables::State;
 use tables::Variables;
-use theory::Letter;
 use text::Word;
+use theory::Letter;
 
 /// Which atom of the rule the next subgoal is. (A ninth one, which is refused when its line is done, takes the eighth one's
 /// rows.)

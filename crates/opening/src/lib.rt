@@ -115,8 +115,9 @@ fn name_of(
     if line.len() < 2 {
         return Naming::NoName;
     }
-    let stop = reader::field_end(line, 2);
-    let word = text::word_between(line, 2, stop, classes);
+    let ends = text::word_end(line, 2, classes);
+    let stop = reader::field_end(line, ends);
+    let word = text::word_by_end(line, 2, stop, ends, classes);
     match word {
         Word::Name(words) => {
             let place = text::place_by(names, known, words, hints);

@@ -62,7 +62,16 @@ fn field(
         Letter::H | Letter::B => {
             let atom = atoms::atom_of(letter, state.subgoals);
             atoms::field_term(
-                atom, index, part, many, variables, rows, hints, arities, places, classes,
+                atom,
+                index,
+                part,
+                many,
+                variables,
+                rows,
+                hints,
+                arities,
+                places,
+                classes,
             )
         }
         Letter::M => certificates::field_multiplier(index, part, many, claims, slots, weights),

@@ -1,4 +1,4 @@
--- What `word_between` answers: the bytes between two places, of which the table tells the classes.
+-- What `word_by_end` answers: the bytes between two places, of which the table tells the classes.
 use mathlib.Core.Path.{_≡_, sym, _∙_, ap}
 use mathlib.Core.Bool.{true}
 use Prim.Native.Nat.{ℕ, _+_, _-_, _≤_, _<_}

@@ -26,6 +26,7 @@ pub use plain::is_unfit_in;
 pub use table::class_of;
 pub use table::class_table;
 pub use table::word_between;
+pub use table::word_by_end;
 pub use table::word_end;
 
 /// The first place at or after `from` where `wanted` stands, or the length.

@@ -296,9 +296,9 @@ pub fn word_end(bytes: &[u8], from: usize, classes: &[u8; 256]) -> usize
     i
 }
 
-/// The bytes between two places, as a name or a variable.
-pub fn word_between(bytes: &[u8], from: usize, end: usize, classes: &[u8; 256]) -> Word
-    requires { ⌜ (from ≤ end) × (end ≤ length (now bytes)) × Classes (now classes) ⌝ }
+/// The bytes between two places as a word, where the first place whose byte no name has is known.
+pub fn word_by_end(bytes: &[u8], from: usize, end: usize, ends: usize, classes: &[u8; 256]) -> Word
+    requires { ⌜ (end ≤ length (now bytes)) × EndsWord (now bytes) from ends × Classes (now classes) ⌝ }
     ensures { λ r. ⌜ WordRead (part (now (bytes .entry)) from end) r ⌝ }
 {
     if end <= from {
@@ -307,15 +307,25 @@ pub fn word_between(bytes: &[u8], from: usize, end: usize, classes: &[u8; 256]) 
     if 16 < end - from {
         return Word::Neither;
     }
-    if word_end(bytes, from, classes) < end {
+    if ends < end {
         return Word::Neither;
     }
+    let words = super::words_at(bytes, from, end);
     let class = class_of(bytes[from], classes);
     if class == 1 {
-        return Word::Name(super::words_at(bytes, from, end));
+        return Word::Name(words);
     }
     if class == 2 {
-        return Word::Variable(super::words_at(bytes, from, end));
+        return Word::Variable(words);
     }
     Word::Neither
+}
+
+/// The bytes between two places as a word: a name, a variable or neither.
+pub fn word_between(bytes: &[u8], from: usize, end: usize, classes: &[u8; 256]) -> Word
+    requires { ⌜ (from ≤ end) × (end ≤ length (now bytes)) × Classes (now classes) ⌝ }
+    ensures { λ r. ⌜ WordRead (part (now (bytes .entry)) from end) r ⌝ }
+{
+    let ends = word_end(bytes, from, classes);
+    word_by_end(bytes, from, end, ends, classes)
 }
