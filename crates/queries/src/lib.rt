@@ -9,6 +9,8 @@ ghost use Rattle.text.specs.Scans.{partsFrom};
 ghost use Rattle.tables.specs.Tables.{SafeSignatures};
 ghost use Rattle.tables.specs.QuerySizes.{SafeSizes};
 ghost use Rattle.queries.specs.Queries.{sizeNumber, SizesRead, Means, OpensQuery};
+use tables::Names;
+use tables::Signatures;
 use text::Natural;
 use text::Word;
 
@@ -82,7 +84,7 @@ fn read_asked(field: &[u8], arity: u8) -> usize
 }
 
 /// The place of the predicate that a field names, or how many there are.
-fn named_by(field: &[u8], names: &[u64; 64], known: usize) -> usize
+fn named_by(field: &[u8], names: &Names, known: usize) -> usize
     requires { ⌜ known ≤ 32 ⌝ }
     ensures { λ r. ⌜ Means (now (field .entry)) (now (names .entry)) known r ⌝ }
 {
@@ -98,8 +100,8 @@ fn named_by(field: &[u8], names: &[u64; 64], known: usize) -> usize
 /// The tests of a query, in number order. The sizes that it gives are left in `sizes`.
 pub fn open_query(
     query: &[u8],
-    names: &[u64; 64],
-    signatures: &[u8; 96],
+    names: &Names,
+    signatures: &Signatures,
     known: usize,
     sizes: &mut [u32; 8],
 ) -> Asked

@@ -6,6 +6,9 @@ ghost use Rattle.theory.specs.Reserve.{reserveOf};
 ghost use Rattle.theory.specs.Answers.{reservedFields, passedOn};
 ghost use Rattle.tables.specs.Tables.{SafeSignatures, SafeClaims};
 ghost use Rattle.reservation.specs.Answering.{RefusesQuery, Answers, Ready, Responds};
+use tables::Claims;
+use tables::Names;
+use tables::Signatures;
 use theory::QueryRefusal;
 use theory::Reservation;
 use theory::Verdict;
@@ -27,9 +30,9 @@ fn query_refusal(fault: u8) -> QueryRefusal
 /// Answers a query on an accepted pack that the tables hold.
 pub fn answer(
     query: &[u8],
-    names: &[u64; 64],
-    signatures: &[u8; 96],
-    claims: &[i16; 4608],
+    names: &Names,
+    signatures: &Signatures,
+    claims: &Claims,
     known: usize,
 ) -> Reservation
     requires { ⌜ (known ≤ 32) × (SafeSignatures (now signatures)) × (SafeClaims (now claims)) ⌝ }
@@ -49,9 +52,9 @@ pub fn answer(
 pub fn respond(
     verdict: Verdict,
     query: &[u8],
-    names: &[u64; 64],
-    signatures: &[u8; 96],
-    claims: &[i16; 4608],
+    names: &Names,
+    signatures: &Signatures,
+    claims: &Claims,
     known: usize,
 ) -> Reservation
     requires { ⌜ Ready verdict (now signatures) (now claims) known ⌝ }
