@@ -1,8 +1,10 @@
 /* Cerrundix: checks the size claims of a rule pack, reserves by them, measures ground terms.
  *
- * Link with libcerrundix.a (`rt staticlib cerrundix` makes it). The library keeps no state, takes no memory from the heap
- * and calls nothing but memset. Each call returns, whatever the bytes; no call reads or writes outside the buffers that it
- * is lent. What each word means is proved against document 01 (docs/MAP.md).
+ * Link with libcerrundix.a (`scripts/prepare library` makes it, for x86-64 Linux). The library keeps no state, so threads
+ * may call it at the same time; it takes no memory from the heap, and calls nothing but memset and memcpy. Each call
+ * returns, whatever the bytes, given enough stack (check and reserve used 17,312 bytes, measure 1,944: bench/README.md);
+ * no call reads or writes outside the buffers that it is lent. What each word means is proved against document 01
+ * (docs/MAP.md).
  *
  * A buffer is a pointer and a length. A buffer of length 0 may be lent as NULL and 0. No buffer needs to end with a zero
  * byte. The residual area must not overlap the text.
@@ -72,7 +74,7 @@ static inline const char *cerrundix_reason(unsigned number) {
     case 2: return "the text is over 32,768 bytes: split the pack";
     case 3: return "the text is empty or its last byte is not 10: end the last line";
     case 4: return "over 1,024 bytes, or a byte outside 32 to 126: shorten it, look for tabs and letters that are not ASCII";
-    case 5: return "a line of this letter may not stand here: check the order, count the M lines";
+    case 5: return "a line of this letter may not stand here: check the order, count the M lines; comments and blank lines are not allowed";
     case 6: return "the text ends without an E line: add it";
     case 7: return "the second field is missing or no name: a small letter first, at most 16 characters";
     case 8: return "on a P line the name is taken; on other lines it is not declared, or on H it is of a given predicate";
@@ -80,7 +82,7 @@ static inline const char *cerrundix_reason(unsigned number) {
     case 10: return "an arity, kind, claim number or multiplier is malformed or out of range";
     case 11: return "a field is no term: each symbol needs its arity and that many terms, parted by single spaces";
     case 12: return "the line passes a count limit";
-    case 13: return "a claim is not justified, the area holds the residual: other multipliers, or a weaker claim";
+    case 13: return "a claim is not justified, the area holds the residual: other multipliers, one more claim on a subgoal, another base case, or a weaker claim";
     case 14: return "the query's name is missing, malformed or not declared";
     case 15: return "the query has not two fields more than the predicate has arguments";
     case 16: return "the asked argument is malformed, or the predicate has none of that number";

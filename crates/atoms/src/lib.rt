@@ -1,7 +1,9 @@
 // `H` and `B` lines: a head, a subgoal. What their fields and their ends do.
 ghost use mathlib.Core.Path.{_≡_};
+ghost use mathlib.Core.Bool.{true};
 ghost use Prim.Native.Nat.{_+_, _*_, _≤_, _<_};
-ghost use lib.ListN.{length};
+ghost use lib.ListN.{length, getD};
+ghost use Rattle.theory.specs.Text.{isUpper};
 ghost use Rattle.text.specs.Classes.{Classes};
 ghost use Rattle.tables.specs.Tables.{SafeSignatures};
 ghost use Rattle.atoms.specs.Fields.{FieldTerm, SubgoalAtom};
@@ -17,6 +19,7 @@ use tables::Signatures;
 use tables::Slots;
 use tables::State;
 use tables::Variables;
+use text::Word;
 
 /// Which atom of the rule the next subgoal is. (A ninth one, which is refused when its line is done, takes the eighth one's
 /// rows.)
@@ -27,7 +30,35 @@ pub fn subgoal_atom(subgoals: usize) -> usize
     if subgoals < 8 { subgoals + 1 } else { 8 }
 }
 
-/// A field of an `H` or `B` line: a term, whose form goes into the row of the atom's argument.
+/// As `field_term`, of a field that begins with a capital: it is one variable or no term.
+fn field_variable(
+    atom: usize,
+    index: usize,
+    field: &[u8],
+    many: usize,
+    variables: &mut Variables,
+    rows: &mut Rows,
+    hints: &mut Hints,
+    classes: &[u8; 256],
+) -> Fielding
+    requires { ⌜ (atom ≤ 8) × (index < 8) × (many ≤ 17) × (0 < length (now field)) × (isUpper (getD (now field) 0 0) ≡ true) × Classes (now classes) ⌝ }
+    ensures { λ r. ⌜ FieldTerm atom index (now (field .entry)) many (now (variables .entry)) (now (rows .entry)) r (now (variables .exit)) (now (rows .exit)) ⌝ }
+{
+    let word = text::word_between(field, 0, field.len(), classes);
+    match word {
+        Word::Variable(words) => {
+            let base = tables::row_place(atom, index);
+            let known = terms::count_lone_variable(words, variables, many, hints, rows, base);
+            rows[base] = 0;
+            Fielding::Read(known)
+        }
+        Word::Name(_) => Fielding::Misread(Fault::NoTerm),
+        Word::Neither => Fielding::Misread(Fault::NoTerm),
+    }
+}
+
+/// A field of an `H` or `B` line: a term, whose form goes into the row of the atom's argument. Most are one variable, and
+/// no tokens are read of those.
 pub fn field_term(
     atom: usize,
     index: usize,
@@ -44,6 +75,11 @@ pub fn field_term(
     ensures kept { λ r. ⌜ (length (now (arities .exit)) ≡ 512) × (length (now (places .exit)) ≡ 512) ⌝ }
     ensures done { λ r. ⌜ FieldTerm atom index (now (field .entry)) many (now (variables .entry)) (now (rows .entry)) r (now (variables .exit)) (now (rows .exit)) ⌝ }
 {
+    if 0 < field.len() {
+        if text::class_of(field[0], classes) == 2 {
+            return field_variable(atom, index, field, many, variables, rows, hints, classes);
+        }
+    }
     let read = terms::read_tokens(field, classes, arities, places);
     if !read.fine {
         return Fielding::Misread(Fault::NoTerm);

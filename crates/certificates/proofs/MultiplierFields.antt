@@ -1,6 +1,6 @@
 -- A field of an `M` line: a multiplier, and its claim's numbers taken from the weights.
 use mathlib.Core.Path.{_≡_, refl, sym, _∙_, ap}
-use mathlib.Core.List.{List}
+use mathlib.Core.List.{List, [], _∷_}
 use mathlib.Core.Option.{some}
 use Prim.Native.Nat.{ℕ, _+_, _*_, _≤_, _<_}
 use native.Mathlib.Omega.{arith}
@@ -10,7 +10,7 @@ use mir.Syntax.{w32}
 use Rattle.groundwork.proofs.Truth.{never-both}
 use Rattle.groundwork.proofs.Difference.{diff-eq, to-diff, by-diff₂}
 use Rattle.theory.specs.Lists.{isSome}
-use Rattle.theory.specs.Text.{Bytes, natural}
+use Rattle.theory.specs.Text.{Bytes, natural, isDecimal, valueAfter}
 use Rattle.theory.proofs.Reading.Spelling.{natural-within}
 use Rattle.text.specs.declared.Natural.{Natural}
 use Rattle.text.specs.declared.Natural.the-variants.{Whole, NoNatural}
@@ -78,3 +78,8 @@ module _ (field : Bytes) (read : Natural) (is : naturalOf read ≡ natural 9999 
     pub no-multiplier : read ≡ NoNatural → FieldM index field many claims slots weights₀ (Misread Number) weights₀
     unfolding isSome
     no-multiplier found = record { answer = rw (← is, found); weighed = λ h. never-both h (rw (← is, found)); size = refl }
+
+-- a field `0` that is not read takes nothing either
+pub zero-weighed : {index many : ℕ} {claims : List ℤ} {slots : List ℕ} {weights : List ℤ} {field : Bytes} → field ≡ 48 ∷ [] → FieldM index field many claims slots weights (Read many) weights
+unfolding natural isDecimal valueAfter
+zero-weighed {index} {many} {claims} {slots} {weights} {field} is = nothing-weighed field (Whole 0) (sym (ap (natural 9999) is)) index many claims slots weights 0 refl refl

@@ -1,9 +1,12 @@
 // A line's tests up to the count of its fields. Lines open in three ways, whatever else they say: with the name of a
 // predicate that is new, with that of a declared one, or with no name.
 ghost use mathlib.Core.Path.{_≡_};
+ghost use mathlib.Core.Bool.{true};
 ghost use Prim.Native.Nat.{_≤_, _<_};
 ghost use lib.ListN.{length};
 ghost use Rattle.theory.specs.declared.Letter.the-variants.{M, NoLetter};
+ghost use Rattle.theory.specs.Lists.{every};
+ghost use Rattle.theory.specs.Text.{between};
 ghost use Rattle.text.specs.Classes.{Classes};
 ghost use Rattle.tables.specs.Tables.{SafeState, SafeSignatures};
 ghost use Rattle.tables.specs.Lines.{most};
@@ -266,7 +269,7 @@ fn open_letter(
     }
 }
 
-/// A line's tests up to the count of its fields.
+/// A line's tests up to the count of its fields. Of a text that is plain, the bytes of its lines are known to be fit.
 pub fn open(
     line: &[u8],
     state: State,
@@ -274,11 +277,12 @@ pub fn open(
     signatures: &Signatures,
     hints: &mut Hints,
     classes: &[u8; 256],
+    plain: bool,
 ) -> Opening
-    requires { ⌜ (SafeSignatures (now signatures)) × (SafeState state) × Classes (now classes) ⌝ }
+    requires { ⌜ (SafeSignatures (now signatures)) × (SafeState state) × Classes (now classes) × (plain ≡ true → every (between 32 126) (now line) ≡ true) ⌝ }
     ensures { λ r. ⌜ Opens (now (line .entry)) (now (names .entry)) (now (signatures .entry)) state r ⌝ }
 {
-    if text::is_unfit(line) {
+    if text::is_unfit_in(line, plain) {
         return Opening::Misopened(Fault::UnfitLine);
     }
     let letter = letter_of(line);

@@ -1,6 +1,7 @@
 -- The steps of a line, by its letter.
 pub mod Steps
 pub mod FieldLoop
+pub mod ZeroFields
 pub mod EndLines
 pub mod LineEnds
 pub mod JudgedLines

@@ -1,7 +1,7 @@
 -- One turn of the loop over lines, by what its calls answer: what the loops' proof cites.
 use mathlib.Core.Path.{_≡_, refl, ap, subst⁻¹}
 use mathlib.Core.List.{List}
-use Prim.Native.Nat.{ℕ, _+_, _-_, _≤_, _<_}
+use Prim.Native.Nat.{ℕ, _+_, _-_, _*_, _≤_, _<_}
 use native.Mathlib.Omega.{arith}
 use lib.IntN.{ℤ}
 use lib.ListN.{length}
@@ -27,11 +27,12 @@ use Rattle.tables.proofs.Outlines.{outline}
 use Rattle.opening.specs.Opening.{Opens}
 use Rattle.certificates.specs.Sums.{width, Summable, SumsTo}
 use Rattle.packs.specs.declared.Ending.the-variants.{Stopped}
-use Rattle.packs.specs.Steps.{Stores, FieldReady, FieldDone, variablesBefore, Tabled, CloseReady, CloseDone}
+use Rattle.packs.specs.Steps.{Stores, FieldReady, FieldDone, Skips, variablesBefore, Tabled, CloseReady, CloseDone}
 use Rattle.packs.specs.Between.{FieldsRead, LineJudged, LinesRead}
 use Rattle.packs.specs.Loading.{LoadsLines}
 use Rattle.packs.proofs.Steps.{close-ready}
 use Rattle.packs.proofs.FieldLoop.{emptied, fields-begin, fields-ready, fields-fault, fields-early, fields-more, fields-all}
+use Rattle.packs.proofs.ZeroFields.{fields-skipped, skipped-within}
 use Rattle.packs.proofs.LineEnds.{unweighed, unclosed, closedTables, closable, closed}
 use Rattle.packs.proofs.JudgedLines.{refused-line, refused-opening}
 use Rattle.packs.proofs.LineLoop.{lines-more, lines-refused}
@@ -53,6 +54,21 @@ module _ {text : Bytes} {start : State} {t₀ : Tables} {s : State} {t : Tables}
 
       passed : (w : Written) → Holds t s w → Passed (o .letter) (part text at end) s w o
       passed w holds = opens .tells w (outline t s w holds) .passed o opened
+
+      -- multipliers 0 are passed over
+      module _ {many from index z : ℕ} {x₀ : Stores} (fields : FieldsRead (o .letter) (part text at end) t s o many from index x₀) (skips : Skips (part text at end) from (o .letter) z) where
+        pub turn-skipped : FieldsRead (o .letter) (part text at end) t s o many (from + 2 * z) (index + z) x₀
+        turn-skipped = fields-skipped (read .safe) (safe-opened .short) (o .letter) (safe-opened .few) fields skips
+
+        module _ (within : from ≤ length (part text at end)) where
+          pub turn-index-moved : Fits w64 (index + z)
+          turn-index-moved = omega (arith, turn-skipped .low, skipped-within within skips, safe-opened .short)
+
+          pub turn-width-fits : Fits w64 (2 * z)
+          turn-width-fits = omega (arith, skipped-within within skips, safe-opened .short)
+
+          pub turn-from-moved : Fits w64 (from + 2 * z)
+          turn-from-moved = omega (arith, skipped-within within skips, safe-opened .short)
 
       module _ {many from index : ℕ} {x₀ : Stores} (fields : FieldsRead (o .letter) (part text at end) t s o many from index x₀) where
         module _ {stop : ℕ} (within : from ≤ length (part text at end)) (found : Finds (part text at end) 44 from stop) where

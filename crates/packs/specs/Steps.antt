@@ -9,6 +9,7 @@ use Rattle.theory.specs.declared.Letter.{Letter}
 use Rattle.theory.specs.declared.Letter.the-variants.{P, C, H, B, M, E, NoLetter}
 use Rattle.theory.specs.Text.{Bytes, fieldsOf}
 use Rattle.theory.specs.Written.{Written}
+use Rattle.text.specs.Scans.{Zeros}
 use Rattle.tables.specs.declared.State.{State}
 use Rattle.tables.specs.declared.Fault.the-variants.{Letter as Misplaced}
 use Rattle.tables.specs.declared.Opened.{Opened}
@@ -70,6 +71,11 @@ pub record FieldReady (letter : Letter) (index : ℕ) (field : Bytes) (s : State
 
 pub record FieldDone (letter : Letter) (index : ℕ) (field : Bytes) (s : State) (many : ℕ) (claims : List ℤ) (slots : List ℕ) (x₀ : Stores) (r : Fielding) (x : Stores) : Type 0 where
   pub of : (l : Letter) → letter ≡ l → FieldLeaves l index field s many claims slots x₀ r x
+
+-- fields from a place on that need not be read: multipliers 0
+pub data Skips (line : Bytes) (from : ℕ) : Letter → ℕ → Type 0 where
+  none : {letter : Letter} → Skips line from letter 0
+  zeros : {r : ℕ} → Zeros line from r → Skips line from M r
 
 -- how many variables the rule has when the fields begin
 abbrev pub variablesBefore : Letter → State → ℕ

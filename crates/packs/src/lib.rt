@@ -11,7 +11,7 @@ ghost use Rattle.text.specs.Classes.{Classes};
 ghost use Rattle.tables.specs.declared.Closing.the-variants.{Done};
 ghost use Rattle.tables.specs.Faults.{numberOf};
 ghost use Rattle.tables.specs.Tables.{Safe};
-ghost use Rattle.packs.specs.Steps.{stores, FieldReady, FieldDone, variablesBefore, tabled, withEnd, CloseReady, CloseDone};
+ghost use Rattle.packs.specs.Steps.{stores, FieldReady, FieldDone, Skips, variablesBefore, tabled, withEnd, CloseReady, CloseDone};
 ghost use Rattle.packs.specs.Loading.{faultNumbers, begun, unruled, fresh, LoadsLines, Laid, Loads};
 use forms::Form;
 use tables::Claims;
@@ -145,6 +145,22 @@ fn variables_before(letter: Letter, state: State) -> usize
     }
 }
 
+/// How many fields from a place on need not be read: multipliers 0, which change nothing, up to one that is read.
+fn zeros_ahead(letter: Letter, line: &[u8], from: usize) -> usize
+    requires { ⌜ from ≤ length (now line) ⌝ }
+    ensures { λ r. ⌜ Skips (now (line .entry)) from letter r ⌝ }
+{
+    match letter {
+        Letter::P => 0,
+        Letter::C => 0,
+        Letter::H => 0,
+        Letter::B => 0,
+        Letter::M => text::zeros(line, from),
+        Letter::E => 0,
+        Letter::NoLetter => 0,
+    }
+}
+
 /// How the lines of a text end: all pass, or the first fault.
 pub enum Ending {
     AllPass,
@@ -173,6 +189,7 @@ pub fn load_lines(
     ensures { λ r. ⌜ LoadsLines (now (text .entry)) start (unruled (now (names .entry)) (now (signatures .entry)) (now (claims .entry))) r (now (names .exit)) (now (signatures .exit)) (now (claims .exit)) ⌝ }
 {
     let classes = text::class_table();
+    let plain = text::is_plain(text);
     let mut variables = [0u64; 64];
     let mut rows = [0u16; 1224];
     let mut weights = [0i32; 81];
@@ -190,7 +207,7 @@ pub fn load_lines(
         let end = text::find_far(text, b'\n', at);
         let line = &text[at..end];
         number += 1;
-        let opened = opening::open(line, state, names, signatures, &mut hints, &classes);
+        let opened = opening::open(line, state, names, signatures, &mut hints, &classes, plain);
         let o = match opened {
             Opening::Line(o) => o,
             Opening::Misopened(fault) => {
@@ -206,6 +223,9 @@ pub fn load_lines(
         let mut from = o.from;
         let mut index: usize = 0;
         'fields: while from <= width {
+            let skipped = zeros_ahead(letter, line, from);
+            index += skipped;
+            from += 2 * skipped;
             let stop = reader::field_end(line, from);
             let read = field(
                 letter,

@@ -23,3 +23,5 @@ pub mod VariableTable
 pub mod RowCounting
 pub mod Tally
 pub mod PlaceLoop
+-- a field that is one variable, or begins as one
+pub mod LoneVariables

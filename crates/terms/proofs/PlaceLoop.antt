@@ -8,16 +8,15 @@ use native.Mathlib.Omega.{arith}
 use lib.ListN.{length, getD, take}
 use lib.Seq.{take-suc}
 use Rattle.theory.specs.Text.{Bytes}
-use Rattle.theory.specs.Terms.{Term, readTerm, variables, occurrences}
-use Rattle.theory.specs.Residuals.{numbered}
+use Rattle.theory.specs.Terms.{Term, readTerm, variables}
 use Rattle.text.specs.Scans.{part}
 use Rattle.text.specs.Words.{wordsOf}
 use Rattle.text.specs.declared.Words.{Words}
 use Rattle.terms.specs.TokenRows.{startOf, endOf, standingAt, PlacesStand}
-use Rattle.terms.specs.Rows.{Holds, Elsewhere, Cleared, SmallRow, CountsOne, CountedFrom, Counted}
+use Rattle.terms.specs.Rows.{Holds, Elsewhere, Cleared, SmallRow, CountsOne, Counted}
 use Rattle.terms.proofs.RowStores.{countAt, none-stored, stored-again}
 use Rattle.terms.proofs.OneOccurrence.{leaves}
-use Rattle.terms.proofs.Tally.{Tallied, all-placed, too-many, one-tallied}
+use Rattle.terms.proofs.Tally.{Tallied, none-tallied, tally-counted, one-tallied}
 
 -- at a place; rows₀ is the table with the row cleared
 pub record Counting (field : Bytes) (places : List ℕ) (count : ℕ) (names₀ : List ℕ) (known : ℕ) (rows₀ : List ℕ) (base i many : ℕ) (names : List ℕ) (rows : List ℕ) : Type 0 where
@@ -33,7 +32,6 @@ module _ (field : Bytes) (places : List ℕ) (count : ℕ) (stand : PlacesStand 
   -- ---- before the first place
 
   pub counting-none : (entry : List ℕ) → Cleared entry base rows₀ 16 → Counting field places count names₀ known rows₀ base 0 known names₀ rows₀
-  unfolding numbered occurrences
   counting-none entry cleared =
       record {
         past = omega arith;
@@ -42,7 +40,7 @@ module _ (field : Bytes) (places : List ℕ) (count : ℕ) (stand : PlacesStand 
         nameSize = refl;
         elsewhere = none-stored rows₀ base;
         small = λ j h. omega (arith, cleared .zeros j h);
-        tallied = λ seen holds counted size. all-placed (sym counted) holds (record { counts = λ j h. cleared .zeros j (omega (arith, holds .few)); zeros = λ j h k. cleared .zeros j h });
+        tallied = λ seen holds number size. none-tallied holds number (cleared .zeros);
       }
 
   module _ (i many : ℕ) (names : List ℕ) (rows : List ℕ) (before : Counting field places count names₀ known rows₀ base i many names rows) where
@@ -78,10 +76,6 @@ module _ (field : Bytes) (places : List ℕ) (count : ℕ) (stand : PlacesStand 
     -- ---- after the last place
 
     module _ (ended : count ≤ i) where
-      counted : (seen : List Bytes) (t : Term) → Tallied seen (variables t) base many names rows → CountedFrom field seen base many names rows t
-      counted seen t (all-placed number holds row) = record { few = λ h. number; many = λ h. absurd (omega (arith, holds .few)); holds = λ h. holds; row = λ h. row }
-      counted seen t (too-many number more) = record { few = λ h. absurd (omega arith); many = λ h. number; holds = λ h. absurd (omega arith); row = λ h. absurd (omega arith) }
-
       all-passed : (t : Term) → readTerm field ≡ some t → map (standingAt field) (take i places) ≡ variables t
       all-passed t e = let same : i ≡ count = omega (arith, before .past) in ap (λ (n : ℕ). map (standingAt field) (take n places)) same ∙ sym (stand .all t e)
 
@@ -95,5 +89,5 @@ module _ (field : Bytes) (places : List ℕ) (count : ℕ) (stand : PlacesStand 
             size = other .size;
             small = counting-small;
             nameSize = before .nameSize;
-            from = λ seen holds number size t e. counted seen t (rw (all-passed t e) at (before .tallied seen holds number (cleared .elsewhere .size ∙ size)));
+            from = λ seen holds number size t e. tally-counted field t (rw (all-passed t e) at (before .tallied seen holds number (cleared .elsewhere .size ∙ size)));
           }

@@ -1,5 +1,5 @@
 -- The table of a rule's variables and a row that counts them, when some variables have been counted: one variable more.
-use mathlib.Core.Path.{_≡_, refl, ap}
+use mathlib.Core.Path.{_≡_, refl, sym, ap}
 use mathlib.Core.Bool.{true, false}
 use mathlib.Core.List.{List, [], _∷_, _++_}
 use Prim.Native.Nat.{ℕ, _+_, _≤_, _<_}
@@ -7,9 +7,10 @@ use native.Mathlib.Omega.{arith}
 use lib.ListN.{length, getD}
 use Rattle.groundwork.proofs.Lists.{length-end}
 use Rattle.theory.specs.Text.{Bytes, among, isVariable}
+use Rattle.theory.specs.Terms.{Term, variables, occurrences}
 use Rattle.theory.specs.Residuals.{numbered}
 use Rattle.text.specs.Words.{wordsOf}
-use Rattle.terms.specs.Rows.{Holds, RowCounts, CountsOne, known-already, one-more, none-left, past}
+use Rattle.terms.specs.Rows.{Holds, RowCounts, CountedFrom, CountsOne, known-already, one-more, none-left, past}
 use Rattle.terms.proofs.Numbering.{place-among, numbered-end-known, numbered-end-new, numbered-grows}
 use Rattle.terms.proofs.VariableTable.{found-is, not-found, holds-more}
 use Rattle.terms.proofs.RowCounting.{row-known, row-new}
@@ -18,6 +19,16 @@ use Rattle.terms.proofs.RowCounting.{row-known, row-new}
 pub data Tallied (seen done : List Bytes) (base many : ℕ) (names : List ℕ) (rows : List ℕ) : Type 0 where
   all-placed : many ≡ length (numbered seen done) → Holds names (numbered seen done) → RowCounts rows base (numbered seen done) done → Tallied seen done base many names rows
   too-many : many ≡ 17 → 16 < length (numbered seen done) → Tallied seen done base many names rows
+
+-- none counted yet
+pub none-tallied : {seen : List Bytes} {base known : ℕ} {names rows : List ℕ} → Holds names seen → length seen ≡ known → ((i : ℕ) → i < 16 → getD rows (base + 1 + i) 0 ≡ 0) → Tallied seen [] base known names rows
+unfolding numbered occurrences
+none-tallied holds number zeros = all-placed (sym number) holds (record { counts = λ i h. zeros i (omega (arith, holds .few)); zeros = λ i h _. zeros i h })
+
+-- all variables of a term counted
+pub tally-counted : (field : Bytes) {seen : List Bytes} (t : Term) {base many : ℕ} {names rows : List ℕ} → Tallied seen (variables t) base many names rows → CountedFrom field seen base many names rows t
+tally-counted field t (all-placed number holds row) = record { few = λ h. number; many = λ h. absurd (omega (arith, holds .few)); holds = λ h. holds; row = λ h. row }
+tally-counted field t (too-many number more) = record { few = λ h. absurd (omega arith); many = λ h. number; holds = λ h. absurd (omega arith); row = λ h. absurd (omega arith) }
 
 module _ (seen done : List Bytes) (x : Bytes) (proper : isVariable x ≡ true) (base : ℕ) where
   abbrev all : List Bytes

@@ -19,30 +19,36 @@ use Rattle.terms.proofs.SymbolTokens.{lastByte, lastButOne, frontOf}
 
 -- ---- the tests
 
-module _ (s : Bytes) (at : ℕ) where
-  pub end-inside : at < length s → Decides (eqb (getD s at 0) 32) (EndsAt s at)
-  end-inside inside = record { yes = λ h. record { space = λ _. eqb-equal _ _ h }; no = λ h end. eqb-unequal _ _ h (end .space inside) }
+pub end-inside : (s : Bytes) (at : ℕ) → at < length s → Decides (eqb (getD s at 0) 32) (EndsAt s at)
+end-inside s at inside = record { yes = λ h. record { space = λ _. eqb-equal _ _ h }; no = λ h end. eqb-unequal _ _ h (end .space inside) }
 
+module _ (s : Bytes) (at : ℕ) where
   pub end-past : length s ≤ at → Decides true (EndsAt s at)
   end-past past = record { yes = λ _. record { space = λ h. absurd (omega arith) }; no = λ h _. true≢false h }
 
   no-arity : (ArityAt s at → ⊥) → Decides false (ArityAt s at)
   no-arity none = record { yes = λ h. absurd (true≢false (sym h)); no = λ _. none }
 
-  module _ (low : at ≤ length s) where
-    pub arity-past : length s - at < 2 → Decides false (ArityAt s at)
-    arity-past past = no-arity λ a. omega (arith, a .inside)
+  pub arity-past : at ≤ length s → length s - at < 2 → Decides false (ArityAt s at)
+  arity-past low past = no-arity λ a. omega (arith, a .inside)
 
-    module _ (inside : 2 ≤ length s - at) where
-      pub no-slash : (getD s at 0 ≡ 47 → ⊥) → Decides false (ArityAt s at)
-      no-slash other = no-arity λ a. other (a .slash)
+  pub no-slash : (getD s at 0 ≡ 47 → ⊥) → Decides false (ArityAt s at)
+  no-slash other = no-arity λ a. other (a .slash)
 
-      module _ (slash : getD s at 0 ≡ 47) (digit : Bool) (is : digit ≡ isDigit (getD s (at + 1) 0)) where
-        pub no-digit : digit ≡ false → Decides false (ArityAt s at)
-        no-digit h = no-arity λ a. never-both (a .digit) (sym is ∙ h)
+  module _ (digit : Bool) (is : digit ≡ isDigit (getD s (at + 1) 0)) where
+    pub no-digit : digit ≡ false → Decides false (ArityAt s at)
+    no-digit h = no-arity λ a. never-both (a .digit) (sym is ∙ h)
 
-        pub arity-ends : digit ≡ true → (r : Bool) → Decides r (EndsAt s (at + 2)) → Decides r (ArityAt s at)
-        arity-ends h r ends = record { yes = λ e. record { inside = omega arith; slash = slash; digit = sym is ∙ h; end = ends .yes e }; no = λ e a. ends .no e (a .end) }
+    module _ (slash : getD s at 0 ≡ 47) (h : digit ≡ true) where
+      arity-by : at + 2 ≤ length s → (r : Bool) → Decides r (EndsAt s (at + 2)) → Decides r (ArityAt s at)
+      arity-by inside r ends = record { yes = λ e. record { inside = inside; slash = slash; digit = sym is ∙ h; end = ends .yes e }; no = λ e a. ends .no e (a .end) }
+
+      pub arity-ends : at ≤ length s → 2 ≤ length s - at → (r : Bool) → Decides r (EndsAt s (at + 2)) → Decides r (ArityAt s at)
+      arity-ends low more = arity-by (omega arith)
+
+      -- where another byte comes after
+      pub arity-spaced : at + 2 < length s → Decides (eqb (getD s (at + 2) 0) 32) (ArityAt s at)
+      arity-spaced more = arity-by (omega arith) _ (end-inside s (at + 2) more)
 
 -- what the test of an arity tells where it holds
 module _ (s : Bytes) (at : ℕ) (arity : Bool) (decides : Decides arity (ArityAt s at)) (holds : arity ≡ true) where

@@ -67,7 +67,7 @@ next-space s from (suc n) i whole low free =
     by (yes e) later = (i, record { low = low; high = omega arith; free = free; found = λ _. e })
     by (no other) later = later other
 
-token-end : (s : Bytes) (from : ℕ) → from ≤ length s → (end : ℕ) × Finds s 32 from end
+pub token-end : (s : Bytes) (from : ℕ) → from ≤ length s → (end : ℕ) × Finds s 32 from end
 token-end s from h = next-space s from (length s - from) from (omega arith) (omega arith) (free-none s 32 from)
 
 empty-no-token : tokenOf [] ≡ noToken

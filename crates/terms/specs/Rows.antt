@@ -66,3 +66,7 @@ pub record Counted (field : Bytes) (names₀ : List ℕ) (known : ℕ) (rows₀ 
   pub small : SmallRow rows base
   pub nameSize : length names ≡ length names₀
   pub from : (seen : List Bytes) → Holds names₀ seen → length seen ≡ known → length rows₀ ≡ 1224 → (t : Term) → readTerm field ≡ some t → CountedFrom field seen base r names rows t
+
+-- the same of a field that is one variable, told by its words
+pub record CountedAlone (words : Words) (names₀ : List ℕ) (known : ℕ) (rows₀ : List ℕ) (base r : ℕ) (names : List ℕ) (rows : List ℕ) : Type 0 where
+  pub is : (field : Bytes) → isVariable field ≡ true → words ≡ wordsOf field → Counted field names₀ known rows₀ base r names rows

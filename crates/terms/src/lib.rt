@@ -8,7 +8,7 @@ ghost use Rattle.theory.specs.Measure.{measureOf};
 ghost use Rattle.theory.specs.Answers.{measuredOf};
 ghost use Rattle.text.specs.Classes.{Classes};
 ghost use Rattle.terms.specs.TokenRows.{EndsAt, ArityAt, Decides, SmallArities, PlacesStand, TokensRead, AritiesSummed, startOf, endOf};
-ghost use Rattle.terms.specs.Rows.{Cleared, SmallRow, CountsOne, Counted};
+ghost use Rattle.terms.specs.Rows.{Cleared, SmallRow, CountsOne, Counted, CountedAlone};
 use forms::Form;
 use text::Hints;
 use text::WordTable;
@@ -35,11 +35,20 @@ fn is_end(field: &[u8], at: usize) -> bool
     }
 }
 
-/// Whether `/`, a digit and the end of a token stand at a place.
+/// Whether `/`, a digit and the end of a token stand at a place. Of most tokens three bytes tell it, since another comes after.
 fn has_arity(field: &[u8], at: usize) -> bool
     requires { ⌜ at ≤ length (now field) ⌝ }
     ensures { λ r. ⌜ Decides r (ArityAt (now (field .entry)) at) ⌝ }
 {
+    if at + 2 < field.len() {
+        if field[at] != b'/' {
+            return false;
+        }
+        if !is_digit(field[at + 1]) {
+            return false;
+        }
+        return field[at + 2] == b' ';
+    }
     if field.len() - at < 2 {
         return false;
     }
@@ -104,7 +113,8 @@ fn no_term() -> Tokens
 
 /// Reads the tokens of a field, and whether it is a term: each token in turn fills one place and opens as many as its arity,
 /// and none is left at the end. Of a term, `arities` then begins with the arities of its symbols, and `places` with the
-/// places of its variables.
+/// places of its variables. A word's end is looked for in two places, one for each kind of token: the loops are then
+/// predicted better.
 pub fn read_tokens(
     field: &[u8],
     classes: &[u8; 256],
@@ -123,11 +133,11 @@ pub fn read_tokens(
             return no_term();
         }
         let class = text::class_of(field[from], classes);
-        let end = text::word_end(field, from + 1, classes);
-        if 16 < end - from {
-            return no_term();
-        }
         if class == 1 {
+            let end = text::word_end(field, from + 1, classes);
+            if 16 < end - from {
+                return no_term();
+            }
             if !has_arity(field, end) {
                 return no_term();
             }
@@ -138,6 +148,10 @@ pub fn read_tokens(
             from = end + 3;
         } else {
             if class != 2 {
+                return no_term();
+            }
+            let end = text::word_end(field, from + 1, classes);
+            if 16 < end - from {
                 return no_term();
             }
             if !is_end(field, end) {
@@ -268,4 +282,20 @@ pub fn count_occurrences(
         i += 1;
     }
     many
+}
+
+/// As `count_occurrences`, of a field that is one variable, by its words.
+pub fn count_lone_variable(
+    words: Words,
+    names: &mut [u64; 64],
+    known: usize,
+    hints: &mut [u8; 128],
+    rows: &mut Rows,
+    base: usize,
+) -> usize
+    requires { ⌜ (known ≤ 17) × (base + 17 ≤ 1224) ⌝ }
+    ensures { λ r. ⌜ CountedAlone words (now (names .entry)) known (now (rows .entry)) base r (now (names .exit)) (now (rows .exit)) ⌝ }
+{
+    clear_row(rows, base);
+    count_variable(words, names, known, hints, rows, base)
 }

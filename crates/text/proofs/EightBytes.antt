@@ -2,7 +2,7 @@
 use mathlib.Core.Path.{_≡_, refl, sym, _∙_, ap, ap₂}
 use mathlib.Core.List.{[], _∷_}
 use Prim.Native.Nat.{ℕ, zero, suc, _+_, _-_, _*_, _/_, _%_, _^_, _≤_, _<_}
-use native.Mathlib.Nat.{pow-zero, pow-succ', one-le-pow, mod-eq-of-lt, div-eq-of-lt, add-mul-mod-self-left, add-mul-div-left}
+use native.Mathlib.Nat.{pow-succ'}
 use native.Mathlib.Omega.{arith}
 use lib.Bits.{bitAnd, and-mask}
 use lib.ListN.{length, getD, take, drop, drop-of-length-le}
@@ -15,7 +15,7 @@ use Rattle.text.specs.Scans.{part}
 use Rattle.text.specs.Words.{number, wordsOf, Numbered}
 use Rattle.text.proofs.Parts.{part-length, part-at}
 use Rattle.text.proofs.Blocks.{part-join}
-use Rattle.text.proofs.Halves.{value-join, value-one}
+use Rattle.text.proofs.Halves.{value-join, value-one, value-first, value-last}
 
 number-none : number [] ≡ 0
 unfolding number
@@ -80,16 +80,6 @@ shifted word count h =
 abbrev pub AreBytes : Bytes → Type 0
 AreBytes xs = (k : ℕ) → k < length xs → getD xs k 0 < 256
 
--- the number of some bytes has room in as many places
-number-small : (xs : Bytes) → AreBytes xs → number xs < 256 ^ length xs
-unfolding number
-number-small [] small = omega (arith, pow-zero 256)
-number-small (b ∷ xs) small =
-    let more = pow-succ' 256 (length xs) in
-    let rest = number-small xs λ k l. small (suc k) (omega arith) in
-    let first : b < 256 = small 0 (omega arith) in
-    omega arith
-
 module _ (s : Bytes) (small : (k : ℕ) → Fits w8 (getD s k 0)) (from count end : ℕ) (place : from + count ≡ end) where
   pub bytes-part : end ≤ length s → AreBytes (part s from end)
   bytes-part l k h =
@@ -98,21 +88,16 @@ module _ (s : Bytes) (small : (k : ℕ) → Fits w8 (getD s k 0)) (from count en
 
   pub first-bytes : count < 8 → from + 8 ≤ length s → (word r : ℕ) → word ≡ number (part s from (from + 8)) → r ≡ word % 256 ^ count → r ≡ number (part s from end)
   first-bytes few l word r e f =
-      let room = rw (part-length s from count end (omega arith) (omega arith)) at (number-small (part s from end) (bytes-part (omega arith))) in
       f
-      ∙ ap (λ (n : ℕ). n % 256 ^ count) (e ∙ number-join s from count end (from + 8) place (omega arith) l)
-      ∙ add-mul-mod-self-left (number (part s from end)) (256 ^ count) (number (part s end (from + 8)))
-      ∙ mod-eq-of-lt room
+      ∙ ap (λ (n : ℕ). n % 256 ^ count) e
+      ∙ value-first 256 (λ (b : ℕ). b) number number-none number-more (omega arith) s from count end (from + 8) place (omega arith) l (bytes-part (omega arith))
 
 pub last-bytes : (s : Bytes) → ((k : ℕ) → Fits w8 (getD s k 0)) → (start count from end : ℕ) → start + (8 - count) ≡ from → from + count ≡ end → end ≤ length s → count < 8 → (word r : ℕ) → word ≡ number (part s start (start + 8)) → r ≡ word / 256 ^ (8 - count) → r ≡ number (part s from end)
 last-bytes s small start count from end f g l few word r e h =
     let eight : start + 8 ≡ end = omega arith in
-    let room = rw (part-length s start (8 - count) from (omega arith) (omega arith)) at (number-small (part s start from) (bytes-part s small start (8 - count) from f (omega arith))) in
-    let some : 0 < 256 ^ (8 - count) = one-le-pow (8 - count) 256 (omega arith) in
     h
-    ∙ ap (λ (n : ℕ). n / 256 ^ (8 - count)) (e ∙ ap (λ (n : ℕ). number (part s start n)) eight ∙ number-join s start (8 - count) from end f (omega arith) l)
-    ∙ add-mul-div-left (number (part s start from)) (number (part s from end)) some
-    ∙ omega (arith, div-eq-of-lt room)
+    ∙ ap (λ (n : ℕ). n / 256 ^ (8 - count)) (e ∙ ap (λ (n : ℕ). number (part s start n)) eight)
+    ∙ value-last 256 (λ (b : ℕ). b) number number-none number-more (omega arith) s start (8 - count) from end f (omega arith) l (bytes-part s small start (8 - count) from f (omega arith))
 
 -- ---- a word, and two
 

@@ -1,8 +1,8 @@
--- Bytes as one number, the first byte the lowest, by any digit for a byte and in any base: of two parts, one after the other, and of one byte.
+-- Bytes as one number, the first byte the lowest, by any digit for a byte and in any base: of two parts, one after the other, of one byte, and of the first and the last bytes of a part.
 use mathlib.Core.Path.{_≡_, sym, _∙_, ap}
 use mathlib.Core.List.{[], _∷_, _++_}
-use Prim.Native.Nat.{ℕ, suc, _+_, _*_, _^_, _≤_}
-use native.Mathlib.Nat.{mul-add, mul-assoc, pow-zero, pow-succ'}
+use Prim.Native.Nat.{ℕ, suc, _+_, _*_, _/_, _%_, _^_, _≤_, _<_}
+use native.Mathlib.Nat.{mul-add, mul-suc, mul-assoc, mul-le-mul-left, pow-zero, pow-succ', one-le-pow, mod-eq-of-lt, div-eq-of-lt, add-mul-mod-self-left, add-mul-div-left}
 use native.Mathlib.Omega.{arith}
 use lib.ListN.{length, getD}
 use Rattle.theory.specs.Text.{Bytes}
@@ -31,3 +31,26 @@ module _ (base : ℕ) (digit : ℕ → ℕ) (value : Bytes → ℕ) (none : valu
         ∙ ap value (part-more s i i (omega arith) (omega arith) ∙ ap (λ (rest : Bytes). rest ++ (getD s i 0 ∷ [])) (part-none s i))
         ∙ more (getD s i 0) []
         ∙ omega (arith, ap (λ (k : ℕ). base * k) none)
+
+  -- ---- digits below the base
+
+  abbrev pub Digits : Bytes → Type 0
+  Digits xs = (k : ℕ) → k < length xs → digit (getD xs k 0) < base
+
+  -- the number of some bytes has room in as many places
+  value-small : (xs : Bytes) → Digits xs → value xs < base ^ length xs
+  value-small [] small = omega (arith, none, pow-zero base)
+  value-small (b ∷ xs) small =
+      let rest = mul-le-mul-left base (value-small xs λ k l. small (suc k) (omega arith)) in
+      let first : digit b < base = small 0 (omega arith) in
+      omega (arith, more b xs, rest, first, mul-suc base (value xs), pow-succ' base (length xs))
+
+  module _ (some : 0 < base) (s : Bytes) (a n m e : ℕ) (place : a + n ≡ m) (l : m ≤ e) (h : e ≤ length s) (small : Digits (part s a m)) where
+    room : value (part s a m) < base ^ n
+    room = rw (part-length s a n m (omega arith) (omega arith)) at (value-small (part s a m) small)
+
+    pub value-first : value (part s a e) % base ^ n ≡ value (part s a m)
+    value-first = ap (λ (k : ℕ). k % base ^ n) (value-join s a n m e place l h) ∙ add-mul-mod-self-left (value (part s a m)) (base ^ n) (value (part s m e)) ∙ mod-eq-of-lt room
+
+    pub value-last : value (part s a e) / base ^ n ≡ value (part s m e)
+    value-last = ap (λ (k : ℕ). k / base ^ n) (value-join s a n m e place l h) ∙ add-mul-div-left (value (part s a m)) (value (part s m e)) (one-le-pow n base some) ∙ omega (arith, div-eq-of-lt room)

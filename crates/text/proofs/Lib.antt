@@ -15,7 +15,8 @@ pub mod Halves
 pub mod EightBytes
 pub mod ZeroRuns
 pub mod Marks
-pub mod Counts
+pub mod CountLoops
+pub mod MarkCounts
 pub mod Fitness
 pub mod PlainBytes
 pub mod ByteSums

@@ -27,16 +27,16 @@ module _ (wanted : ℕ) where
 
   -- ---- halves
 
-  marks-none : marks wanted [] ≡ 0
+  pub marks-none : marks wanted [] ≡ 0
   unfolding marks
   marks-none = refl
 
-  marks-more : (b : ℕ) (bs : Bytes) → marks wanted (b ∷ bs) ≡ markOf wanted b + 2 * marks wanted bs
+  pub marks-more : (b : ℕ) (bs : Bytes) → marks wanted (b ∷ bs) ≡ markOf wanted b + 2 * marks wanted bs
   unfolding marks
   marks-more b bs = refl
 
   module _ (s : Bytes) (at : ℕ) where
-    marks-halves : (h m e : ℕ) → at + h ≡ m → m ≤ e → e ≤ length s → marks wanted (part s at e) ≡ marks wanted (part s at m) + 2 ^ h * marks wanted (part s m e)
+    pub marks-halves : (h m e : ℕ) → at + h ≡ m → m ≤ e → e ≤ length s → marks wanted (part s at e) ≡ marks wanted (part s at m) + 2 ^ h * marks wanted (part s m e)
     marks-halves = value-join 2 (markOf wanted) (marks wanted) marks-none marks-more s at
 
     marks-one : (i e : ℕ) → i + 1 ≡ e → e ≤ length s → marks wanted (part s i e) ≡ markOf wanted (getD s i 0)

@@ -56,7 +56,8 @@ fn four_marks(bytes: &[u8], wanted: u8, at: usize) -> u32
     two_marks(bytes, wanted, at) + 4 * two_marks(bytes, wanted, at + 2)
 }
 
-fn eight_marks(bytes: &[u8], wanted: u8, at: usize) -> u32
+/// A bit for each of eight bytes, the first byte's the lowest.
+pub fn eight_marks(bytes: &[u8], wanted: u8, at: usize) -> u32
     requires { ⌜ at + 8 ≤ length (now bytes) ⌝ }
     ensures { λ r. ⌜ Marked (now (bytes .entry)) wanted at 8 256 r ⌝ }
 {
@@ -64,7 +65,7 @@ fn eight_marks(bytes: &[u8], wanted: u8, at: usize) -> u32
 }
 
 /// A bit for each of sixteen bytes, the first byte's the lowest. Summed by halves, which makes one vector comparison of it.
-fn sixteen_marks(bytes: &[u8], wanted: u8, at: usize) -> u32
+pub fn sixteen_marks(bytes: &[u8], wanted: u8, at: usize) -> u32
     requires { ⌜ at + 16 ≤ length (now bytes) ⌝ }
     ensures { λ r. ⌜ Marked (now (bytes .entry)) wanted at 16 65536 r ⌝ }
 {

@@ -4,18 +4,20 @@ ghost use mathlib.Core.Path.{_≡_};
 ghost use Prim.Native.Nat.{_+_, _-_, _≤_, _<_};
 ghost use lib.ListN.{length};
 ghost use lib.IntN.{negsuc};
-ghost use Rattle.theory.specs.Text.{partsAt, natural, integer};
+ghost use Rattle.theory.specs.Text.{natural, integer};
 ghost use Rattle.theory.specs.Faults.{isUnfit};
-ghost use Rattle.text.specs.Scans.{Finds, CountsParts};
+ghost use Rattle.text.specs.Scans.{Finds};
 ghost use Rattle.text.specs.Words.{StandsAt};
 ghost use Rattle.text.specs.Numbers.{naturalOf, integerOf};
 
 mod block;
+mod counts;
 mod eights;
 mod hints;
 mod plain;
 mod table;
 
+pub use counts::count;
 pub use eights::words_at;
 pub use eights::zeros;
 pub use hints::Hints;
@@ -78,43 +80,6 @@ pub fn find_near(bytes: &[u8], wanted: u8, from: usize) -> usize
         return from + k;
     }
     find_far(bytes, wanted, from + 8)
-}
-
-/// As `count`, for few bytes. The number is as wide as a byte, so that it takes one vector for sixteen bytes.
-fn count_few(bytes: &[u8], wanted: u8) -> u8
-    requires { ⌜ length (now bytes) ≤ 128 ⌝ }
-    ensures { λ r. ⌜ CountsParts wanted (now (bytes .entry)) r ⌝ }
-{
-    let mut n: u8 = 0;
-    let mut i: usize = 0;
-    while i < bytes.len() {
-        if bytes[i] == wanted {
-            n += 1;
-        }
-        i += 1;
-    }
-    n
-}
-
-fn block_end(from: usize, len: usize) -> usize
-    requires { ⌜ from < len ⌝ }
-    ensures { λ r. ⌜ (from < r) × (r ≤ len) × (r ≤ from + 128) ⌝ }
-{
-    if len - from < 128 { len } else { from + 128 }
-}
-
-/// How often `wanted` stands in `bytes`: one less than there are parts.
-pub fn count(bytes: &[u8], wanted: u8) -> usize
-    ensures { λ r. ⌜ r + 1 ≡ length (partsAt wanted (now (bytes .entry))) ⌝ }
-{
-    let mut n: usize = 0;
-    let mut i: usize = 0;
-    while i < bytes.len() {
-        let end = block_end(i, bytes.len());
-        n += widths::u8_to_usize(count_few(&bytes[i..end], wanted));
-        i = end;
-    }
-    n
 }
 
 /// Whether a line is over 1,024 bytes or has a byte outside 32 to 126.

@@ -1,115 +1,130 @@
 -- `packs::load_lines` meets its contract. Assumes nothing.
-use mathlib.Core.Path.{_≡_, refl}
+use mathlib.Core.Path.{_≡_, refl, sym, _∙_}
 use Prim.Native.Nat.{_+_, _-_}
 use native.Mathlib.Omega.{arith}
 use lib.ListN.{length}
 use borrow.Author.Needs.{needs}
+use Rattle.text.proofs.PlainText.{plain-line}
 use Rattle.tables.specs.Tables.{tables}
 use Rattle.packs.specs.declared.Ending.the-variants.{AllPass}
 use Rattle.packs.specs.Steps.{stores}
 use Rattle.packs.specs.Between.{FieldsRead, LinesRead}
 use Rattle.packs.specs.Loading.{unruled}
 use Rattle.packs.proofs.FreshTables.{zeros-clear}
+use Rattle.packs.proofs.ZeroFields.{skipped-within}
 use Rattle.packs.proofs.LineLoop.{lines-begin, lines-end}
-use Rattle.packs.proofs.Turns.{turn-begins, turn-unopened, turn-ready, turn-index-fits, turn-from-fits, turn-more, turn-misread, turn-closable, turn-done, turn-summable, turn-refused}
+use Rattle.packs.proofs.Turns.{turn-begins, turn-unopened, turn-skipped, turn-index-moved, turn-width-fits, turn-from-moved, turn-ready, turn-index-fits, turn-from-fits, turn-more, turn-misread, turn-closable, turn-done, turn-summable, turn-refused}
 use Rattle.packs.proofs.load_lines.Statement.{statement}
 use Rattle.packs.proofs.load_lines.Tie as tie
 
 abbrev Inv-fields : tie.InvT-fields
-Inv-fields text names signatures claims classes variables₀ rows₀ weights₀ slots hints₀ arities₀ places₀ len state ending₀ residual number at end line o letter width small₀ row₀ many₀ from₀ index₀ variables rows weights hints arities places ending small row many from index =
+Inv-fields text names signatures claims classes plain variables₀ rows₀ weights₀ slots hints₀ arities₀ places₀ len state ending₀ residual number at end line o letter width small₀ row₀ many₀ from₀ index₀ variables rows weights hints arities places ending small row many from index =
     (ending ≡ AllPass) × FieldsRead letter line (tables names signatures claims variables₀ rows₀ slots) state o many from index (stores small row variables rows weights) × (length arities ≡ 512) × (length places ≡ 512)
 
 abbrev μ-fields : tie.MeasureT-fields
-μ-fields text names signatures claims classes variables₀ rows₀ weights₀ slots hints₀ arities₀ places₀ len state ending₀ residual number at end line o letter width small₀ row₀ many₀ from₀ index₀ variables rows weights hints arities places ending small row many from index =
+μ-fields text names signatures claims classes plain variables₀ rows₀ weights₀ slots hints₀ arities₀ places₀ len state ending₀ residual number at end line o letter width small₀ row₀ many₀ from₀ index₀ variables rows weights hints arities places ending small row many from index =
     width + 1 - from
 
 abbrev Inv-lines : tie.InvT-lines
-Inv-lines text names₀ signatures₀ claims₀ classes variables₀ rows₀ weights₀ slots₀ hints₀ arities₀ places₀ len state₀ ending₀ residual₀ number₀ at₀ names signatures claims variables rows weights slots hints arities places state ending residual number at =
+Inv-lines text names₀ signatures₀ claims₀ classes plain variables₀ rows₀ weights₀ slots₀ hints₀ arities₀ places₀ len state₀ ending₀ residual₀ number₀ at₀ names signatures claims variables rows weights slots hints arities places state ending residual number at =
     (ending ≡ AllPass) × LinesRead text state₀ (unruled names₀ signatures₀ claims₀) state (tables names signatures claims variables rows slots) weights number at × (length arities ≡ 512) × (length places ≡ 512)
 
 abbrev μ-lines : tie.MeasureT-lines
-μ-lines text names₀ signatures₀ claims₀ classes variables₀ rows₀ weights₀ slots₀ hints₀ arities₀ places₀ len state₀ ending₀ residual₀ number₀ at₀ names signatures claims variables rows weights slots hints arities places state ending residual number at =
+μ-lines text names₀ signatures₀ claims₀ classes plain variables₀ rows₀ weights₀ slots₀ hints₀ arities₀ places₀ len state₀ ending₀ residual₀ number₀ at₀ names signatures claims variables rows weights slots hints arities places state ending residual number at =
     len - at
 
 lines-holds : tie.Need-lines-holds Inv-fields μ-fields Inv-lines μ-lines
 lines-holds c = (refl, search (needs, lines-begin, zeros-clear), refl, refl)
 
+open-requires : tie.Need-open-requires Inv-fields μ-fields Inv-lines μ-lines
+open-requires c κs = (search needs, search needs, search needs, λ plain. plain-line (sym (c .before .before .before .before .before .before .before .before .before .is-plain .ensures) ∙ plain) (c .before .before .before .before .before .find-far .ensures))
+
 fields-holds : tie.Need-fields-holds Inv-fields μ-fields Inv-lines μ-lines
 fields-holds c = (search needs, search (needs, turn-begins), search needs, search needs)
 
-field-requires : tie.Need-field-requires Inv-fields μ-fields Inv-lines μ-lines
-field-requires c κs =
-    let found = c .before .before .before .before .before .before .before .before .before .before .before .before in
-    let line = found .before .before .before .before .before .before .before in
-    let told = found .before .before .before .before .before .opened .given in (
-      turn-ready (line .before .before .before .before .before .before .before .before .lines .inv .1) (line .before .before .before .before .before .before .before .lines-test .taken) (line .before .before .before .before .before .before .find-far .ensures) (line .«open» .ensures) (told .1) (found .before .before .fields .inv .1) (found .before .fields-test .taken) (found .field-end .ensures),
-      found .before .before .fields .inv .2,
-      found .before .before .fields .inv .3,
-      line .before .before .before .before .before .before .before .before .before .before .class-table .ensures,
-    )
-
 add-index : tie.Need-add-index Inv-fields μ-fields Inv-lines μ-lines
 add-index c =
-    let found = c .before .before .before .before .before .before .before .before .before .before .before .before .before .before .before .before in
-    let line = found .before .before .before .before .before .before .before in
-    let told = found .before .before .before .before .before .opened .given in
-    turn-index-fits (line .before .before .before .before .before .before .before .before .lines .inv .1) (line .before .before .before .before .before .before .before .lines-test .taken) (line .before .before .before .before .before .before .find-far .ensures) (line .«open» .ensures) (told .1) (found .before .before .fields .inv .1) (found .before .fields-test .taken) (found .field-end .ensures)
+    let line = c .before .before .before .before .before .before .before in
+    let told = c .before .before .before .before .before .opened .given in
+    turn-index-moved (line .before .before .before .before .before .before .before .before .lines .inv .1) (line .before .before .before .before .before .before .before .lines-test .taken) (line .before .before .before .before .before .before .find-far .ensures) (line .«open» .ensures) (told .1) (c .before .before .fields .inv .1) (c .zeros-ahead .ensures) (c .before .fields-test .taken)
+
+mul-from : tie.Need-mul-from Inv-fields μ-fields Inv-lines μ-lines
+mul-from c =
+    let line = c .before .before .before .before .before .before .before in
+    let told = c .before .before .before .before .before .opened .given in
+    turn-width-fits (line .before .before .before .before .before .before .before .before .lines .inv .1) (line .before .before .before .before .before .before .before .lines-test .taken) (line .before .before .before .before .before .before .find-far .ensures) (line .«open» .ensures) (told .1) (c .before .before .fields .inv .1) (c .zeros-ahead .ensures) (c .before .fields-test .taken)
 
 add-from : tie.Need-add-from Inv-fields μ-fields Inv-lines μ-lines
 add-from c =
+    let line = c .before .before .before .before .before .before .before in
+    let told = c .before .before .before .before .before .opened .given in
+    turn-from-moved (line .before .before .before .before .before .before .before .before .lines .inv .1) (line .before .before .before .before .before .before .before .lines-test .taken) (line .before .before .before .before .before .before .find-far .ensures) (line .«open» .ensures) (told .1) (c .before .before .fields .inv .1) (c .zeros-ahead .ensures) (c .before .fields-test .taken)
+
+field-end-requires : tie.Need-field-end-requires Inv-fields μ-fields Inv-lines μ-lines
+field-end-requires c κs = skipped-within (c .before .fields-test .taken) (c .zeros-ahead .ensures)
+
+field-requires : tie.Need-field-requires Inv-fields μ-fields Inv-lines μ-lines
+field-requires c κs =
+    let line = c .before .before .before .before .before .before .before .before .before .before .before .before .before .before .before .before .before .before .before .before in
+    let told = c .before .before .before .before .before .before .before .before .before .before .before .before .before .before .before .before .before .before .opened .given in
+    let found = c .before .before .before .before .before .before .before .before .before .before .before .before in
+    let fields = turn-skipped (line .before .before .before .before .before .before .before .before .lines .inv .1) (line .before .before .before .before .before .before .before .lines-test .taken) (line .before .before .before .before .before .before .find-far .ensures) (line .«open» .ensures) (told .1) (found .before .before .before .fields .inv .1) (found .before .zeros-ahead .ensures) in
+    let within = skipped-within (found .before .before .fields-test .taken) (found .before .zeros-ahead .ensures) in
+    (turn-ready (line .before .before .before .before .before .before .before .before .lines .inv .1) (line .before .before .before .before .before .before .before .lines-test .taken) (line .before .before .before .before .before .before .find-far .ensures) (line .«open» .ensures) (told .1) fields within (found .field-end .ensures), c .before .before .before .before .before .before .before .before .before .before .before .before .before .before .before .fields .inv .2, c .before .before .before .before .before .before .before .before .before .before .before .before .before .before .before .fields .inv .3, c .before .before .before .before .before .before .before .before .before .before .before .before .before .before .before .before .before .before .before .before .before .before .before .before .before .before .before .before .before .before .before .class-table .ensures)
+
+add-index-2 : tie.Need-add-index-2 Inv-fields μ-fields Inv-lines μ-lines
+add-index-2 c =
+    let line = c .before .before .before .before .before .before .before .before .before .before .before .before .before .before .before .before .before .before .before .before .before .before .before .before in
+    let told = c .before .before .before .before .before .before .before .before .before .before .before .before .before .before .before .before .before .before .before .before .before .before .opened .given in
     let found = c .before .before .before .before .before .before .before .before .before .before .before .before .before .before .before .before in
-    let line = found .before .before .before .before .before .before .before in
-    let told = found .before .before .before .before .before .opened .given in
-    turn-from-fits (line .before .before .before .before .before .before .before .before .lines .inv .1) (line .before .before .before .before .before .before .before .lines-test .taken) (line .before .before .before .before .before .before .find-far .ensures) (line .«open» .ensures) (told .1) (found .before .before .fields .inv .1) (found .before .fields-test .taken) (found .field-end .ensures)
+    let fields = turn-skipped (line .before .before .before .before .before .before .before .before .lines .inv .1) (line .before .before .before .before .before .before .before .lines-test .taken) (line .before .before .before .before .before .before .find-far .ensures) (line .«open» .ensures) (told .1) (found .before .before .before .fields .inv .1) (found .before .zeros-ahead .ensures) in
+    let within = skipped-within (found .before .before .fields-test .taken) (found .before .zeros-ahead .ensures) in
+    turn-index-fits (line .before .before .before .before .before .before .before .before .lines .inv .1) (line .before .before .before .before .before .before .before .lines-test .taken) (line .before .before .before .before .before .before .find-far .ensures) (line .«open» .ensures) (told .1) fields within (found .field-end .ensures)
+
+add-from-2 : tie.Need-add-from-2 Inv-fields μ-fields Inv-lines μ-lines
+add-from-2 c =
+    let line = c .before .before .before .before .before .before .before .before .before .before .before .before .before .before .before .before .before .before .before .before .before .before .before .before in
+    let told = c .before .before .before .before .before .before .before .before .before .before .before .before .before .before .before .before .before .before .before .before .before .before .opened .given in
+    let found = c .before .before .before .before .before .before .before .before .before .before .before .before .before .before .before .before in
+    let fields = turn-skipped (line .before .before .before .before .before .before .before .before .lines .inv .1) (line .before .before .before .before .before .before .before .lines-test .taken) (line .before .before .before .before .before .before .find-far .ensures) (line .«open» .ensures) (told .1) (found .before .before .before .fields .inv .1) (found .before .zeros-ahead .ensures) in
+    let within = skipped-within (found .before .before .fields-test .taken) (found .before .zeros-ahead .ensures) in
+    turn-from-fits (line .before .before .before .before .before .before .before .before .lines .inv .1) (line .before .before .before .before .before .before .before .lines-test .taken) (line .before .before .before .before .before .before .find-far .ensures) (line .«open» .ensures) (told .1) fields within (found .field-end .ensures)
+
+fields-less : tie.Need-fields-less Inv-fields μ-fields Inv-lines μ-lines
+fields-less c = omega (arith, c .before .before .before .before .before .before .before .before .before .before .before .before .before .before .before .before .field-end .ensures .low, c .before .before .before .before .before .before .before .before .before .before .before .before .before .before .before .before .before .before .fields-test .taken)
 
 fields-again : tie.Need-fields-again Inv-fields μ-fields Inv-lines μ-lines
 fields-again c =
+    let line = c .before .before .before .before .before .before .before .before .before .before .before .before .before .before .before .before .before .before .before .before .before .before .before .before in
+    let told = c .before .before .before .before .before .before .before .before .before .before .before .before .before .before .before .before .before .before .before .before .before .before .opened .given in
     let found = c .before .before .before .before .before .before .before .before .before .before .before .before .before .before .before .before in
-    let line = found .before .before .before .before .before .before .before in
-    let told = found .before .before .before .before .before .opened .given in
-    let read = c .before .before .before .field .ensures in (
-      search needs,
-      turn-more (line .before .before .before .before .before .before .before .before .lines .inv .1) (line .before .before .before .before .before .before .before .lines-test .taken) (line .before .before .before .before .before .before .find-far .ensures) (line .«open» .ensures) (told .1) (found .before .before .fields .inv .1) (found .before .fields-test .taken) (found .field-end .ensures) (read .1) (search needs),
-      read .0 .0,
-      read .0 .1,
-    )
+    let fields = turn-skipped (line .before .before .before .before .before .before .before .before .lines .inv .1) (line .before .before .before .before .before .before .before .lines-test .taken) (line .before .before .before .before .before .before .find-far .ensures) (line .«open» .ensures) (told .1) (found .before .before .before .fields .inv .1) (found .before .zeros-ahead .ensures) in
+    let within = skipped-within (found .before .before .fields-test .taken) (found .before .zeros-ahead .ensures) in
+    (search needs, turn-more (line .before .before .before .before .before .before .before .before .lines .inv .1) (line .before .before .before .before .before .before .before .lines-test .taken) (line .before .before .before .before .before .before .find-far .ensures) (line .«open» .ensures) (told .1) fields within (found .field-end .ensures) (c .before .before .before .field .ensures .1) (search needs), c .before .before .before .field .ensures .0 .0, c .before .before .before .field .ensures .0 .1)
 
 close-requires : tie.Need-close-requires Inv-fields μ-fields Inv-lines μ-lines
 close-requires c κs =
-    let ended = c .before .before .before .before .before .before .before .before in
-    let line = ended .before .before .before .before .before .before in
-    let told = ended .before .before .before .before .opened .given in
-    turn-closable (line .before .before .before .before .before .before .before .before .lines .inv .1) (line .before .before .before .before .before .before .before .lines-test .taken) (line .before .before .before .before .before .before .find-far .ensures) (line .«open» .ensures) (told .1) (ended .before .fields .inv .1) (ended .fields-test .left)
+    let line = c .before .before .before .before .before .before .before .before .before .before .before .before .before .before in
+    let told = c .before .before .before .before .before .before .before .before .before .before .before .before .opened .given in
+    turn-closable (line .before .before .before .before .before .before .before .before .lines .inv .1) (line .before .before .before .before .before .before .before .lines-test .taken) (line .before .before .before .before .before .before .find-far .ensures) (line .«open» .ensures) (told .1) (c .before .before .before .before .before .before .before .before .before .fields .inv .1) (c .before .before .before .before .before .before .before .before .fields-test .left)
 
 residual-requires : tie.Need-residual-requires Inv-fields μ-fields Inv-lines μ-lines
 residual-requires c κs =
-    let ended = c .before .before .before .before .before .before .before .before .before .before .before .before .before .before in
-    let line = ended .before .before .before .before .before .before in
-    let told = ended .before .before .before .before .opened .given in
-    (line .before .before .before .before .before .before .before .before .lines .inv .1 .safe .state .subgoals, turn-summable (line .before .before .before .before .before .before .before .before .lines .inv .1) (line .before .before .before .before .before .before .before .lines-test .taken) (line .before .before .before .before .before .before .find-far .ensures) (line .«open» .ensures) (told .1) (ended .before .fields .inv .1) (ended .fields-test .left) (c .before .before .before .before .before .close .ensures))
+    let line = c .before .before .before .before .before .before .before .before .before .before .before .before .before .before .before .before .before .before .before .before in
+    let told = c .before .before .before .before .before .before .before .before .before .before .before .before .before .before .before .before .before .before .opened .given in
+    (c .before .before .before .before .before .before .before .before .before .before .before .before .before .before .before .before .before .before .before .before .before .before .before .before .before .before .before .before .lines .inv .1 .safe .state .subgoals, turn-summable (line .before .before .before .before .before .before .before .before .lines .inv .1) (line .before .before .before .before .before .before .before .lines-test .taken) (line .before .before .before .before .before .before .find-far .ensures) (line .«open» .ensures) (told .1) (c .before .before .before .before .before .before .before .before .before .before .before .before .before .before .before .fields .inv .1) (c .before .before .before .before .before .before .before .before .before .before .before .before .before .before .fields-test .left) (c .before .before .before .before .before .close .ensures))
 
 add-at : tie.Need-add-at Inv-fields μ-fields Inv-lines μ-lines
-add-at c =
-    let addressable = c .before .before .before .before .before .before .before .before .before .before .before .before .before .before .before .before .before .before .before .before .before .before .before .before .before .before .before .before .before .before .good .0 .1 in
-    let high = c .before .before .before .before .before .before .before .before .before .before .before .before .before .before .before .before .before .before .before .before .before .before .before .before .find-far .ensures .high in
-    record { fits = omega arith }
+add-at c = record { fits = omega (arith, c .before .before .before .before .before .before .before .before .before .before .before .before .before .before .before .before .before .before .before .before .before .before .before .before .before .before .before .before .before .before .before .good .0 .1, c .before .before .before .before .before .before .before .before .before .before .before .before .before .before .before .before .before .before .before .before .before .before .before .before .find-far .ensures .high) }
 
 lines-less : tie.Need-lines-less Inv-fields μ-fields Inv-lines μ-lines
-lines-less c =
-    let inside = c .before .before .before .before .before .before .before .before .before .before .before .before .before .before .before .before .before .before .before .before .before .before .before .before .before .lines-test .taken in
-    let low = c .before .before .before .before .before .before .before .before .before .before .before .before .before .before .before .before .before .before .before .before .before .before .before .before .find-far .ensures .low in
-    omega arith
+lines-less c = omega (arith, c .before .before .before .before .before .before .before .before .before .before .before .before .before .before .before .before .before .before .before .before .before .before .before .before .before .lines-test .taken, c .before .before .before .before .before .before .before .before .before .before .before .before .before .before .before .before .before .before .before .before .before .before .before .before .find-far .ensures .low)
 
 lines-again : tie.Need-lines-again Inv-fields μ-fields Inv-lines μ-lines
 lines-again c =
-    let ended = c .before .before .before .before .before .before .before .before .before .before .before .before in
-    let line = ended .before .before .before .before .before .before in
-    let told = ended .before .before .before .before .opened .given in (
-      search needs,
-      turn-done (line .before .before .before .before .before .before .before .before .lines .inv .1) (line .before .before .before .before .before .before .before .lines-test .taken) (line .before .before .before .before .before .before .find-far .ensures) (line .«open» .ensures) (told .1) (ended .before .fields .inv .1) (ended .fields-test .left) (c .before .before .before .close .ensures) (search needs),
-      search needs,
-      search needs,
-    )
+    let line = c .before .before .before .before .before .before .before .before .before .before .before .before .before .before .before .before .before .before in
+    let told = c .before .before .before .before .before .before .before .before .before .before .before .before .before .before .before .before .opened .given in
+    (c .before .before .before .before .before .before .before .before .before .before .before .before .before .fields .inv .0, turn-done (line .before .before .before .before .before .before .before .before .lines .inv .1) (line .before .before .before .before .before .before .before .lines-test .taken) (line .before .before .before .before .before .before .find-far .ensures) (line .«open» .ensures) (told .1) (c .before .before .before .before .before .before .before .before .before .before .before .before .before .fields .inv .1) (c .before .before .before .before .before .before .before .before .before .before .before .before .fields-test .left) (c .before .before .before .close .ensures) (search needs), c .before .before .before .before .before .before .before .before .before .before .before .before .before .fields .inv .2, c .before .before .before .before .before .before .before .before .before .before .before .before .before .fields .inv .3)
 
 returns : tie.Need-returns Inv-fields μ-fields Inv-lines μ-lines
 returns c = rw (c .before .lines .inv .0) (lines-end (c .before .lines .inv .1) (c .lines-test .left))
@@ -119,24 +134,25 @@ returns-2 c = search (needs, turn-unopened)
 
 returns-3 : tie.Need-returns-3 Inv-fields μ-fields Inv-lines μ-lines
 returns-3 c =
+    let line = c .before .before .before .before .before .before .before .before .before .before .before .before .before .before .before .before .before .before .before .before .before .before .before .before in
+    let told = c .before .before .before .before .before .before .before .before .before .before .before .before .before .before .before .before .before .before .before .before .before .before .opened .given in
     let found = c .before .before .before .before .before .before .before .before .before .before .before .before .before .before .before .before in
-    let line = found .before .before .before .before .before .before .before in
-    let told = found .before .before .before .before .before .opened .given in
-    turn-misread (line .before .before .before .before .before .before .before .before .lines .inv .1) (line .before .before .before .before .before .before .before .lines-test .taken) (line .before .before .before .before .before .before .find-far .ensures) (line .«open» .ensures) (told .1) (found .before .before .fields .inv .1) (found .before .fields-test .taken) (found .field-end .ensures) (c .before .before .before .field .ensures .1) (search needs)
+    let fields = turn-skipped (line .before .before .before .before .before .before .before .before .lines .inv .1) (line .before .before .before .before .before .before .before .lines-test .taken) (line .before .before .before .before .before .before .find-far .ensures) (line .«open» .ensures) (told .1) (found .before .before .before .fields .inv .1) (found .before .zeros-ahead .ensures) in
+    let within = skipped-within (found .before .before .fields-test .taken) (found .before .zeros-ahead .ensures) in
+    turn-misread (line .before .before .before .before .before .before .before .before .lines .inv .1) (line .before .before .before .before .before .before .before .lines-test .taken) (line .before .before .before .before .before .before .find-far .ensures) (line .«open» .ensures) (told .1) fields within (found .field-end .ensures) (c .before .before .before .field .ensures .1) (search needs)
 
 returns-4 : tie.Need-returns-4 Inv-fields μ-fields Inv-lines μ-lines
 returns-4 c =
-    let ended = c .before .before .before .before .before .before .before .before .before .before .before .before .before .before .before in
-    let line = ended .before .before .before .before .before .before in
-    let told = ended .before .before .before .before .opened .given in
-    turn-refused (line .before .before .before .before .before .before .before .before .lines .inv .1) (line .before .before .before .before .before .before .before .lines-test .taken) (line .before .before .before .before .before .before .find-far .ensures) (line .«open» .ensures) (told .1) (ended .before .fields .inv .1) (ended .fields-test .left) (c .before .before .before .before .before .before .close .ensures) (search needs) (c .residual .ensures)
+    let line = c .before .before .before .before .before .before .before .before .before .before .before .before .before .before .before .before .before .before .before .before .before in
+    let told = c .before .before .before .before .before .before .before .before .before .before .before .before .before .before .before .before .before .before .before .opened .given in
+    turn-refused (line .before .before .before .before .before .before .before .before .lines .inv .1) (line .before .before .before .before .before .before .before .lines-test .taken) (line .before .before .before .before .before .before .find-far .ensures) (line .«open» .ensures) (told .1) (c .before .before .before .before .before .before .before .before .before .before .before .before .before .before .before .before .fields .inv .1) (c .before .before .before .before .before .before .before .before .before .before .before .before .before .before .before .fields-test .left) (c .before .before .before .before .before .before .close .ensures) (search needs) (c .residual .ensures)
 
 pub load-lines-spec : {M : Type 1} → statement M
 load-lines-spec =
-    tie.close (tie.spec Inv-fields μ-fields Inv-lines μ-lines (λ c κs. search needs) (λ c κs. search needs) lines-holds
-    (λ c κs. search needs) (λ c. search needs) (λ c. search needs) (λ c. search needs) (λ c. search needs)
-    (λ c κs. search needs) (λ c. search needs) (λ c. search needs) (λ c κs. search needs) fields-holds
-    (λ c κs. search needs) (λ c. search needs) (λ c. search needs) (λ c. search needs) field-requires
-    (λ c. search needs) (λ c. search needs) add-index add-from (λ c. search needs) fields-again close-requires
-    (λ c. search needs) (λ c. search needs) residual-requires add-at lines-less lines-again returns returns-2
-    returns-3 returns-4)
+    tie.close (tie.spec Inv-fields μ-fields Inv-lines μ-lines (λ c κs. search needs) (λ c κs. search needs) (λ c κs. search needs)
+    lines-holds (λ c κs. search needs) (λ c. search needs) (λ c. search needs) (λ c. search needs) (λ c. search needs)
+    open-requires (λ c. search needs) (λ c. search needs) (λ c κs. search needs) fields-holds (λ c κs. search needs)
+    add-index mul-from add-from field-end-requires (λ c. search needs) (λ c. search needs) (λ c. search needs)
+    field-requires (λ c. search needs) (λ c. search needs) add-index-2 add-from-2 fields-less fields-again
+    close-requires (λ c. search needs) (λ c. search needs) residual-requires add-at lines-less lines-again returns
+    returns-2 returns-3 returns-4)

@@ -34,19 +34,34 @@ digit-of-requires : tie.Need-digit-of-requires Inv-loop μ-loop
 digit-of-requires c κs = search (needs, digit-from, not-false)
 
 loop-again : tie.Need-loop-again Inv-loop μ-loop
-loop-again c = search (needs, reading-symbol, symbol-found, not-false)
+loop-again c =
+    let arity = c .before .before .before .before in
+    let word = arity .before .before in
+    let class = word .before .before in
+    let turn = class .before .before .before in
+    let found = symbol-found _ _ (turn .loop-test .taken) _ (class .class-of .ensures) _ (word .word-end .ensures) (arity .before .if3 .left) (word .before .if2 .taken) _ (arity .has-arity .ensures) (not-false _ (c .before .before .before .if4 .left)) _ (c .before .digit-of .ensures) in
+    search (needs, reading-symbol)
 
 returns-4 : tie.Need-returns-4 Inv-loop μ-loop
 returns-4 c = search (needs, read-no-token, letter-refused)
 
 returns-5 : tie.Need-returns-5 Inv-loop μ-loop
-returns-5 c = search (needs, read-no-token, variable-refused, not-true)
-
-loop-again-2 : tie.Need-loop-again-2 Inv-loop μ-loop
-loop-again-2 c = let found = variable-found _ _ (c .before .before .before .before .before .before .before .before .before .before .loop-test .taken) _ (c .before .before .before .before .before .before .before .class-of .ensures) _ (c .before .before .before .before .before .before .word-end .ensures) (c .before .before .before .before .before .if2 .left) (c .before .before .before .if5 .left) _ (c .before .before .is-end .ensures) (not-false _ (c .before .if6 .left)) _ (c .place-of .ensures) in search (needs, reading-variable)
+returns-5 c = search (needs, read-no-token, long-refused)
 
 returns-6 : tie.Need-returns-6 Inv-loop μ-loop
-returns-6 c = search (needs, read-all)
+returns-6 c = search (needs, read-no-token, variable-refused, not-true)
+
+loop-again-2 : tie.Need-loop-again-2 Inv-loop μ-loop
+loop-again-2 c =
+    let end = c .before .before in
+    let word = end .before .before in
+    let class = word .before .before .before in
+    let turn = class .before .before .before in
+    let found = variable-found _ _ (turn .loop-test .taken) _ (class .class-of .ensures) _ (word .word-end2 .ensures) (end .before .if6 .left) (word .before .if5 .left) _ (end .is-end .ensures) (not-false _ (c .before .if7 .left)) _ (c .place-of .ensures) in
+    search (needs, reading-variable)
+
+returns-7 : tie.Need-returns-7 Inv-loop μ-loop
+returns-7 c = search (needs, read-all)
 
 pub read-tokens-spec : {M : Type 1} → statement M
 read-tokens-spec =
@@ -55,6 +70,7 @@ read-tokens-spec =
     returns-2 (λ c κs. search needs) (λ c κs. search needs) returns-3 (λ c. search needs) shared-slice-read-digit-of
     digit-of-requires (λ c. search needs) (λ c. search needs) (λ c. search needs) (λ c κs. search needs)
     (λ c. search needs) (λ c. search needs) (λ c. search needs) loop-again (λ c κs. search needs) returns-4
-    (λ c κs. search needs) (λ c κs. search needs) returns-5 (λ c κs. search needs) (λ c. search needs)
+    (λ c. search needs) (λ c κs. search needs) (λ c. search needs) (λ c κs. search needs) returns-5
+    (λ c κs. search needs) (λ c κs. search needs) returns-6 (λ c κs. search needs) (λ c. search needs)
     (λ c. search needs) (λ c. search needs) (λ c. search needs) (λ c. search needs) (λ c. search needs) loop-again-2
-    returns-6)
+    returns-7)

@@ -1,4 +1,4 @@
--- The loops of `count`: one part more than separators.
+-- The loops of `count_few` and `count_many`: one part more than separators.
 use mathlib.Core.Path.{_≡_, sym, ap}
 use mathlib.Core.Bool.{Bool, cond}
 use mathlib.Core.List.{[], _∷_, _++_}
@@ -18,12 +18,13 @@ pub record Counted (separator : ℕ) (s : Bytes) (n i : ℕ) : Type 0 where
   pub high : i ≤ length s
   pub parts : n + length (partsAt separator (drop i s)) ≡ length (partsAt separator s)
 
+-- a byte in front of the first part leaves as many
+pub parts-first : (separator b : ℕ) (bs : Bytes) → length (onFirst b (partsAt separator bs)) ≡ length (partsAt separator bs)
+parts-first separator b bs = let found = parts-cons separator bs in rw (found .2)
+
 module _ (separator : ℕ) (s : Bytes) where
   pub counted-none : Counted separator s 0 0
   counted-none = record { few = omega arith; high = omega arith; parts = omega arith }
-
-  parts-first : (b : ℕ) (bs : Bytes) → length (onFirst b (partsAt separator bs)) ≡ length (partsAt separator bs)
-  parts-first b bs = let found = parts-cons separator bs in rw (found .2)
 
   module _ (n i : ℕ) (c : Counted separator s n i) where
     module _ (h : i < length s) where
@@ -33,7 +34,7 @@ module _ (separator : ℕ) (s : Bytes) where
 
       at-other : (getD s i 0 ≡ separator → ⊥) → length (partsAt separator (drop i s)) ≡ length (partsAt separator (drop (i + 1) s))
       unfolding partsAt
-      at-other e = rw (drop-more s i h, eqb-different (getD s i 0) separator e) (parts-first (getD s i 0) (drop (i + 1) s))
+      at-other e = rw (drop-more s i h, eqb-different (getD s i 0) separator e) (parts-first separator (getD s i 0) (drop (i + 1) s))
 
       pub counted-separator : (m : ℕ) → m ≡ n + 1 → getD s i 0 ≡ separator → Counted separator s m (i + 1)
       counted-separator m f e = record { few = omega arith; high = omega arith; parts = omega (arith, at-separator e) }
@@ -62,7 +63,7 @@ module _ (separator : ℕ) (s : Bytes) where
       ≡ length (cond same ([] ∷ partsAt separator xs) (onFirst b (partsAt separator xs))) + length (partsAt separator ys))
       (eqb b separator)
       (λ _. omega (arith, parts-append xs ys))
-      (λ _. omega (arith, parts-append xs ys, parts-first b xs, parts-first b (xs ++ ys)))
+      (λ _. omega (arith, parts-append xs ys, parts-first separator b xs, parts-first separator b (xs ++ ys)))
 
   pub counted-block : (n i : ℕ) → Counted separator s n i → (e : ℕ) → i < e → e ≤ length s → (r m : ℕ) → CountsParts separator (part s i e) r → m ≡ r → Counted separator s (n + m) e
   counted-block n i c e l high r m found same =

@@ -1,11 +1,11 @@
--- `text::count_few` meets its contract: what was found before the place, with the parts from it on, makes the parts. Assumes nothing.
+-- `text::counts::count_few` meets its contract: what was found before the place, with the parts from it on, makes the parts. Assumes nothing.
 use mathlib.Core.Logic.{⊎-elim}
 use Prim.Native.Nat.{_-_}
 use lib.ListN.{length}
 use borrow.Author.Needs.{needs}
-use Rattle.text.proofs.Counts.{Counted, counted-none, counted-separator, counted-other, counts-parts}
-use Rattle.text.proofs.count_few.Statement.{statement}
-use Rattle.text.proofs.count_few.Tie as tie
+use Rattle.text.proofs.CountLoops.{Counted, counted-none, counted-separator, counted-other, counts-parts}
+use Rattle.text.proofs.counts.count_few.Statement.{statement}
+use Rattle.text.proofs.counts.count_few.Tie as tie
 
 abbrev Inv-loop : tie.InvT-loop
 Inv-loop bytes wanted n₀ i₀ n i = Counted wanted bytes n i

@@ -1,0 +1,61 @@
+-- Multipliers 0 that are not read: where the fields before them are read, they might have been too.
+use mathlib.Core.Path.{_≡_, refl, sym, _∙_, ap, subst, subst⁻¹}
+use mathlib.Core.Bool.{true}
+use mathlib.Core.List.{List, [], _∷_}
+use mathlib.Core.Option.{some}
+use Prim.Native.Nat.{ℕ, zero, suc, _+_, _*_, _≤_, _<_}
+use native.Mathlib.Omega.{arith}
+use lib.ListN.{length}
+use Rattle.theory.specs.declared.Letter.{Letter}
+use Rattle.theory.specs.declared.Letter.the-variants.{M}
+use Rattle.theory.specs.Text.{Bytes, natural, isDecimal}
+use Rattle.theory.specs.Faults.{isMultiplier}
+use Rattle.text.specs.Scans.{part, Finds, Zeros, zeroFields}
+use Rattle.text.proofs.ZeroLaws.{zeros-first, zeros-rest}
+use Rattle.tables.specs.declared.State.{State}
+use Rattle.tables.specs.declared.Opened.{Opened}
+use Rattle.tables.specs.declared.Fielding.the-variants.{Read}
+use Rattle.tables.specs.Tables.{Tables, Safe}
+use Rattle.tables.specs.Lines.{most}
+use Rattle.certificates.specs.Multipliers.{FieldM}
+use Rattle.certificates.proofs.MultiplierFields.{zero-weighed}
+use Rattle.packs.specs.Steps.{Stores, Skips, none, zeros, FieldDone}
+use Rattle.packs.specs.Between.{FieldsRead}
+use Rattle.packs.proofs.Steps.{field-done}
+use Rattle.packs.proofs.FieldLoop.{fieldsFrom, fields-more}
+
+module _ {line : Bytes} {t : Tables} {s : State} {o : Opened} (safe : Safe t s) (short : length line ≤ 1024) {many : ℕ} {x : Stores} where
+  module _ (few : length (fieldsFrom line o) ≤ most M s) where
+    one-zero : {from index : ℕ} → FieldsRead M line t s o many from index x → Finds line 44 from (from + 1) → part line from (from + 1) ≡ 48 ∷ [] → FieldsRead M line t s o many (from + 2) (index + 1) x
+    one-zero {from} {index} read finds is =
+        let inside : from ≤ length line = omega (arith, finds .high) in
+        let next : from + 1 + 1 ≡ from + 2 = omega arith in
+        subst (λ (n : ℕ). FieldsRead M line t s o many n (index + 1) x) next
+        (fields-more safe short M few read inside finds x (field-done M refl (zero-weighed is, refl)) refl)
+
+    pub zeros-read : (z : ℕ) {from index : ℕ} → FieldsRead M line t s o many from index x → Zeros line from z → FieldsRead M line t s o many (from + 2 * z) (index + z) x
+    zeros-read zero {from} {index} read zs =
+        let at : from ≡ from + 2 * 0 = omega arith in
+        let count : index ≡ index + 0 = omega arith in
+        subst (λ (n : ℕ). FieldsRead M line t s o many n (index + 0) x) at (subst (λ (n : ℕ). FieldsRead M line t s o many from n x) count read)
+    zeros-read (suc z) {from} {index} read zs =
+        let first = zeros-first zs in
+        let rest = zeros-read z (one-zero read (first .0) (first .1)) (zeros-rest zs) in
+        let at : from + 2 + 2 * z ≡ from + 2 * suc z = omega arith in
+        let count : index + 1 + z ≡ index + suc z = omega arith in
+        subst (λ (n : ℕ). FieldsRead M line t s o many n (index + suc z) x) at (subst (λ (n : ℕ). FieldsRead M line t s o many (from + 2 + 2 * z) n x) count rest)
+
+  pub fields-skipped : (letter : Letter) {from index z : ℕ} → length (fieldsFrom line o) ≤ most letter s → FieldsRead letter line t s o many from index x → Skips line from letter z → FieldsRead letter line t s o many (from + 2 * z) (index + z) x
+  fields-skipped letter {from} {index} few read none =
+      let at : from ≡ from + 2 * 0 = omega arith in
+      let count : index ≡ index + 0 = omega arith in
+      subst (λ (n : ℕ). FieldsRead letter line t s o many n (index + 0) x) at (subst (λ (n : ℕ). FieldsRead letter line t s o many from n x) count read)
+  fields-skipped letter {z = z} few read (zeros zs) = zeros-read few z read zs
+
+pub zeros-skipped : {line : Bytes} {from z : ℕ} {letter : Letter} → letter ≡ M → Zeros line from z → Skips line from letter z
+zeros-skipped {line} {from} {z} is zs = subst⁻¹ (λ (l : Letter). Skips line from l z) is (zeros zs)
+
+-- the place after them is in the line
+pub skipped-within : {line : Bytes} {from z : ℕ} {letter : Letter} → from ≤ length line → Skips line from letter z → from + 2 * z ≤ length line
+skipped-within within none = omega arith
+skipped-within within (zeros zs) = omega (arith, zs .high)

@@ -1,0 +1,57 @@
+//! The commands. A command more is an entry more in the table.
+
+use crate::report::{Misuse, Report};
+use crate::{check, measure, reserve};
+use std::ffi::OsStr;
+
+pub struct Command {
+    pub name: &'static str,
+    /// What it is handed, as a usage line writes it.
+    pub operands: &'static str,
+    pub least: usize,
+    pub most: usize,
+    pub about: &'static str,
+    pub help: &'static str,
+    pub run: fn(&[&OsStr]) -> Result<Report, Misuse>,
+}
+
+pub const COMMANDS: [Command; 3] = [
+    Command {
+        name: "check",
+        operands: "PACK",
+        least: 1,
+        most: 1,
+        about: "check a pack; show its claims, or what is wrong and what to mend",
+        help: "\
+Checks the pack in the file PACK (- reads standard input). Accepted: its counts, and each
+claim as an inequality of argument sizes s1, s2, .. Refused: the number, the line with a mark
+under what is at fault, what is wrong and what to mend; for a claim that is not justified, the
+rule as a clause and the working that leads to the residual.",
+        run: check::run,
+    },
+    Command {
+        name: "reserve",
+        operands: "PACK QUERY..",
+        least: 2,
+        most: usize::MAX,
+        about: "answer queries by a pack, with the working",
+        help: "\
+Checks the pack and answers each QUERY, name,i,s1,..,sn: how large argument i can be, where
+each s is a known size or - (unknown). PACK or one QUERY may be -, for standard input, where
+queries stand one on a line. Shows for each claim on the predicate what it gives, or why it is
+not usable.",
+        run: reserve::run,
+    },
+    Command {
+        name: "measure",
+        operands: "TERM..",
+        least: 1,
+        most: usize::MAX,
+        about: "measure ground terms, shown in the usual notation",
+        help: "\
+Measures each TERM, written as in a pack: 'cons/2 a/0 nil/0', in one argument. One TERM may be -,
+for standard input, where terms stand one on a line. Shows the term in the usual notation,
+cons(a,nil), and which symbols make up its size.",
+        run: measure::run,
+    },
+];

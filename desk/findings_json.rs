@@ -1,0 +1,98 @@
+//! A finding as JSON; docs/packdesk.1 says what the keys mean.
+
+use crate::claims::inequality;
+use crate::findings::Refusal;
+use crate::forms::Form;
+use crate::input::Source;
+use crate::json::Json;
+use crate::pack::{Pack, Predicate};
+use crate::residuals::Judgement;
+use crate::words::shown;
+use cerrundix::Verdict;
+
+/// The entries that every answer on a pack begins with.
+pub fn verdict_json(command: &str, source: &Source, verdict: &Verdict) -> Json {
+    let (answer, numbers) = match *verdict {
+        Verdict::Accepted { lines, rules, multiplier_lines } => {
+            ("accepted", [0, i64::from(lines), i64::from(rules), i64::from(multiplier_lines)])
+        }
+        Verdict::Unjustified { line, rule, claim, .. } => {
+            ("refused", [13, i64::from(line), i64::from(rule), i64::from(claim)])
+        }
+        Verdict::Refused { number, line } => ("refused", [i64::from(number), i64::from(line), 0, 0]),
+    };
+    Json::object([
+        ("command", Json::text(command)),
+        ("pack", Json::text(&source.shown)),
+        ("answer", Json::text(answer)),
+        ("numbers", Json::numbers(&numbers)),
+    ])
+}
+
+pub fn claims_json(pack: &Pack) -> Json {
+    let of_predicate = |predicate: &Predicate| -> Vec<Json> {
+        let numbered = predicate.claims.iter().enumerate();
+        numbered
+            .map(|(place, claim)| {
+                Json::object([
+                    ("predicate", Json::text(predicate.indicator())),
+                    ("kind", Json::text(if predicate.is_given { "given" } else { "ruled" })),
+                    ("claim", Json::number(place + 1)),
+                    ("line", Json::number(claim.line)),
+                    ("numbers", Json::numbers(&claim.numbers)),
+                    ("reads", Json::text(inequality(&claim.numbers))),
+                ])
+            })
+            .collect()
+    };
+    Json::List(pack.predicates.iter().flat_map(of_predicate).collect())
+}
+
+pub fn refusal_json(refusal: &Refusal) -> Json {
+    let quote = refusal.quote.as_ref();
+    let mark = quote.and_then(|quote| quote.mark.as_ref());
+    let json = Json::object([
+        ("number", Json::number(refusal.number)),
+        ("line", quote.and_then(|quote| quote.number).map_or(Json::Null, Json::number)),
+        ("text", quote.map_or(Json::Null, |quote| Json::text(shown(quote.text)))),
+        ("column", mark.map_or(Json::Null, |mark| Json::number(mark.start + 1))),
+        ("length", mark.map_or(Json::Null, |mark| Json::number(mark.len()))),
+        ("wrong", Json::text(&refusal.wrong)),
+        ("mend", Json::text(&refusal.mend)),
+    ]);
+    match &refusal.judgement {
+        Some(judgement) => json.with("judgement", judgement_json(judgement)),
+        None => json,
+    }
+}
+
+fn judgement_json(judgement: &Judgement) -> Json {
+    let form = |form: &Form| form_json(form, &judgement.variables);
+    let subgoal_claims = judgement.subgoal_claims.iter().map(|used| {
+        Json::object([
+            ("subgoal", Json::number(used.subgoal)),
+            ("reads", Json::text(&used.written)),
+            ("claim", Json::number(used.claim)),
+            ("multiplier", Json::number(used.multiplier)),
+            ("form", form(&used.form)),
+        ])
+    });
+    Json::object([
+        ("rule", Json::number(judgement.rule)),
+        ("clause", Json::text(&judgement.clause)),
+        ("predicate", Json::text(&judgement.predicate)),
+        ("claim", Json::number(judgement.claim)),
+        ("reads", Json::text(&judgement.inequality)),
+        ("head_sizes", Json::List(judgement.head_sizes.iter().map(form).collect())),
+        ("head_form", form(&judgement.head_form)),
+        ("subgoal_claims", Json::List(subgoal_claims.collect())),
+        ("residual", form(&judgement.residual)),
+    ])
+}
+
+/// The constant, then the coefficients by the variables' names, in order of their first occurrence.
+fn form_json(form: &Form, variables: &[&[u8]]) -> Json {
+    let coefficients = variables.iter().zip(&form.coefficients);
+    let entries = coefficients.map(|(variable, number)| (shown(variable), Json::Number(*number))).collect();
+    Json::object([("constant", Json::Number(form.constant)), ("coefficients", Json::Object(entries))])
+}

@@ -1,0 +1,264 @@
+//! A pack as people read it: predicates with their claims, and rules with their multipliers. It reads lines that the
+//! library has passed and judges nothing; a line that it cannot read is a disagreement with the library.
+
+use crate::letters::Letter;
+use crate::limits::{HIGHEST_ARITY, HIGHEST_NUMBER};
+use crate::terms::{applied, read_term, Term, Token};
+use crate::tokens::{is_name, number};
+use crate::words::shown;
+
+pub struct Predicate<'t> {
+    pub name: &'t [u8],
+    pub arity: usize,
+    pub is_given: bool,
+    pub line: usize,
+    pub claims: Vec<Claim>,
+}
+
+/// A claim's numbers c0, c1, .., cn.
+pub struct Claim {
+    pub line: usize,
+    pub numbers: Vec<i64>,
+}
+
+/// A head or a subgoal.
+pub struct Atom<'t> {
+    /// Its predicate's place among the pack's.
+    pub predicate: usize,
+    pub name: &'t [u8],
+    pub arguments: Vec<Term<'t>>,
+}
+
+pub struct Rule<'t> {
+    pub head: Atom<'t>,
+    pub subgoals: Vec<Atom<'t>>,
+    /// The multipliers of each `M` line so far.
+    pub multipliers: Vec<Vec<i64>>,
+}
+
+#[derive(Default)]
+pub struct Pack<'t> {
+    /// How many lines have been read.
+    pub lines: usize,
+    pub predicates: Vec<Predicate<'t>>,
+    pub rules: Vec<Rule<'t>>,
+    /// The number of the `E` line.
+    pub end_line: Option<usize>,
+}
+
+/// The lines of a text, without their byte 10. A last line that lacks it is a line too.
+pub fn lines_of(text: &[u8]) -> Vec<&[u8]> {
+    let text = text.strip_suffix(b"\n").unwrap_or(text);
+    text.split(|byte| *byte == b'\n').collect()
+}
+
+pub fn fields_of(line: &[u8]) -> Vec<&[u8]> {
+    line.split(|byte| *byte == b',').collect()
+}
+
+impl Predicate<'_> {
+    pub fn name_shown(&self) -> String {
+        shown(self.name)
+    }
+
+    /// Name and arity: `join/3`.
+    pub fn indicator(&self) -> String {
+        format!("{}/{}", self.name_shown(), self.arity)
+    }
+}
+
+impl Atom<'_> {
+    /// `join(Xs,Y,Zs)`
+    pub fn usual(&self) -> String {
+        applied(self.name, &self.arguments)
+    }
+}
+
+impl<'t> Rule<'t> {
+    /// The rule as a clause: `join(cons(X,Xs),Y,cons(X,Zs)) :- join(Xs,Y,Zs).`
+    pub fn clause(&self) -> String {
+        if self.subgoals.is_empty() {
+            return format!("{}.", self.head.usual());
+        }
+        let subgoals: Vec<String> = self.subgoals.iter().map(Atom::usual).collect();
+        format!("{} :- {}.", self.head.usual(), subgoals.join(", "))
+    }
+
+    /// The rule's variables in the order of their first occurrence, the head's first.
+    pub fn variables(&self) -> Vec<&'t [u8]> {
+        let mut variables = Vec::new();
+        for atom in std::iter::once(&self.head).chain(&self.subgoals) {
+            add_variables(&atom.arguments, &mut variables);
+        }
+        variables
+    }
+}
+
+/// Adds the variables of these terms that are not among those so far.
+pub fn add_variables<'t>(terms: &[Term<'t>], variables: &mut Vec<&'t [u8]>) {
+    for term in terms {
+        term.walk(&mut |token| match token {
+            Token::Variable(name) if !variables.contains(&name) => variables.push(name),
+            _ => {}
+        });
+    }
+}
+
+impl<'t> Pack<'t> {
+    /// Reads these lines; if one cannot be read, its number.
+    pub fn read(lines: &[&'t [u8]]) -> Result<Pack<'t>, usize> {
+        let mut pack = Pack::default();
+        for line in lines {
+            pack.lines += 1;
+            if pack.read_line(line).is_none() {
+                return Err(pack.lines);
+            }
+        }
+        Ok(pack)
+    }
+
+    fn read_line(&mut self, line: &'t [u8]) -> Option<()> {
+        let fields = fields_of(line);
+        match Letter::of(fields[0])? {
+            Letter::Predicate => self.read_predicate(&fields),
+            Letter::Claim => self.read_claim(&fields),
+            Letter::Head => self.read_head(&fields),
+            Letter::Subgoal => self.read_subgoal(&fields),
+            Letter::Multipliers => self.read_multipliers(&fields),
+            Letter::End => {
+                self.end_line = Some(self.lines);
+                Some(())
+            }
+        }
+    }
+
+    fn read_predicate(&mut self, fields: &[&'t [u8]]) -> Option<()> {
+        let &[_, name, arity, kind] = fields else { return None };
+        let is_given = match kind {
+            b"G" => true,
+            b"R" => false,
+            _ => return None,
+        };
+        let arity = number(arity, 0, HIGHEST_ARITY).ok()? as usize;
+        if !is_name(name) {
+            return None;
+        }
+        self.predicates.push(Predicate { name, arity, is_given, line: self.lines, claims: Vec::new() });
+        Some(())
+    }
+
+    fn read_claim(&mut self, fields: &[&'t [u8]]) -> Option<()> {
+        let place = self.place_of(fields.get(1)?)?;
+        let numbers = read_numbers(fields.get(2..)?, -HIGHEST_NUMBER)?;
+        if numbers.len() != self.predicates[place].arity + 1 {
+            return None;
+        }
+        self.predicates[place].claims.push(Claim { line: self.lines, numbers });
+        Some(())
+    }
+
+    fn read_head(&mut self, fields: &[&'t [u8]]) -> Option<()> {
+        let head = self.read_atom(fields)?;
+        self.rules.push(Rule { head, subgoals: Vec::new(), multipliers: Vec::new() });
+        Some(())
+    }
+
+    fn read_subgoal(&mut self, fields: &[&'t [u8]]) -> Option<()> {
+        let subgoal = self.read_atom(fields)?;
+        self.rules.last_mut()?.subgoals.push(subgoal);
+        Some(())
+    }
+
+    fn read_atom(&self, fields: &[&'t [u8]]) -> Option<Atom<'t>> {
+        let name = *fields.get(1)?;
+        let predicate = self.place_of(name)?;
+        let arguments: Vec<Term> = fields[2..].iter().map(|field| read_term(field).ok()).collect::<Option<_>>()?;
+        (arguments.len() == self.predicates[predicate].arity).then_some(Atom { predicate, name, arguments })
+    }
+
+    fn read_multipliers(&mut self, fields: &[&'t [u8]]) -> Option<()> {
+        let multipliers = read_numbers(&fields[1..], 0)?;
+        if multipliers.len() != self.multipliers_due() || self.multiplier_lines_due() == 0 {
+            return None;
+        }
+        self.rules.last_mut()?.multipliers.push(multipliers);
+        Some(())
+    }
+
+    fn place_of(&self, name: &[u8]) -> Option<usize> {
+        self.predicates.iter().position(|predicate| predicate.name == name)
+    }
+
+    /// The predicate of this name.
+    pub fn named(&self, name: &[u8]) -> Option<&Predicate<'t>> {
+        self.place_of(name).map(|place| &self.predicates[place])
+    }
+
+    pub fn predicate_of(&self, atom: &Atom) -> &Predicate<'t> {
+        &self.predicates[atom.predicate]
+    }
+
+    /// How many claims there are on all predicates.
+    pub fn claims(&self) -> usize {
+        self.predicates.iter().map(|predicate| predicate.claims.len()).sum()
+    }
+
+    pub fn multiplier_lines(&self) -> usize {
+        self.rules.iter().map(|rule| rule.multipliers.len()).sum()
+    }
+
+    /// How many claims on the last rule's head have no `M` line yet.
+    pub fn multiplier_lines_due(&self) -> usize {
+        self.rules.last().map_or(0, |rule| self.predicate_of(&rule.head).claims.len() - rule.multipliers.len())
+    }
+
+    /// How many multipliers an `M` line of the last rule has: one for each claim on each subgoal.
+    pub fn multipliers_due(&self) -> usize {
+        self.rules
+            .last()
+            .map_or(0, |rule| rule.subgoals.iter().map(|subgoal| self.predicate_of(subgoal).claims.len()).sum())
+    }
+}
+
+fn read_numbers(fields: &[&[u8]], lowest: i64) -> Option<Vec<i64>> {
+    fields.iter().map(|field| number(field, lowest, HIGHEST_NUMBER).ok()).collect()
+}
+
+#[cfg(test)]
+pub mod tests {
+    use super::*;
+
+    pub const JOIN: &[u8] = include_bytes!("../packs/join.pack");
+
+    #[test]
+    fn a_pack_is_read_as_it_is_written() {
+        let pack = Pack::read(&lines_of(JOIN)).ok().unwrap();
+        assert_eq!((pack.lines, pack.rules.len(), pack.multiplier_lines(), pack.end_line), (11, 2, 4, Some(11)));
+        assert_eq!(pack.predicates[0].indicator(), "join/3");
+        assert_eq!(pack.rules[0].clause(), "join(nil,Y,Y).");
+        assert_eq!(pack.rules[1].clause(), "join(cons(X,Xs),Y,cons(X,Zs)) :- join(Xs,Y,Zs).");
+        assert_eq!(pack.rules[1].variables(), [&b"X"[..], b"Xs", b"Y", b"Zs"]);
+        assert_eq!(pack.rules[1].multipliers, [[1, 0], [0, 1]]);
+    }
+
+    #[test]
+    fn a_line_that_cannot_be_read_is_told() {
+        for (text, line) in [
+            (&b"P,k,9,R\nE\n"[..], 1),
+            (b"P,k,1,R\nC,k,0\nE\n", 2),
+            (b"P,k,1,R\nH,k,x\nE\n", 2),
+            (b"P,k,1,R\nB,k,X\nE\n", 2),
+            (b"M\n", 1),
+            (b"", 1),
+        ] {
+            assert_eq!(Pack::read(&lines_of(text)).err(), Some(line));
+        }
+    }
+
+    #[test]
+    fn a_last_line_without_its_end_is_a_line() {
+        assert_eq!(lines_of(b"a\nE"), [&b"a"[..], b"E"]);
+        assert_eq!(lines_of(b"a\nE\n"), [&b"a"[..], b"E"]);
+        assert_eq!(lines_of(b"a\n\n"), [&b"a"[..], b""]);
+    }
+}

@@ -1,0 +1,36 @@
+//! A wrapper that gives wrong answers: each is the library's own, with one number changed. `tests/desk/run` builds
+//! packdesk over it, to see that the whole program notices and ends with status 3.
+
+#[path = "../../wrapper/cerrundix.rs"]
+mod truth;
+
+pub use truth::{Reservation, Residual, Verdict};
+
+/// One rule more in an accepted pack; one more at the constant of a residual; another number for any other refusal.
+pub fn check(pack: &[u8]) -> Verdict {
+    match truth::check(pack) {
+        Verdict::Accepted { lines, rules, multiplier_lines } => {
+            Verdict::Accepted { lines, rules: rules + u8::from(lines > 9), multiplier_lines }
+        }
+        Verdict::Unjustified { line, rule, claim, mut residual } => {
+            residual[0] += 1;
+            Verdict::Unjustified { line, rule, claim, residual }
+        }
+        Verdict::Refused { number, line } => Verdict::Refused { number: number + 1, line },
+    }
+}
+
+/// One more than the bound, or another claim; a query that is refused is said to have no bound.
+pub fn reserve(pack: &[u8], query: &[u8]) -> Reservation {
+    match truth::reserve(pack, query) {
+        Reservation::Bound { size, claim } => Reservation::Bound { size: size + 1, claim },
+        Reservation::NoBound => Reservation::Impossible { claim: 1 },
+        Reservation::Impossible { claim } => Reservation::Impossible { claim: claim + 1 },
+        Reservation::Refused { .. } => Reservation::NoBound,
+    }
+}
+
+/// One more than the size; a term that is refused has size 0.
+pub fn measure(term: &[u8]) -> Result<u64, u8> {
+    Ok(truth::measure(term).map_or(0, |size| size + 1))
+}

@@ -1,0 +1,311 @@
+//! The desk against the library: every text, query and term of the stored vectors, and some thousands of packs made of
+//! them by damage. Whatever the library answers, the desk must find the fault that it names or work out the same numbers:
+//! no disagreement and no panic. `tests/desk/run` runs this with the other unit tests, from the project's folder.
+
+use crate::check;
+use crate::findings::{examine, Finding};
+use crate::input::Source;
+use crate::measure;
+use crate::pack::{fields_of, lines_of};
+use crate::report::{Report, Status};
+use crate::reserve;
+use cerrundix::{Reservation, Verdict};
+use random::Random;
+use std::collections::{BTreeMap, BTreeSet};
+
+#[path = "../../fuzz/random.rs"]
+#[allow(dead_code)]
+mod random;
+
+const FILES: [&str; 2] = ["tests/vectors/base.txt", "tests/vectors/edges.txt"];
+const DAMAGED_PACKS: usize = 6_000;
+
+// ---------------------------------------------------------------------------------------------------------------
+// The vectors (tests/vectors/README.md says how their lines are written).
+
+#[derive(Default)]
+struct Vectors {
+    packs: Vec<Vec<u8>>,
+    queries: Vec<(Vec<u8>, Vec<u8>)>,
+    terms: Vec<Vec<u8>>,
+}
+
+/// A place in a line of a vector file, and what `let` has named so far.
+struct LineReader<'v> {
+    rest: &'v [u8],
+    named: &'v BTreeMap<String, Vec<u8>>,
+}
+
+impl LineReader<'_> {
+    fn word(&mut self, is_of_it: fn(&u8) -> bool) -> String {
+        let length = self.rest.iter().take_while(|byte| is_of_it(byte)).count();
+        let (word, rest) = self.rest.split_at(length);
+        self.rest = rest;
+        String::from_utf8_lossy(word).into_owned()
+    }
+
+    fn skip(&mut self, byte: u8) -> bool {
+        let is_there = self.rest.first() == Some(&byte);
+        self.rest = &self.rest[usize::from(is_there)..];
+        is_there
+    }
+
+    /// What stands between quotes.
+    fn quoted(&mut self) -> Vec<u8> {
+        let mut bytes = Vec::new();
+        assert!(self.skip(b'"'), "a quoted string");
+        while !self.skip(b'"') {
+            let byte = self.rest[0];
+            self.rest = &self.rest[1..];
+            bytes.push(if byte == b'\\' { self.escape() } else { byte });
+        }
+        bytes
+    }
+
+    fn escape(&mut self) -> u8 {
+        let byte = self.rest[0];
+        self.rest = &self.rest[1..];
+        match byte {
+            b'n' => b'\n',
+            b'x' => {
+                let digits = std::str::from_utf8(&self.rest[..2]).unwrap();
+                self.rest = &self.rest[2..];
+                u8::from_str_radix(digits, 16).unwrap()
+            }
+            other => other,
+        }
+    }
+
+    /// Pieces joined by `+`, each with a count and `*` in front where it is repeated.
+    fn bytes(&mut self) -> Vec<u8> {
+        let mut bytes = Vec::new();
+        self.skip(b' ');
+        loop {
+            let count = self.word(u8::is_ascii_digit);
+            let times = if self.skip(b'*') { count.parse().unwrap() } else { 1 };
+            let name = self.word(u8::is_ascii_lowercase);
+            let piece = if name.is_empty() { self.quoted() } else { self.named[&name].clone() };
+            bytes.extend(piece.repeat(times));
+            if !self.skip(b'+') {
+                return bytes;
+            }
+        }
+    }
+}
+
+fn read_vectors() -> Vectors {
+    let mut vectors = Vectors::default();
+    for file in FILES {
+        let text = std::fs::read(file).expect("run this from the project's folder");
+        let mut named = BTreeMap::new();
+        for line in lines_of(&text) {
+            read_vector(line, &mut named, &mut vectors);
+        }
+    }
+    vectors
+}
+
+fn read_vector(line: &[u8], named: &mut BTreeMap<String, Vec<u8>>, vectors: &mut Vectors) {
+    let names = named.clone();
+    let mut reader = LineReader { rest: line, named: &names };
+    match reader.word(u8::is_ascii_lowercase).as_str() {
+        "let" => {
+            reader.skip(b' ');
+            let name = reader.word(u8::is_ascii_lowercase);
+            named.insert(name, reader.bytes());
+        }
+        "check" => vectors.packs.push(reader.bytes()),
+        "reserve" => {
+            let pack = reader.bytes();
+            vectors.queries.push((pack, reader.bytes()));
+        }
+        "measure" => vectors.terms.push(reader.bytes()),
+        "program" => vectors.packs.push(reader.bytes()),
+        _ => {}
+    }
+}
+
+// ---------------------------------------------------------------------------------------------------------------
+// What is asked of each answer.
+
+/// Whatever the library answers is explained, and can be written in every form.
+fn explained(report: &Report, what: &[u8]) {
+    let text = String::from_utf8_lossy(what);
+    assert_ne!(report.status, Status::Disagreement, "{}\n{text}", report.page.written(false));
+    assert!(report.page.written(false).ends_with('\n') && report.json.written().starts_with('{'), "{text}");
+}
+
+/// Checks the text; gives the library's number.
+fn explain_check(text: &[u8]) -> u8 {
+    let source = Source::of(text);
+    let verdict = cerrundix::check(text);
+    explained(&check::report(&source, &verdict), text);
+    if let Ok(Finding::Refused(refusal)) = examine(&source, &verdict) {
+        assert!(refusal.wrong.ends_with(['.', '?']) && refusal.mend.ends_with('.'), "{}", refusal.wrong);
+        if let Some((quote, mark)) =
+            refusal.quote.as_ref().and_then(|quote| quote.mark.clone().map(|mark| (quote, mark)))
+        {
+            assert!(mark.start < mark.end && mark.end <= quote.text.len() + 1, "{mark:?}");
+        }
+    }
+    match verdict {
+        Verdict::Accepted { .. } => 0,
+        Verdict::Unjustified { .. } => 13,
+        Verdict::Refused { number, .. } => number,
+    }
+}
+
+/// Reserves; gives the letter and number of the library's answer.
+fn explain_reserve(text: &[u8], query: &[u8]) -> (char, u8) {
+    let verdict = cerrundix::check(text);
+    let reservation = cerrundix::reserve(text, query);
+    let answered = match reservation {
+        Reservation::Bound { .. } => ('B', 0),
+        Reservation::NoBound => ('N', 0),
+        Reservation::Impossible { .. } => ('I', 0),
+        Reservation::Refused { number } => ('R', number),
+    };
+    explained(&reserve::report(&Source::of(text), &verdict, &[query.to_vec()], vec![reservation]), query);
+    answered
+}
+
+fn explain_measure(term: &[u8]) -> u8 {
+    let size = cerrundix::measure(term);
+    explained(&measure::report(&[term.to_vec()], &[size]), term);
+    size.err().unwrap_or(0)
+}
+
+// ---------------------------------------------------------------------------------------------------------------
+// Damage.
+
+#[rustfmt::skip]
+const FIELDS: [&[u8]; 30] = [
+    b"", b"0", b"1", b"2", b"-1", b"-2", b"7", b"9", b"01", b"+1", b"-0", b"-", b"10000", b"65536", b"x", b"X", b"Xs", b"_",
+    b"nil/0", b"cons/2 X Xs", b"cons/2 X", b"f/1  X", b"a/0 a/0", b"s/1 Y", b"cons(X,Xs)", b"G", b"R", b"E", b"M", b"join",
+];
+const BYTES: &[u8] = b"PCHBME,, /019-+XYan_.#(\n\n\r\t\x00\x7f\xc3\xa9";
+
+fn damage(text: &mut Vec<u8>, random: &mut Random) {
+    if text.is_empty() {
+        text.push(random.pick(BYTES));
+        return;
+    }
+    match random.below(6) {
+        0 => {
+            let place = random.below(text.len());
+            text[place] = random.pick(BYTES);
+        }
+        1 => {
+            text.remove(random.below(text.len()));
+        }
+        _ => damage_lines(text, random),
+    }
+}
+
+/// Changes a field, or takes out, doubles or moves a line.
+fn damage_lines(text: &mut Vec<u8>, random: &mut Random) {
+    let mut lines: Vec<Vec<u8>> = lines_of(text).into_iter().map(<[u8]>::to_vec).collect();
+    let place = random.below(lines.len());
+    match random.below(6) {
+        0 => {
+            lines.remove(place);
+        }
+        1 => lines.insert(place, lines[random.below(lines.len())].clone()),
+        2 => {
+            let other = random.below(lines.len());
+            lines.swap(place, other);
+        }
+        _ => {
+            let mut fields: Vec<Vec<u8>> = fields_of(&lines[place]).into_iter().map(<[u8]>::to_vec).collect();
+            let field = random.below(fields.len());
+            fields[field] = random.pick(&FIELDS).to_vec();
+            lines[place] = fields.join(&b',');
+        }
+    }
+    *text = lines.join(&b'\n');
+    text.push(b'\n');
+}
+
+fn damaged_bytes(bytes: &[u8], random: &mut Random) -> Vec<u8> {
+    let mut damaged = bytes.to_vec();
+    for _ in 0..random.below(3) {
+        if damaged.is_empty() || random.chance(30) {
+            let piece = random.pick(&FIELDS);
+            let place = random.below(damaged.len() + 1);
+            damaged.splice(place..place, piece.iter().copied());
+        } else {
+            let place = random.below(damaged.len());
+            damaged[place] = random.pick(BYTES);
+        }
+    }
+    damaged
+}
+
+/// A query of a predicate that the pack declares, mostly well-formed.
+fn query_of(text: &[u8], random: &mut Random) -> Vec<u8> {
+    let declared: Vec<&[u8]> = lines_of(text).into_iter().filter(|line| line.starts_with(b"P,")).collect();
+    if declared.is_empty() {
+        return b"k,1,-".to_vec();
+    }
+    let fields = fields_of(declared[random.below(declared.len())]);
+    let arity: usize = fields.get(2).and_then(|field| String::from_utf8_lossy(field).parse().ok()).unwrap_or(1);
+    let asked = 1 + random.below(arity.clamp(1, 8));
+    let mut query = [fields[1], b",", asked.to_string().as_bytes()].concat();
+    for argument in 1..=arity {
+        let is_unknown = argument == asked || random.chance(30);
+        let size = if is_unknown { "-".to_string() } else { random.below(40).to_string() };
+        query.extend([b",", size.as_bytes()].concat());
+    }
+    query
+}
+
+// ---------------------------------------------------------------------------------------------------------------
+// The tests.
+
+#[test]
+fn every_vector_is_explained() {
+    let vectors = read_vectors();
+    assert!(vectors.packs.len() > 300 && vectors.queries.len() > 400 && vectors.terms.len() > 100);
+    for text in &vectors.packs {
+        explain_check(text);
+    }
+    for (text, query) in &vectors.queries {
+        explain_reserve(text, query);
+    }
+    for term in &vectors.terms {
+        explain_measure(term);
+    }
+}
+
+#[test]
+fn damaged_packs_are_explained() {
+    let vectors = read_vectors();
+    let packs: Vec<&Vec<u8>> = vectors.packs.iter().chain(vectors.queries.iter().map(|(pack, _)| pack)).collect();
+    let (mut verdicts, mut answers) = (BTreeSet::new(), BTreeSet::new());
+    for number in 0..DAMAGED_PACKS {
+        let mut random = Random::for_pack(1, number as u64);
+        let mut text = packs[random.below(packs.len())].clone();
+        for _ in 0..random.below(4) {
+            damage(&mut text, &mut random);
+        }
+        verdicts.insert(explain_check(&text));
+        let query = query_of(&text, &mut random);
+        answers.insert(explain_reserve(&text, &query));
+        answers.insert(explain_reserve(&text, &damaged_bytes(&query, &mut random)));
+    }
+    assert_eq!(verdicts, [0, 2, 3, 4, 5, 6, 7, 8, 9, 10, 11, 12, 13].into(), "each verdict has occurred");
+    let wanted = [('B', 0), ('N', 0), ('I', 0), ('R', 14), ('R', 15), ('R', 16), ('R', 17), ('R', 18)];
+    assert!(wanted.iter().all(|answer| answers.contains(answer)), "each answer has occurred: {answers:?}");
+}
+
+#[test]
+fn damaged_terms_are_explained() {
+    let vectors = read_vectors();
+    let mut numbers = BTreeSet::new();
+    for number in 0..DAMAGED_PACKS {
+        let mut random = Random::for_pack(2, number as u64);
+        let term = &vectors.terms[random.below(vectors.terms.len())];
+        numbers.insert(explain_measure(&damaged_bytes(term, &mut random)));
+    }
+    assert_eq!(numbers, [0, 4, 11, 19].into(), "each answer has occurred");
+}
