@@ -287,9 +287,9 @@ pub fn count_occurrences(
 /// As `count_occurrences`, of a field that is one variable, by its words.
 pub fn count_lone_variable(
     words: Words,
-    names: &mut [u64; 64],
+    names: &mut WordTable,
     known: usize,
-    hints: &mut [u8; 128],
+    hints: &mut Hints,
     rows: &mut Rows,
     base: usize,
 ) -> usize
