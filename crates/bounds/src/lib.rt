@@ -7,6 +7,7 @@ ghost use lib.Signed.{ltZ};
 ghost use Rattle.tables.specs.Tables.{SafeClaims};
 ghost use Rattle.tables.specs.QuerySizes.{SafeSizes};
 ghost use Rattle.bounds.specs.Bounds.{share, blocked, Weighs, Uses, betterOf, ReservesBy};
+use tables::Claims;
 use theory::Bound;
 use theory::Reservation;
 
@@ -44,7 +45,7 @@ pub struct Weighed {
     pub numerator: i64,
 }
 
-fn weigh(claims: &[i16; 4608], place: usize, arity: usize, sizes: &[u32; 8]) -> Weighed
+fn weigh(claims: &Claims, place: usize, arity: usize, sizes: &[u32; 8]) -> Weighed
     requires { ⌜ (place + 9 ≤ 4608) × (arity ≤ 8) × (SafeClaims (now claims)) × (SafeSizes (now sizes)) ⌝ }
     ensures { λ r. ⌜ Weighs (now (claims .entry)) place arity (now (sizes .entry)) r ⌝ }
 {
@@ -85,13 +86,7 @@ fn unusable() -> Use
     }
 }
 
-fn use_claim(
-    claims: &[i16; 4608],
-    place: usize,
-    arity: usize,
-    asked: usize,
-    sizes: &[u32; 8],
-) -> Use
+fn use_claim(claims: &Claims, place: usize, arity: usize, asked: usize, sizes: &[u32; 8]) -> Use
     requires { ⌜ (place + 9 ≤ 4608) × (arity ≤ 8) × (asked < 8) × (SafeClaims (now claims)) × (SafeSizes (now sizes)) ⌝ }
     ensures { λ r. ⌜ Uses (now (claims .entry)) place arity asked (now (sizes .entry)) r ⌝ }
 {
@@ -141,7 +136,7 @@ fn better(best: Bound, u: Use, claim: u8) -> Bound
 
 /// The reservation that the claims on a predicate give, from the first on.
 pub fn reserve_by(
-    claims: &[i16; 4608],
+    claims: &Claims,
     predicate: usize,
     count: usize,
     arity: usize,

@@ -38,4 +38,4 @@ line-fits text query (Bounded b) q is many few = omega (arith, answered-long tex
 line-fits text query NoBound q is many few = omega (arith, fields-length 78 0 0, digits-one 0 (omega arith))
 line-fits text query (Impossible c) q is many few = omega (arith, answered-long text query _ (answered text query (reservedFields (Impossible c)) refl (sym is)))
 line-fits text query (PackRefused r) q is many few = omega (arith, refused-short (refusalNumbers r .number) (omega (arith, refusal-number r)))
-line-fits text query (QueryRefused r) q is many few = omega (arith, refused-short (queryNumber r) (query-number r))
+line-fits text query (QueryRefused r) q is many few = omega (arith, refused-short (queryNumber r) (query-number r .1))

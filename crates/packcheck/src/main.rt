@@ -9,6 +9,9 @@ ghost use Rattle.reservation.specs.Answering.{Ready, PackHeld};
 ghost use Rattle.packcheck.specs.Printing.{PutsQueries};
 use libc::STDIN_FILENO;
 use libc::STDOUT_FILENO;
+use tables::Claims;
+use tables::Names;
+use tables::Signatures;
 use theory::Refusal;
 use theory::Verdict;
 
@@ -31,9 +34,9 @@ fn put_queries(
     input: &[u8],
     from: usize,
     verdict: Verdict,
-    names: &[u64; 64],
-    signatures: &[u8; 96],
-    claims: &[i16; 4608],
+    names: &Names,
+    signatures: &Signatures,
+    claims: &Claims,
     known: usize,
     page: &mut [u8],
     written: usize,

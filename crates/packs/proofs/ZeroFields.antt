@@ -1,25 +1,20 @@
 -- Multipliers 0 that are not read: where the fields before them are read, they might have been too.
-use mathlib.Core.Path.{_≡_, refl, sym, _∙_, ap, subst, subst⁻¹}
-use mathlib.Core.Bool.{true}
-use mathlib.Core.List.{List, [], _∷_}
-use mathlib.Core.Option.{some}
-use Prim.Native.Nat.{ℕ, zero, suc, _+_, _*_, _≤_, _<_}
+use mathlib.Core.Path.{_≡_, refl, subst, subst⁻¹}
+use mathlib.Core.List.{[], _∷_}
+use Prim.Native.Nat.{ℕ, zero, suc, _+_, _*_, _≤_}
 use native.Mathlib.Omega.{arith}
 use lib.ListN.{length}
 use Rattle.theory.specs.declared.Letter.{Letter}
 use Rattle.theory.specs.declared.Letter.the-variants.{M}
-use Rattle.theory.specs.Text.{Bytes, natural, isDecimal}
-use Rattle.theory.specs.Faults.{isMultiplier}
-use Rattle.text.specs.Scans.{part, Finds, Zeros, zeroFields}
+use Rattle.theory.specs.Text.{Bytes}
+use Rattle.text.specs.Scans.{part, Finds, Zeros}
 use Rattle.text.proofs.ZeroLaws.{zeros-first, zeros-rest}
 use Rattle.tables.specs.declared.State.{State}
 use Rattle.tables.specs.declared.Opened.{Opened}
-use Rattle.tables.specs.declared.Fielding.the-variants.{Read}
 use Rattle.tables.specs.Tables.{Tables, Safe}
 use Rattle.tables.specs.Lines.{most}
-use Rattle.certificates.specs.Multipliers.{FieldM}
 use Rattle.certificates.proofs.MultiplierFields.{zero-weighed}
-use Rattle.packs.specs.Steps.{Stores, Skips, none, zeros, FieldDone}
+use Rattle.packs.specs.Steps.{Stores, Skips, none, zeros}
 use Rattle.packs.specs.Between.{FieldsRead}
 use Rattle.packs.proofs.Steps.{field-done}
 use Rattle.packs.proofs.FieldLoop.{fieldsFrom, fields-more}

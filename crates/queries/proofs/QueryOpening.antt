@@ -13,46 +13,47 @@ use Rattle.theory.specs.Packs.{Pack, declaredAs}
 use Rattle.theory.specs.Written.{field}
 use Rattle.theory.specs.Faults.{isUnfit}
 use Rattle.theory.specs.Reserve.{queryKey, queryFrom, queryOf, sizeFrom, sizeGiven, queryFault}
+use Rattle.theory.specs.Answers.{queryNumber}
+use Rattle.theory.specs.declared.QueryRefusal.{QueryRefusal}
+use Rattle.theory.specs.declared.QueryRefusal.the-variants.{UnfitQuery, QueryName, QueryFieldCount, AskedArgument, SizeField, AskedIsKnown}
 use Rattle.theory.proofs.Reading.Presence.{none-is}
 use Rattle.theory.proofs.Reading.Spelling.{natural-within}
 use Rattle.text.specs.Scans.{part, Finds, partsFrom}
 use Rattle.tables.specs.Tables.{predicateAt, Declares}
 use Rattle.tables.proofs.Lookup.{name-is, name-declared, name-absent}
 use Rattle.queries.specs.declared.Asked.{Asked}
+use Rattle.queries.specs.declared.Tested.the-variants.{Refused, Asks}
 use Rattle.tables.specs.QuerySizes.{entryOf, SafeSizes, SizesStand}
-use Rattle.queries.specs.Queries.{SizesRead, Means, OfQuery, OpensQuery}
+use Rattle.queries.specs.Queries.{SizesRead, Means, Passed, OpensQuery}
 use Rattle.queries.proofs.SizeFields.{entry-unknown, entry-known}
 use Rattle.queries.proofs.AskedField.{isUnasked, asked-zero, asked-number, asked-clear, asked-is}
 use Rattle.queries.proofs.QueryTests.{fault-four, fault-fourteen, fault-fifteen, fault-sixteen, fault-seventeen, fault-eighteen, faultless}
 use Rattle.queries.proofs.QueryFields.{name-field, key-is, asked-field, size-fields, size-count, given-count, given-at, given-stand}
 
--- what `refused` answers
-abbrev Refused : ℕ → Asked → Type 0
-Refused n r = (r .fault ≡ n) × (r .predicate ≡ 0) × (r .arity ≡ 0) × (r .asked ≡ 0)
+asked-same : {a b : Asked} → Asks a ≡ Asks b → a ≡ b
+asked-same e = cc
 
 module _ (query : Bytes) (names signatures : List ℕ) (known : ℕ) where
-  refuses : {n : ℕ} → OfQuery n → 0 < n → (r : Asked) → Refused n r → (sizes : List ℕ) → length sizes ≡ 8 → SafeSizes sizes
-      → ((p : Pack) → Declares names signatures known (p .predicates) → queryFault p query ≡ n) → OpensQuery query names signatures known r sizes
-  refuses number above r refused sizes size safe finds = record {
-    fault = λ f. subst OfQuery (sym (refused .0)) number;
-    predicate = omega arith;
-    arity = omega arith;
-    asked = omega arith;
+  refuses : (f : QueryRefusal) (sizes : List ℕ) → length sizes ≡ 8 → SafeSizes sizes → ((p : Pack) → Declares names signatures known (p .predicates) → queryFault p query ≡ queryNumber f)
+      → OpensQuery query names signatures known (Refused f) sizes
+  refuses f sizes size safe finds = record {
     size = size;
     safe = safe;
-    tells = λ p d. record { refused = λ f. finds p d ∙ sym (refused .0); passed = λ f. absurd (omega arith) };
+    refused = λ g e p d. let same : f ≡ g = cc in finds p d ∙ ap queryNumber same;
+    low = λ a e. let never : _≡_ {A = ℕ} 0 1 = cc in absurd (omega arith);
+    passed = λ a e. let never : _≡_ {A = ℕ} 0 1 = cc in absurd (omega arith);
   }
 
   module _ (unfit : Bool) (scanned : unfit ≡ isUnfit query) where
-    pub opens-unfit : unfit ≡ true → (sizes : List ℕ) → length sizes ≡ 8 → SafeSizes sizes → (r : Asked) → Refused 4 r → OpensQuery query names signatures known r sizes
-    opens-unfit e sizes size safe r refused = refuses OfQuery.four (omega arith) r refused sizes size safe λ p d. fault-four p query (sym scanned ∙ e)
+    pub opens-unfit : unfit ≡ true → (sizes : List ℕ) → length sizes ≡ 8 → SafeSizes sizes → OpensQuery query names signatures known (Refused UnfitQuery) sizes
+    opens-unfit e sizes size safe = refuses UnfitQuery sizes size safe λ p d. fault-four p query (sym scanned ∙ e)
 
     module _ (fits : unfit ≡ false) (stop : ℕ) (first : Finds query 44 0 stop) (place : ℕ) (means : Means (take stop query) names known place) where
       fit : isUnfit query ≡ false
       fit = sym scanned ∙ fits
 
-      pub opens-undeclared : known ≤ place → (sizes : List ℕ) → length sizes ≡ 8 → SafeSizes sizes → (r : Asked) → Refused 14 r → OpensQuery query names signatures known r sizes
-      opens-undeclared above sizes size safe r refused = refuses OfQuery.fourteen (omega arith) r refused sizes size safe λ p d. fault-fourteen p query fit (finds p d)
+      pub opens-undeclared : known ≤ place → (sizes : List ℕ) → length sizes ≡ 8 → SafeSizes sizes → OpensQuery query names signatures known (Refused QueryName) sizes
+      opens-undeclared above sizes size safe = refuses QueryName sizes size safe λ p d. fault-fourteen p query fit (finds p d)
         where
           finds : (p : Pack) → Declares names signatures known (p .predicates) → (isName (field 0 (fieldsOf query)) && isSome (declaredAs (queryKey (queryOf query)) (p .predicates))) ≡ false
           finds p d =
@@ -79,10 +80,9 @@ module _ (query : Bytes) (names signatures : List ℕ) (known : ℕ) where
           arity-is : predicateAt (p .predicates) place .arguments ≡ getD signatures place 0
           arity-is = sym (d .arity place below)
 
-        pub opens-miscounted : (n ≡ a + 1 → ⊥) → (sizes : List ℕ) → length sizes ≡ 8 → SafeSizes sizes → (r : Asked) → Refused 15 r
-            → OpensQuery query names signatures known r sizes
-        opens-miscounted other sizes size safe r refused =
-            refuses OfQuery.fifteen (omega arith) r refused sizes size safe λ p d.
+        pub opens-miscounted : (n ≡ a + 1 → ⊥) → (sizes : List ℕ) → length sizes ≡ 8 → SafeSizes sizes → OpensQuery query names signatures known (Refused QueryFieldCount) sizes
+        opens-miscounted other sizes size safe =
+            refuses QueryFieldCount sizes size safe λ p d.
             fault-fifteen p query fit field-named _ (declared p d) (λ e. other (omega (arith, arity-is p d)))
 
         -- there is a field for each argument, and the second has this number
@@ -97,9 +97,9 @@ module _ (query : Bytes) (names signatures : List ℕ) (known : ℕ) where
           unasked : (p : Pack) → Declares names signatures known (p .predicates) → (b : Bool) → isUnasked (getD signatures place 0) (part query (stop + 1) end) ≡ b → isUnasked (predicateAt (p .predicates) place .arguments) (field 1 (fieldsOf query)) ≡ b
           unasked p d b e = rw (arity-is p d, asked-field query stop first more end second) e
 
-          pub opens-unasked : asked ≡ 0 → (sizes : List ℕ) → length sizes ≡ 8 → SafeSizes sizes → (r : Asked) → Refused 16 r → OpensQuery query names signatures known r sizes
-          opens-unasked e sizes size safe r refused =
-              refuses OfQuery.sixteen (omega arith) r refused sizes size safe λ p d.
+          pub opens-unasked : asked ≡ 0 → (sizes : List ℕ) → length sizes ≡ 8 → SafeSizes sizes → OpensQuery query names signatures known (Refused AskedArgument) sizes
+          opens-unasked e sizes size safe =
+              refuses AskedArgument sizes size safe λ p d.
               fault-sixteen p query fit field-named _ (declared p d) (full p d) (unasked p d true (asked-zero _ _ (sym reads ∙ e)))
 
           -- an argument is asked for, and the sizes are read
@@ -113,9 +113,9 @@ module _ (query : Bytes) (names signatures : List ℕ) (known : ℕ) where
             sized : every (λ (f : Bytes). isSome (sizeFrom f)) (drop 2 (fieldsOf query)) ≡ fine
             sized = ap (every (λ (f : Bytes). isSome (sizeFrom f))) (size-fields query stop first more end second) ∙ sym (read .all)
 
-            pub opens-malformed : fine ≡ false → (r : Asked) → Refused 17 r → OpensQuery query names signatures known r sizes
-            opens-malformed e r refused =
-                refuses OfQuery.seventeen (omega arith) r refused sizes (read .size) (read .safe) λ p d.
+            pub opens-malformed : fine ≡ false → OpensQuery query names signatures known (Refused SizeField) sizes
+            opens-malformed e =
+                refuses SizeField sizes (read .size) (read .safe) λ p d.
                 fault-seventeen p query fit field-named _ (declared p d) (full p d) (asks p d) (sized ∙ e)
 
             -- each size is fine
@@ -140,32 +140,27 @@ module _ (query : Bytes) (names signatures : List ℕ) (known : ℕ) where
                     stand .entry (asked - 1) (omega (arith, given-full, natural-within _ _ asked number))
                     ∙ ap (λ (i : ℕ). entryOf (getD (queryOf query .sizes) i none)) asked-place
 
-                pub opens-known : (getD sizes (asked - 1) 0 ≡ 65536 → ⊥) → (r : Asked) → Refused 18 r → OpensQuery query names signatures known r sizes
-                opens-known other r refused =
-                    refuses OfQuery.eighteen (omega arith) r refused sizes (read .size) (read .safe) λ p d.
+                pub opens-known : (getD sizes (asked - 1) 0 ≡ 65536 → ⊥) → OpensQuery query names signatures known (Refused AskedIsKnown) sizes
+                opens-known other =
+                    refuses AskedIsKnown sizes (read .size) (read .safe) λ p d.
                     fault-eighteen p query fit field-named _ (declared p d) (full p d) (asks p d) (sized ∙ good) (entry-known _ (λ e. other (at-asked ∙ e)))
 
                 unknown : getD sizes (asked - 1) 0 ≡ 65536 → isSome (sizeGiven (queryOf query .asked) (queryOf query)) ≡ false
                 unknown e = rw (given-at query (end + 1) rest (queryOf query .asked)) (entry-unknown _ (ap entryOf (sym (given-at query (end + 1) rest (queryOf query .asked))) ∙ sym at-asked ∙ e))
 
-                pub opens-asked : known ≤ 32 → getD sizes (asked - 1) 0 ≡ 65536 → (b : ℕ) → b ≡ getD signatures place 0 → OpensQuery query names signatures known (record { fault = 0; predicate = place; arity = b; asked = asked - 1 }) sizes
+                pub opens-asked : known ≤ 32 → getD sizes (asked - 1) 0 ≡ 65536 → (b : ℕ) → b ≡ getD signatures place 0 → OpensQuery query names signatures known (Asks (record { predicate = place; arity = b; asked = asked - 1 })) sizes
                 opens-asked low e b same = record {
-                  fault = λ f. absurd (f refl);
-                  predicate = omega arith;
-                  arity = omega arith;
-                  asked = omega (arith, natural-within _ _ asked number);
                   size = read .size;
                   safe = read .safe;
-                  tells = λ p d. record {
-                    refused = λ f. absurd (f refl);
-                    passed = λ f. record {
-                      faultless = faultless p query fit field-named _ (declared p d) (full p d) (asks p d) (sized ∙ good) (unknown e);
-                      below = omega (arith, d .count);
-                      is = name-is d (take stop query) isNamed (means .place isNamed) _ (key-is query stop first) below;
-                      arity = same ∙ sym (arity-is p d);
-                      full = given-full ∙ sym same;
-                      asked = asked-place;
-                      stand = stand;
-                    };
-                  };
+                  refused = λ f e. let never : _≡_ {A = ℕ} 0 1 = cc in absurd (omega arith);
+                  low = λ a is. subst (λ x. (x .predicate < 32) × (x .arity ≤ 8) × (x .asked < 8)) (asked-same is) (omega arith, omega arith, omega (arith, natural-within _ _ asked number));
+                  passed = λ a is p d. subst (λ x. Passed p query x sizes) (asked-same is) (record {
+                    faultless = faultless p query fit field-named _ (declared p d) (full p d) (asks p d) (sized ∙ good) (unknown e);
+                    below = omega (arith, d .count);
+                    is = name-is d (take stop query) isNamed (means .place isNamed) _ (key-is query stop first) below;
+                    arity = same ∙ sym (arity-is p d);
+                    full = given-full ∙ sym same;
+                    asked = asked-place;
+                    stand = stand;
+                  });
                 }

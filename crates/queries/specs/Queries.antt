@@ -9,11 +9,15 @@ use Rattle.theory.specs.Lists.{every, isSome}
 use Rattle.theory.specs.Text.{Bytes, isName}
 use Rattle.theory.specs.Packs.{Pack, keyOf}
 use Rattle.theory.specs.Reserve.{queryKey, queryOf, sizeFrom, queryFault}
+use Rattle.theory.specs.Answers.{queryNumber}
+use Rattle.theory.specs.declared.QueryRefusal.{QueryRefusal}
 use Rattle.text.specs.Scans.{partsFrom}
 use Rattle.text.specs.Words.{wordsOf, StandsAt}
 use Rattle.tables.specs.Tables.{predicateAt, Declares}
 use Rattle.tables.specs.QuerySizes.{entryOf, SafeSizes, SizesStand}
 use Rattle.queries.specs.declared.Asked.{Asked}
+use Rattle.queries.specs.declared.Tested.{Tested}
+use Rattle.queries.specs.declared.Tested.the-variants.{Refused, Asks}
 
 -- a size field as a number: 65537 where it is malformed or out of range
 abbrev pub sizeNumber : Option (Option ℕ) → ℕ
@@ -43,24 +47,10 @@ pub record Passed (p : Pack) (query : Bytes) (r : Asked) (sizes : List ℕ) : Ty
   pub asked : r .asked ≡ queryOf query .asked
   pub stand : SizesStand sizes (queryOf query .sizes)
 
-pub record OpenedFor (p : Pack) (query : Bytes) (r : Asked) (sizes : List ℕ) : Type 0 where
-  pub refused : (r .fault ≡ 0 → ⊥) → queryFault p query ≡ r .fault
-  pub passed : r .fault ≡ 0 → Passed p query r sizes
-
--- the numbers that a query's fault may have
-pub data OfQuery : ℕ → Type 0 where
-  four : OfQuery 4
-  fourteen : OfQuery 14
-  fifteen : OfQuery 15
-  sixteen : OfQuery 16
-  seventeen : OfQuery 17
-  eighteen : OfQuery 18
-
-pub record OpensQuery (query : Bytes) (names signatures : List ℕ) (known : ℕ) (r : Asked) (sizes : List ℕ) : Type 0 where
-  pub fault : (r .fault ≡ 0 → ⊥) → OfQuery (r .fault)
-  pub predicate : r .predicate < 32
-  pub arity : r .arity ≤ 8
-  pub asked : r .asked < 8
+-- a query refused by the first test that finds a fault, or passed
+pub record OpensQuery (query : Bytes) (names signatures : List ℕ) (known : ℕ) (r : Tested) (sizes : List ℕ) : Type 0 where
   pub size : length sizes ≡ 8
   pub safe : SafeSizes sizes
-  pub tells : (p : Pack) → Declares names signatures known (p .predicates) → OpenedFor p query r sizes
+  pub refused : (f : QueryRefusal) → r ≡ Refused f → (p : Pack) → Declares names signatures known (p .predicates) → queryFault p query ≡ queryNumber f
+  pub low : (a : Asked) → r ≡ Asks a → (a .predicate < 32) × (a .arity ≤ 8) × (a .asked < 8)
+  pub passed : (a : Asked) → r ≡ Asks a → (p : Pack) → Declares names signatures known (p .predicates) → Passed p query a sizes

@@ -9,27 +9,23 @@ ghost use Rattle.text.specs.Scans.{partsFrom};
 ghost use Rattle.tables.specs.Tables.{SafeSignatures};
 ghost use Rattle.tables.specs.QuerySizes.{SafeSizes};
 ghost use Rattle.queries.specs.Queries.{sizeNumber, SizesRead, Means, OpensQuery};
+use tables::Names;
+use tables::Signatures;
 use text::Natural;
 use text::Word;
+use theory::QueryRefusal;
 
-/// A query whose tests are done: the number of its fault, or 0; its predicate's place, how many arguments that has, and
-/// the asked argument's place, from 0.
+/// What a query asks: its predicate's place, how many arguments that has, and the asked argument's place, from 0.
 pub struct Asked {
-    pub fault: u8,
     pub predicate: usize,
     pub arity: usize,
     pub asked: usize,
 }
 
-fn refused(fault: u8) -> Asked
-    ensures { λ r. ⌜ (r .fault ≡ fault) × (r .predicate ≡ 0) × (r .arity ≡ 0) × (r .asked ≡ 0) ⌝ }
-{
-    Asked {
-        fault,
-        predicate: 0,
-        arity: 0,
-        asked: 0,
-    }
+/// A query whose tests are done: refused by one of them, or what it asks.
+pub enum Tested {
+    Refused(QueryRefusal),
+    Asks(Asked),
 }
 
 /// A size field as a number: its size, 65536 where it is unknown, 65537 where it is malformed or out of range.
@@ -82,7 +78,7 @@ fn read_asked(field: &[u8], arity: u8) -> usize
 }
 
 /// The place of the predicate that a field names, or how many there are.
-fn named_by(field: &[u8], names: &[u64; 64], known: usize) -> usize
+fn named_by(field: &[u8], names: &Names, known: usize) -> usize
     requires { ⌜ known ≤ 32 ⌝ }
     ensures { λ r. ⌜ Means (now (field .entry)) (now (names .entry)) known r ⌝ }
 {
@@ -98,42 +94,41 @@ fn named_by(field: &[u8], names: &[u64; 64], known: usize) -> usize
 /// The tests of a query, in number order. The sizes that it gives are left in `sizes`.
 pub fn open_query(
     query: &[u8],
-    names: &[u64; 64],
-    signatures: &[u8; 96],
+    names: &Names,
+    signatures: &Signatures,
     known: usize,
     sizes: &mut [u32; 8],
-) -> Asked
+) -> Tested
     requires { ⌜ (known ≤ 32) × (SafeSignatures (now signatures)) × (length (now sizes) ≡ 8) × (SafeSizes (now sizes)) ⌝ }
     ensures { λ r. ⌜ OpensQuery (now (query .entry)) (now (names .entry)) (now (signatures .entry)) known r (now (sizes .exit)) ⌝ }
 {
     if text::is_unfit(query) {
-        return refused(4);
+        return Tested::Refused(QueryRefusal::UnfitQuery);
     }
     let stop = reader::field_end(query, 0);
     let place = named_by(&query[..stop], names, known);
     if known <= place {
-        return refused(14);
+        return Tested::Refused(QueryRefusal::QueryName);
     }
     let arity = signatures[place];
     if text::count(query, b',') != widths::u8_to_usize(arity) + 1 {
-        return refused(15);
+        return Tested::Refused(QueryRefusal::QueryFieldCount);
     }
     let from = stop + 1;
     let end = reader::field_end(query, from);
     let asked = read_asked(&query[from..end], arity);
     if asked == 0 {
-        return refused(16);
+        return Tested::Refused(QueryRefusal::AskedArgument);
     }
     if !read_sizes(query, end + 1, sizes) {
-        return refused(17);
+        return Tested::Refused(QueryRefusal::SizeField);
     }
     if sizes[asked - 1] != 65536 {
-        return refused(18);
+        return Tested::Refused(QueryRefusal::AskedIsKnown);
     }
-    Asked {
-        fault: 0,
+    Tested::Asks(Asked {
         predicate: place,
         arity: widths::u8_to_usize(arity),
         asked: asked - 1,
-    }
+    })
 }

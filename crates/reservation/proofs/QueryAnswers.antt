@@ -12,26 +12,26 @@ use Rattle.theory.specs.Text.{Bytes}
 use Rattle.theory.specs.Packs.{Pack, Key, claimsOn, keyOf}
 use Rattle.theory.specs.Written.{packOf}
 use Rattle.theory.specs.Check.{Numbers, verdictOf, refusalOf}
-use Rattle.theory.specs.Reserve.{queryKey, queryOf, queryFault, reservation, refusal, answerOf, reserveOf}
-use Rattle.theory.specs.Answers.{numbersOf, refusalNumbers}
+use Rattle.theory.specs.Reserve.{queryKey, queryOf, reservation, refusal, answerOf, reserveOf}
+use Rattle.theory.specs.Answers.{numbersOf, refusalNumbers, queryNumber}
 use Rattle.theory.specs.declared.QueryRefusal.{QueryRefusal}
-use Rattle.theory.specs.declared.QueryRefusal.the-variants.{AskedIsKnown}
 use Rattle.theory.specs.declared.Refusal.{Refusal}
 use Rattle.theory.specs.declared.Verdict.{Verdict}
-use Rattle.theory.specs.declared.Verdict.the-variants.{Refused}
 use Rattle.theory.specs.declared.Counts.{Counts}
-use Rattle.theory.specs.declared.Verdict.the-variants.{Accepted}
+use Rattle.theory.specs.declared.Verdict.the-variants.{Accepted, Refused as PackFaulty}
 use Rattle.theory.specs.declared.Reservation.{Reservation}
 use Rattle.theory.specs.declared.Reservation.the-variants.{PackRefused, QueryRefused}
-use Rattle.theory.proofs.Reserving.RefusalNumbers.{refusal-number}
+use Rattle.theory.proofs.Reserving.RefusalNumbers.{refusal-number, query-number}
 use Rattle.tables.specs.Tables.{SafeSignatures, SafeClaims, predicateAt, HoldsClaims}
 use Rattle.tables.specs.QuerySizes.{SafeSizes}
 use Rattle.queries.specs.declared.Asked.{Asked}
-use Rattle.queries.specs.Queries.{OfQuery, OpensQuery, Passed}
+use Rattle.queries.specs.declared.Tested.{Tested}
+use Rattle.queries.specs.declared.Tested.the-variants.{Refused, Asks}
+use Rattle.queries.specs.Queries.{OpensQuery, Passed}
 use Rattle.bounds.specs.Bounds.{ClaimsStand, ReservesBy}
 use Rattle.packs.specs.declared.Loaded.{Loaded}
 use Rattle.packs.specs.Loading.{Loads}
-use Rattle.reservation.specs.Answering.{RefusesQuery, Answers, Ready, PackHeld, Responds}
+use Rattle.reservation.specs.Answering.{Answers, Ready, PackHeld, Responds}
 
 -- a table of sizes that are all unknown
 repeated-small : (n i : ℕ) → getD (replicate n 65536) i 0 ≤ 65536
@@ -42,35 +42,21 @@ repeated-small (suc n) (suc i) = repeated-small n i
 pub unknown-sizes : (length {A = ℕ} (replicate 8 65536) ≡ 8) × SafeSizes (replicate 8 65536)
 unknown-sizes = (length-replicate {A = ℕ} 8 65536, record { small = repeated-small 8 })
 
--- a fault of a query that is none of the lower ones
-pub asked-known : {fault : ℕ} → (fault ≡ 4 → ⊥) → (fault ≡ 14 → ⊥) → (fault ≡ 15 → ⊥) → (fault ≡ 16 → ⊥) → (fault ≡ 17 → ⊥) → RefusesQuery fault AskedIsKnown
-asked-known {fault = fault} a b c d e = record { numbered = by a b c d e }
-  where
-    by : {n : ℕ} → (n ≡ 4 → ⊥) → (n ≡ 14 → ⊥) → (n ≡ 15 → ⊥) → (n ≡ 16 → ⊥) → (n ≡ 17 → ⊥) → OfQuery n → 18 ≡ n
-    by a b c d e OfQuery.four = absurd (a refl)
-    by a b c d e OfQuery.fourteen = absurd (b refl)
-    by a b c d e OfQuery.fifteen = absurd (c refl)
-    by a b c d e OfQuery.sixteen = absurd (d refl)
-    by a b c d e OfQuery.seventeen = absurd (e refl)
-    by a b c d e OfQuery.eighteen = refl
-
 -- ---- a query answered from the tables
 
-module _ (query : Bytes) {names signatures : List ℕ} {claims : List ℤ} {known : ℕ} {asked : Asked} {sizes : List ℕ} (opens : OpensQuery query names signatures known asked sizes) where
+module _ (query : Bytes) {names signatures : List ℕ} {claims : List ℤ} {known : ℕ} {r : Tested} {sizes : List ℕ} (opens : OpensQuery query names signatures known r sizes) where
   -- a query with a fault
-  pub refused-query : (r : QueryRefusal) → (asked .fault ≡ 0 → ⊥) → RefusesQuery (asked .fault) r → Answers query names signatures claims known (QueryRefused r)
+  pub refused-query : (f : QueryRefusal) → r ≡ Refused f → Answers query names signatures claims known (QueryRefused f)
   unfolding answerOf refusal
-  refused-query r some refuses = record {
-    tells = λ p declares holds.
-        let fault : queryFault p query ≡ asked .fault = opens .tells p declares .refused some in
-        rw (fault, ne-eqb _ _ some, refuses .numbered (opens .fault some)) refl;
+  refused-query f is = record {
+    tells = λ p declares holds. rw (opens .refused f is p declares, ne-eqb (queryNumber f) 0 (λ zero. omega (arith, query-number f)));
     passesNone = refl;
   }
 
   -- the claims on the query's predicate stand in the table
-  stands : (p : Pack) (key : Key) → keyOf (predicateAt (p .predicates) (asked .predicate)) ≡ key → HoldsClaims signatures claims (p .predicates) (p .claims) → Passed p query asked sizes
+  stands : (asked : Asked) (p : Pack) (key : Key) → keyOf (predicateAt (p .predicates) (asked .predicate)) ≡ key → HoldsClaims signatures claims (p .predicates) (p .claims) → Passed p query asked sizes
       → ClaimsStand claims (asked .predicate) (getD signatures (64 + asked .predicate) 0) (asked .arity) (asked .asked) sizes (queryOf query) (claimsOn key (p .claims))
-  stands p key is holds passed = subst (λ (k : Key). ClaimsStand claims (asked .predicate) (getD signatures (64 + asked .predicate) 0) (asked .arity) (asked .asked) sizes (queryOf query) (claimsOn k (p .claims))) is (record {
+  stands asked p key is holds passed = subst (λ (k : Key). ClaimsStand claims (asked .predicate) (getD signatures (64 + asked .predicate) 0) (asked .arity) (asked .asked) sizes (queryOf query) (claimsOn k (p .claims))) is (record {
     all = holds .count (asked .predicate) (passed .below);
     at = λ j below. holds .at (asked .predicate) j (passed .below) below;
     full = λ j below. holds .full (asked .predicate) j (passed .below) below ∙ sym (passed .arity);
@@ -80,13 +66,13 @@ module _ (query : Bytes) {names signatures : List ℕ} {claims : List ℤ} {know
   })
 
   -- a query without fault
-  pub answered-query : {count : ℕ} (r : Reservation) → asked .fault ≡ 0 → count ≡ getD signatures (64 + asked .predicate) 0 → ReservesBy claims (asked .predicate) count (asked .arity) (asked .asked) sizes r → Answers query names signatures claims known r
+  pub answered-query : (asked : Asked) → r ≡ Asks asked → {count : ℕ} (b : Reservation) → count ≡ getD signatures (64 + asked .predicate) 0 → ReservesBy claims (asked .predicate) count (asked .arity) (asked .asked) sizes b → Answers query names signatures claims known b
   unfolding answerOf reservation
-  answered-query r fine is reserves = record {
+  answered-query asked asks b is reserves = record {
     tells = λ p declares holds.
-        let passed = opens .tells p declares .passed fine in
+        let passed = opens .passed asked asks p declares in
         let key = queryKey (queryOf query) in
-        reserves .tells (queryOf query) (claimsOn key (p .claims)) (rw is (stands p key (passed .is) holds passed))
+        reserves .tells (queryOf query) (claimsOn key (p .claims)) (rw is (stands asked p key (passed .is) holds passed))
         ∙ rw (passed .faultless) refl;
     passesNone = reserves .passesNone;
   }
@@ -100,7 +86,7 @@ pub ready-accepted : {verdict : Verdict} {counts : Counts} {signatures : List �
 ready-accepted ready is = let accepted = is-accepted is in (ready .few accepted, ready .safeSignatures accepted, ready .safeClaims accepted)
 
 module _ (query : Bytes) {verdict : Verdict} {names signatures : List ℕ} {claims : List ℤ} {known : ℕ} where
-  pub refused-pack : (r : Refusal) → verdict ≡ Refused r → Responds verdict query names signatures claims known (PackRefused r)
+  pub refused-pack : (r : Refusal) → verdict ≡ PackFaulty r → Responds verdict query names signatures claims known (PackRefused r)
   unfolding reserveOf refusal refusalOf
   refused-pack r is = record { tells = λ text held. rw (← returned held, some); passes = λ text held. rw (← returned held, some) }
     where

@@ -9,16 +9,10 @@ use Rattle.theory.specs.Packs.{Pack}
 use Rattle.theory.specs.Written.{packOf}
 use Rattle.theory.specs.Check.{verdictOf, refusalOf}
 use Rattle.theory.specs.Reserve.{answerOf, reserveOf}
-use Rattle.theory.specs.Answers.{queryNumber, numbersOf, reservedFields, passedOn}
-use Rattle.theory.specs.declared.QueryRefusal.{QueryRefusal}
+use Rattle.theory.specs.Answers.{numbersOf, reservedFields, passedOn}
 use Rattle.theory.specs.declared.Reservation.{Reservation}
 use Rattle.theory.specs.declared.Verdict.{Verdict}
 use Rattle.tables.specs.Tables.{SafeSignatures, SafeClaims, Declares, HoldsClaims}
-use Rattle.queries.specs.Queries.{OfQuery}
-
--- a refusal of a query by its number
-pub record RefusesQuery (fault : ℕ) (r : QueryRefusal) : Type 0 where
-  pub numbered : OfQuery fault → queryNumber r ≡ fault
 
 -- the answer of the definition, for the pack whose predicates and claims the tables hold; and it is never a pack's refusal
 pub record Answers (query : Bytes) (names signatures : List ℕ) (claims : List ℤ) (known : ℕ) (r : Reservation) : Type 0 where

@@ -5,53 +5,44 @@ ghost use Rattle.theory.specs.Check.{refusalOf};
 ghost use Rattle.theory.specs.Reserve.{reserveOf};
 ghost use Rattle.theory.specs.Answers.{reservedFields, passedOn};
 ghost use Rattle.tables.specs.Tables.{SafeSignatures, SafeClaims};
-ghost use Rattle.reservation.specs.Answering.{RefusesQuery, Answers, Ready, Responds};
-use theory::QueryRefusal;
+ghost use Rattle.reservation.specs.Answering.{Answers, Ready, Responds};
+use queries::Tested;
+use tables::Claims;
+use tables::Names;
+use tables::Signatures;
 use theory::Reservation;
 use theory::Verdict;
-
-/// The refusal of a query by its fault's number.
-fn query_refusal(fault: u8) -> QueryRefusal
-    ensures { λ r. ⌜ RefusesQuery fault r ⌝ }
-{
-    match fault {
-        4 => QueryRefusal::UnfitQuery,
-        14 => QueryRefusal::QueryName,
-        15 => QueryRefusal::QueryFieldCount,
-        16 => QueryRefusal::AskedArgument,
-        17 => QueryRefusal::SizeField,
-        _ => QueryRefusal::AskedIsKnown,
-    }
-}
 
 /// Answers a query on an accepted pack that the tables hold.
 pub fn answer(
     query: &[u8],
-    names: &[u64; 64],
-    signatures: &[u8; 96],
-    claims: &[i16; 4608],
+    names: &Names,
+    signatures: &Signatures,
+    claims: &Claims,
     known: usize,
 ) -> Reservation
     requires { ⌜ (known ≤ 32) × (SafeSignatures (now signatures)) × (SafeClaims (now claims)) ⌝ }
     ensures { λ r. ⌜ Answers (now (query .entry)) (now (names .entry)) (now (signatures .entry)) (now (claims .entry)) known r ⌝ }
 {
     let mut sizes = [65536u32; 8];
-    let q = queries::open_query(query, names, signatures, known, &mut sizes);
-    if q.fault != 0 {
-        return Reservation::QueryRefused(query_refusal(q.fault));
+    let tested = queries::open_query(query, names, signatures, known, &mut sizes);
+    match tested {
+        Tested::Refused(refusal) => Reservation::QueryRefused(refusal),
+        Tested::Asks(q) => {
+            let predicate = q.predicate;
+            let count = widths::u8_to_usize(signatures[64 + predicate]);
+            bounds::reserve_by(claims, predicate, count, q.arity, q.asked, &sizes)
+        }
     }
-    let predicate = q.predicate;
-    let count = widths::u8_to_usize(signatures[64 + predicate]);
-    bounds::reserve_by(claims, predicate, count, q.arity, q.asked, &sizes)
 }
 
 /// Answers a query by a pack that is loaded: the pack's refusal, or the query's, or what the claims give.
 pub fn respond(
     verdict: Verdict,
     query: &[u8],
-    names: &[u64; 64],
-    signatures: &[u8; 96],
-    claims: &[i16; 4608],
+    names: &Names,
+    signatures: &Signatures,
+    claims: &Claims,
     known: usize,
 ) -> Reservation
     requires { ⌜ Ready verdict (now signatures) (now claims) known ⌝ }

@@ -9,7 +9,7 @@ use text::Words;
 use theory::Letter;
 
 /// The predicates' names, two words each.
-pub type Names = [u64; 64];
+pub type Names = text::WordTable;
 
 /// Of the predicate at place i: its arity at i, 1 at 32 + i if it is given, the number of its claims at 64 + i.
 pub type Signatures = [u8; 96];
@@ -18,11 +18,11 @@ pub type Signatures = [u8; 96];
 pub type Claims = [i16; 4608];
 
 /// The names of the last rule's variables, two words each.
-pub type Variables = [u64; 64];
+pub type Variables = text::WordTable;
 
 /// The forms of the last rule's arguments, rows of 17 numbers: argument k of atom a from `row_place(a, k)` on. The head is
 /// atom 0, the subgoal at place s atom s + 1.
-pub type Rows = [u16; 1224];
+pub type Rows = terms::Rows;
 
 /// The weights of an `M` line, nine for each atom: of its constant, then of its arguments.
 pub type Weights = [i32; 81];
@@ -30,8 +30,8 @@ pub type Weights = [i32; 81];
 /// For the kth claim on the last rule's subgoals: its place among the claims at k, its subgoal at 128 + k.
 pub type Slots = [u16; 256];
 
-/// Where words stood before, by a small number made of them: any content will do.
-pub type Hints = [u8; 128];
+/// Where names and variables stood before: any content will do.
+pub type Hints = text::Hints;
 
 /// Where the numbers of a claim on a predicate begin.
 pub fn claim_place(predicate: usize, claim: usize) -> usize

@@ -10,6 +10,8 @@ ghost use Rattle.text.specs.Classes.{Classes};
 ghost use Rattle.terms.specs.TokenRows.{EndsAt, ArityAt, Decides, SmallArities, PlacesStand, TokensRead, AritiesSummed, startOf, endOf};
 ghost use Rattle.terms.specs.Rows.{Cleared, SmallRow, CountsOne, Counted, CountedAlone};
 use forms::Form;
+use text::Hints;
+use text::WordTable;
 use text::Words;
 use theory::Measurement;
 
@@ -225,9 +227,9 @@ fn clear_row(rows: &mut Rows, base: usize)
 /// One occurrence more of a variable. Gives how many variables there are then, or 17.
 fn count_variable(
     words: Words,
-    names: &mut [u64; 64],
+    names: &mut WordTable,
     known: usize,
-    hints: &mut [u8; 128],
+    hints: &mut Hints,
     rows: &mut Rows,
     base: usize,
 ) -> usize
@@ -259,9 +261,9 @@ pub fn count_occurrences(
     field: &[u8],
     places: &[u16; 512],
     count: usize,
-    names: &mut [u64; 64],
+    names: &mut WordTable,
     known: usize,
-    hints: &mut [u8; 128],
+    hints: &mut Hints,
     rows: &mut Rows,
     base: usize,
 ) -> usize
@@ -285,9 +287,9 @@ pub fn count_occurrences(
 /// As `count_occurrences`, of a field that is one variable, by its words.
 pub fn count_lone_variable(
     words: Words,
-    names: &mut [u64; 64],
+    names: &mut WordTable,
     known: usize,
-    hints: &mut [u8; 128],
+    hints: &mut Hints,
     rows: &mut Rows,
     base: usize,
 ) -> usize

@@ -20,11 +20,11 @@ pub below-is-not-above : (m n : ℕ) → ltb m n ≡ not (leb n m)
 below-is-not-above m n = by-truth (λ (c : Bool). ltb m n ≡ not c) (leb n m) (λ e. ge-ltb m n (leb-le n m e)) (λ e. lt-ltb m n (leb-gt n m e))
 
 -- the flag with one byte more, low and high saying whether it is within the bounds
-one-byte-more : (unfit low high rest : Bool) → (unfit || not (low && high && rest)) ≡ (unfit || not low || not high || not rest)
-one-byte-more true low high rest = refl
-one-byte-more false true true rest = refl
-one-byte-more false true false rest = refl
-one-byte-more false false high rest = refl
+one-fit-more : (unfit low high rest : Bool) → (unfit || not (low && high && rest)) ≡ (unfit || not low || not high || not rest)
+one-fit-more true low high rest = refl
+one-fit-more false true true rest = refl
+one-fit-more false true false rest = refl
+one-fit-more false false high rest = refl
 
 module _ (s : Bytes) where
   pub unfit-long : 1024 < length s → true ≡ isUnfit s
@@ -44,7 +44,7 @@ module _ (s : Bytes) where
       high = omega arith;
       rest =
           c .rest
-          ∙ rw (every-at (between 32 126) s i h, below-is-not-above (getD s i 0) 32, below-is-not-above 126 (getD s i 0)) (one-byte-more unfit (leb 32 (getD s i 0)) (leb (getD s i 0) 126) _);
+          ∙ rw (every-at (between 32 126) s i h, below-is-not-above (getD s i 0) 32, below-is-not-above 126 (getD s i 0)) (one-fit-more unfit (leb 32 (getD s i 0)) (leb (getD s i 0) 126) _);
     }
 
     pub scanned-all : length s ≤ i → length s ≤ 1024 → unfit ≡ isUnfit s

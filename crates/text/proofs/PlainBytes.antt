@@ -17,14 +17,14 @@ pub record Passed (s : Bytes) (odd : Bool) (i : ℕ) : Type 0 where
   pub rest : every isPlain s ≡ (not odd && every isPlain (drop i s))
 
 -- the flag with one byte more: whether it is 10, and low and high saying whether it is within the bounds
-one-byte-more : (odd ten low high rest : Bool) → (not odd && ((ten || (low && high)) && rest)) ≡ (not (odd || ((not low || not high) && not ten)) && rest)
-one-byte-more true ten low high rest = refl
-one-byte-more false true true true rest = refl
-one-byte-more false true true false rest = refl
-one-byte-more false true false high rest = refl
-one-byte-more false false true true rest = refl
-one-byte-more false false true false rest = refl
-one-byte-more false false false high rest = refl
+one-plain-more : (odd ten low high rest : Bool) → (not odd && ((ten || (low && high)) && rest)) ≡ (not (odd || ((not low || not high) && not ten)) && rest)
+one-plain-more true ten low high rest = refl
+one-plain-more false true true true rest = refl
+one-plain-more false true true false rest = refl
+one-plain-more false true false high rest = refl
+one-plain-more false false true true rest = refl
+one-plain-more false false true false rest = refl
+one-plain-more false false false high rest = refl
 
 module _ (s : Bytes) where
   pub passed-none : Passed s false 0
@@ -37,7 +37,7 @@ module _ (s : Bytes) where
       high = omega arith;
       rest =
           c .rest
-          ∙ rw (every-at isPlain s i h, below-is-not-above (getD s i 0) 32, below-is-not-above 126 (getD s i 0)) (one-byte-more odd (eqb (getD s i 0) 10) (leb 32 (getD s i 0)) (leb (getD s i 0) 126) _);
+          ∙ rw (every-at isPlain s i h, below-is-not-above (getD s i 0) 32, below-is-not-above 126 (getD s i 0)) (one-plain-more odd (eqb (getD s i 0) 10) (leb 32 (getD s i 0)) (leb (getD s i 0) 126) _);
     }
 
     pub passed-all : length s ≤ i → not odd ≡ every isPlain s

@@ -2,7 +2,11 @@
 // answer is right.
 ghost use Prim.Native.Nat.{_≤_, _<_};
 ghost use Rattle.text.specs.Words.{StandsAt};
+use super::WordTable;
 use super::Words;
+
+/// Where words stood before, by a small number made of them: any content will do.
+pub type Hints = [u8; 128];
 
 /// A small number that tells most words apart.
 fn hash(words: Words) -> usize
@@ -13,7 +17,7 @@ fn hash(words: Words) -> usize
 }
 
 /// As `place`, where the words stood before more often than not. Where they stand more than once, it is one of the places.
-pub fn place_by(names: &[u64; 64], known: usize, words: Words, hints: &mut [u8; 128]) -> usize
+pub fn place_by(names: &WordTable, known: usize, words: Words, hints: &mut Hints) -> usize
     requires { ⌜ known ≤ 32 ⌝ }
     ensures { λ r. ⌜ StandsAt (now (names .entry)) known words r ⌝ }
 {

@@ -20,6 +20,7 @@ mod table;
 pub use counts::count;
 pub use eights::words_at;
 pub use eights::zeros;
+pub use hints::Hints;
 pub use hints::place_by;
 pub use plain::is_plain;
 pub use plain::is_unfit_in;
@@ -112,8 +113,11 @@ pub enum Word {
     Neither,
 }
 
+/// The words of up to 32 names or variables, two numbers each.
+pub type WordTable = [u64; 64];
+
 /// Where the words of a name stand among the first of a table, or how many those are.
-pub fn place(names: &[u64; 64], known: usize, words: Words) -> usize
+pub fn place(names: &WordTable, known: usize, words: Words) -> usize
     requires { ⌜ known ≤ 32 ⌝ }
     ensures { λ r. ⌜ StandsAt (now (names .entry)) known words r ⌝ }
 {

@@ -80,9 +80,8 @@ returns-7 c =
 
 pub open-query-spec : {M : Type 1} → statement M
 open-query-spec =
-    tie.close (tie.spec (λ c κs. search needs) (λ c κs. search needs) returns (λ c κs. search needs)
-    slice-aggregate-named-by (λ c κs. search needs) (λ c κs. search needs) returns-2 (λ c. search needs)
-    (λ c κs. search needs) (λ c κs. search needs) add-if3 (λ c κs. search needs) returns-3 (λ c. search needs)
-    field-end-requires-2 (λ c. search needs) (λ c. search needs) (λ c. search needs) read-asked-requires
-    (λ c κs. search needs) returns-4 (λ c. search needs) read-sizes-requires (λ c κs. search needs) returns-5 sub-if6
-    mul-if6 element-copy-out-if6 (λ c κs. search needs) returns-6 (λ c κs. search needs) (λ c. search needs) returns-7)
+    tie.close (tie.spec (λ c κs. search needs) returns (λ c κs. search needs) slice-aggregate-named-by
+    (λ c κs. search needs) returns-2 (λ c. search needs) (λ c κs. search needs) (λ c κs. search needs) add-if3 returns-3
+    (λ c. search needs) field-end-requires-2 (λ c. search needs) (λ c. search needs) (λ c. search needs)
+    read-asked-requires returns-4 (λ c. search needs) read-sizes-requires returns-5 sub-if6 mul-if6 element-copy-out-if6
+    returns-6 (λ c κs. search needs) (λ c. search needs) returns-7)

@@ -1,4 +1,4 @@
--- The numbers of refusals: a pack's is never 0, which stands for accepted, and all have two digits at most.
+-- The numbers of refusals: none is 0, which stands for no fault, and all have two digits at most.
 use Prim.Native.Nat.{_≤_, _<_}
 use native.Mathlib.Omega.{arith}
 use Rattle.theory.specs.Answers.{refusalNumbers, queryNumber}
@@ -22,7 +22,7 @@ refusal-number (NoTerm l) = omega arith
 refusal-number (CountLimit l) = omega arith
 refusal-number (Unjustified l r c) = omega arith
 
-pub query-number : (r : QueryRefusal) → queryNumber r ≤ 18
+pub query-number : (r : QueryRefusal) → (0 < queryNumber r) × (queryNumber r ≤ 18)
 query-number UnfitQuery = omega arith
 query-number QueryName = omega arith
 query-number QueryFieldCount = omega arith
