@@ -37,81 +37,88 @@ use Rattle.packs.proofs.LineEnds.{unweighed, unclosed, closedTables, cl
 use Rattle.packs.proofs.JudgedLines.{refused-line, refused-opening}
 use Rattle.packs.proofs.LineLoop.{lines-more, lines-refused}
 
-module _ {text : Bytes} {start : State} {t₀ : Tables} {s : State} {t : Tables} {weights : List ℤ} {number at : ℕ} (read : LinesRead text start t₀ s t weights number at) where
-  pub turn-begins : {line : Bytes} {o : Opened} {many : ℕ} → many ≡ variablesBefore (o .letter) s → FieldsRead (o .letter) line t s o many (o .from) 0 (emptied t weights)
-  turn-begins {line} {o} is = subst⁻¹ (λ (n : ℕ). FieldsRead (o .letter) line t s o n (o .from) 0 (emptied t weights)) is (fields-begin (o .letter) (read .safe) (read .clear))
+-- a turn of the loop over lines up to its call of `open`: the lines before it are read, and its own is found
+pub record Turn (text : Bytes) (start : State) (t₀ : Tables) (s : State) (t : Tables) (weights : List ℤ) (number at end : ℕ) (r : Opening) : Type 0 where
+  pub read : LinesRead text start t₀ s t weights number at
+  pub inside : at < length text
+  pub finds : Finds text 10 at end
+  pub opens : Opens (part text at end) (t .names) (t .signatures) s r
 
-  module _ {end : ℕ} (inside : at < length text) (finds : Finds text 10 at end) {r : Opening} (opens : Opens (part text at end) (t .names) (t .signatures) s r) where
-    -- refused when it is opened
-    pub turn-unopened : {f : Fault} → r ≡ Misopened f → {form : Form} {names signatures : List ℕ} {claims : List ℤ} → LoadsLines text start t₀ (record { ending = Stopped f; line = number + 1; state = s; residual = form }) names signatures claims
-    turn-unopened {f} e =
-        lines-refused read inside finds (refused-opening (unweighed (read .clear) (read .safe .rows)) opens f e) refl
-        (λ is. absurd (omega (arith, opens .early f e, ap numberOf is)))
+pub turn-begins : {text : Bytes} {start : State} {t₀ : Tables} {s : State} {t : Tables} {weights : List ℤ} {number at : ℕ} → LinesRead text start t₀ s t weights number at
+    → {line : Bytes} {o : Opened} {many : ℕ} → many ≡ variablesBefore (o .letter) s → FieldsRead (o .letter) line t s o many (o .from) 0 (emptied t weights)
+turn-begins {s = s} {t} {weights} read {line} {o} is = subst⁻¹ (λ (n : ℕ). FieldsRead (o .letter) line t s o n (o .from) 0 (emptied t weights)) is (fields-begin (o .letter) (read .safe) (read .clear))
 
-    module _ {o : Opened} (opened : r ≡ Line o) where
-      safe-opened : SafeOpened (part text at end) s o
-      safe-opened = opens .safe o opened
+module _ {text : Bytes} {start : State} {t₀ : Tables} {s : State} {t : Tables} {weights : List ℤ} {number at end : ℕ} {r : Opening} (turn : Turn text start t₀ s t weights number at end r) where
+  -- refused when it is opened
+  pub turn-unopened : {f : Fault} → r ≡ Misopened f → {form : Form} {names signatures : List ℕ} {claims : List ℤ} → LoadsLines text start t₀ (record { ending = Stopped f; line = number + 1; state = s; residual = form }) names signatures claims
+  turn-unopened {f} e =
+      lines-refused (turn .read) (turn .inside) (turn .finds) (refused-opening (unweighed (turn .read .clear) (turn .read .safe .rows)) (turn .opens) f e) refl
+      (λ is. absurd (omega (arith, turn .opens .early f e, ap numberOf is)))
 
-      passed : (w : Written) → Holds t s w → Passed (o .letter) (part text at end) s w o
-      passed w holds = opens .tells w (outline t s w holds) .passed o opened
+  module _ {o : Opened} (opened : r ≡ Line o) where
+    safe-opened : SafeOpened (part text at end) s o
+    safe-opened = turn .opens .safe o opened
 
-      -- multipliers 0 are passed over
-      module _ {many from index z : ℕ} {x₀ : Stores} (fields : FieldsRead (o .letter) (part text at end) t s o many from index x₀) (skips : Skips (part text at end) from (o .letter) z) where
-        pub turn-skipped : FieldsRead (o .letter) (part text at end) t s o many (from + 2 * z) (index + z) x₀
-        turn-skipped = fields-skipped (read .safe) (safe-opened .short) (o .letter) (safe-opened .few) fields skips
+    passed : (w : Written) → Holds t s w → Passed (o .letter) (part text at end) s w o
+    passed w holds = turn .opens .tells w (outline t s w holds) .passed o opened
 
-        module _ (within : from ≤ length (part text at end)) where
-          pub turn-index-moved : Fits w64 (index + z)
-          turn-index-moved = omega (arith, turn-skipped .low, skipped-within within skips, safe-opened .short)
+    -- multipliers 0 are passed over
+    module _ {many from index z : ℕ} {x₀ : Stores} (fields : FieldsRead (o .letter) (part text at end) t s o many from index x₀) (skips : Skips (part text at end) from (o .letter) z) where
+      pub turn-skipped : FieldsRead (o .letter) (part text at end) t s o many (from + 2 * z) (index + z) x₀
+      turn-skipped = fields-skipped (turn .read .safe) (safe-opened .short) (o .letter) (safe-opened .few) fields skips
 
-          pub turn-width-fits : Fits w64 (2 * z)
-          turn-width-fits = omega (arith, skipped-within within skips, safe-opened .short)
+      module _ (within : from ≤ length (part text at end)) where
+        pub turn-index-moved : Fits w64 (index + z)
+        turn-index-moved = omega (arith, turn-skipped .low, skipped-within within skips, safe-opened .short)
 
-          pub turn-from-moved : Fits w64 (from + 2 * z)
-          turn-from-moved = omega (arith, skipped-within within skips, safe-opened .short)
+        pub turn-width-fits : Fits w64 (2 * z)
+        turn-width-fits = omega (arith, skipped-within within skips, safe-opened .short)
 
-      module _ {many from index : ℕ} {x₀ : Stores} (fields : FieldsRead (o .letter) (part text at end) t s o many from index x₀) where
-        module _ {stop : ℕ} (within : from ≤ length (part text at end)) (found : Finds (part text at end) 44 from stop) where
-          pub turn-ready : FieldReady (o .letter) index (part (part text at end) from stop) s many (t .claims) (t .slots) x₀
-          turn-ready = fields-ready (read .safe) (safe-opened .short) (o .letter) (safe-opened .few) fields within found
+        pub turn-from-moved : Fits w64 (from + 2 * z)
+        turn-from-moved = omega (arith, skipped-within within skips, safe-opened .short)
 
-          pub turn-index-fits : Fits w64 (index + 1)
-          turn-index-fits = omega (arith, fields .low, safe-opened .short)
+    module _ {many from index : ℕ} {x₀ : Stores} (fields : FieldsRead (o .letter) (part text at end) t s o many from index x₀) where
+      module _ {stop : ℕ} (within : from ≤ length (part text at end)) (found : Finds (part text at end) 44 from stop) where
+        pub turn-ready : FieldReady (o .letter) index (part (part text at end) from stop) s many (t .claims) (t .slots) x₀
+        turn-ready = fields-ready (turn .read .safe) (safe-opened .short) (o .letter) (safe-opened .few) fields within found
 
-          pub turn-from-fits : Fits w64 (stop + 1)
-          turn-from-fits = omega (arith, found .high, safe-opened .short)
+        pub turn-index-fits : Fits w64 (index + 1)
+        turn-index-fits = omega (arith, fields .low, safe-opened .short)
 
-          module _ {field : Fielding} {x : Stores} (done : FieldDone (o .letter) index (part (part text at end) from stop) s many (t .claims) (t .slots) x₀ field x) where
-            pub turn-more : {n : ℕ} → field ≡ Read n → FieldsRead (o .letter) (part text at end) t s o n (stop + 1) (index + 1) x
-            turn-more = fields-more (read .safe) (safe-opened .short) (o .letter) (safe-opened .few) fields within found x done
+        pub turn-from-fits : Fits w64 (stop + 1)
+        turn-from-fits = omega (arith, found .high, safe-opened .short)
 
-            -- refused at a field
-            pub turn-misread : {f : Fault} → field ≡ Misread f → {form : Form} {names signatures : List ℕ} {claims : List ℤ} → LoadsLines text start t₀ (record { ending = Stopped f; line = number + 1; state = s; residual = form }) names signatures claims
-            turn-misread {f} bad =
-                let early = fields-early (read .safe) (safe-opened .short) (o .letter) (safe-opened .few) fields within found x done f bad in
-                lines-refused read inside finds {t₁ = t}
-                (refused-line f (omega (arith, early)) (unweighed (read .clear) (read .safe .rows)) (λ w holds. fields-fault (read .safe) (safe-opened .short) (o .letter) (safe-opened .few) fields within found x done f bad w holds (passed w holds)))
-                refl
-                (λ is. absurd (omega (arith, early, ap numberOf is)))
+        module _ {field : Fielding} {x : Stores} (done : FieldDone (o .letter) index (part (part text at end) from stop) s many (t .claims) (t .slots) x₀ field x) where
+          pub turn-more : {n : ℕ} → field ≡ Read n → FieldsRead (o .letter) (part text at end) t s o n (stop + 1) (index + 1) x
+          turn-more = fields-more (turn .read .safe) (safe-opened .short) (o .letter) (safe-opened .few) fields within found x done
 
-        module _ (past : length (part text at end) < from) where
-          all : index ≡ length (partsFrom 44 (part text at end) (o .from))
-          all = fields-all (read .safe) (safe-opened .short) (o .letter) (safe-opened .few) fields past
+          -- refused at a field
+          pub turn-misread : {f : Fault} → field ≡ Misread f → {form : Form} {names signatures : List ℕ} {claims : List ℤ} → LoadsLines text start t₀ (record { ending = Stopped f; line = number + 1; state = s; residual = form }) names signatures claims
+          turn-misread {f} bad =
+              let early = fields-early (turn .read .safe) (safe-opened .short) (o .letter) (safe-opened .few) fields within found x done f bad in
+              lines-refused (turn .read) (turn .inside) (turn .finds) {t₁ = t}
+              (refused-line f (omega (arith, early)) (unweighed (turn .read .clear) (turn .read .safe .rows)) (λ w holds. fields-fault (turn .read .safe) (safe-opened .short) (o .letter) (safe-opened .few) fields within found x done f bad w holds (passed w holds)))
+              refl
+              (λ is. absurd (omega (arith, early, ap numberOf is)))
 
-          pub turn-closable : CloseReady (o .letter) o s (x₀ .rows) (unclosed t x₀)
-          turn-closable = close-ready (closable (read .safe) (o .letter) fields (safe-opened .few) (safe-opened .place) (safe-opened .due) all)
+      module _ (past : length (part text at end) < from) where
+        all : index ≡ length (partsFrom 44 (part text at end) (o .from))
+        all = fields-all (turn .read .safe) (safe-opened .short) (o .letter) (safe-opened .few) fields past
 
-          module _ {close : Closing} {y : Tabled} (done : CloseDone (o .letter) o s many (x₀ .small) (x₀ .row) (x₀ .rows) (unclosed t x₀) close y) where
-            judged : LineJudged (part text at end) s t close (closedTables x₀ y) (y .weights)
-            judged = closed (read .safe) (o .letter) fields (safe-opened .few) (safe-opened .place) (safe-opened .due) all passed (done .of (o .letter) refl)
+        pub turn-closable : CloseReady (o .letter) o s (x₀ .rows) (unclosed t x₀)
+        turn-closable = close-ready (closable (turn .read .safe) (o .letter) fields (safe-opened .few) (safe-opened .place) (safe-opened .due) all)
 
-            pub turn-done : {next : State} → close ≡ Done next → LinesRead text start t₀ next (closedTables x₀ y) (y .weights) (number + 1) (end + 1)
-            turn-done = lines-more read inside finds judged
+        module _ {close : Closing} {y : Tabled} (done : CloseDone (o .letter) o s many (x₀ .small) (x₀ .row) (x₀ .rows) (unclosed t x₀) close y) where
+          judged : LineJudged (part text at end) s t close (closedTables x₀ y) (y .weights)
+          judged = closed (turn .read .safe) (o .letter) fields (safe-opened .few) (safe-opened .place) (safe-opened .due) all passed (done .of (o .letter) refl)
 
-            pub turn-summable : Summable (y .weights) (x₀ .rows)
-            turn-summable = judged .summable
+          pub turn-done : {next : State} → close ≡ Done next → LinesRead text start t₀ next (closedTables x₀ y) (y .weights) (number + 1) (end + 1)
+          turn-done = lines-more (turn .read) (turn .inside) (turn .finds) judged
 
-            -- refused at its end
-            pub turn-refused : {f : Fault} → close ≡ Misclosed f → {form : Form} → SumsTo (y .weights) (x₀ .rows) (width (s .variables)) (s .subgoals + 1) form → {names signatures : List ℕ} {claims : List ℤ}
-                → LoadsLines text start t₀ (record { ending = Stopped f; line = number + 1; state = s; residual = form }) names signatures claims
-            turn-refused bad sums = lines-refused read inside finds judged bad (λ is. sums)
+          pub turn-summable : Summable (y .weights) (x₀ .rows)
+          turn-summable = judged .summable
+
+          -- refused at its end
+          pub turn-refused : {f : Fault} → close ≡ Misclosed f → {form : Form} → SumsTo (y .weights) (x₀ .rows) (width (s .variables)) (s .subgoals + 1) form → {names signatures : List ℕ} {claims : List ℤ}
+              → LoadsLines text start t₀ (record { ending = Stopped f; line = number + 1; state = s; residual = form }) names signatures claims
+          turn-refused bad sums = lines-refused (turn .read) (turn .inside) (turn .finds) judged bad (λ is. sums)

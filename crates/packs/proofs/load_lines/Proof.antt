@@ -13,7 +13,7 @@ use Rattle.packs.specs.Loading.{unruled}
 use Rattle.packs.proofs.FreshTables.{zeros-clear}
 use Rattle.packs.proofs.ZeroFields.{skipped-within}
 use Rattle.packs.proofs.LineLoop.{lines-begin, lines-end}
-use Rattle.packs.proofs.Turns.{turn-begins, turn-unopened, turn-skipped, turn-index-moved, turn-width-fits, turn-from-moved, turn-ready, turn-index-fits, turn-from-fits, turn-more, turn-misread, turn-closable, turn-done, turn-summable, turn-refused}
+use Rattle.packs.proofs.Turns.{Turn, turn-begins, turn-unopened, turn-skipped, turn-index-moved, turn-width-fits, turn-from-moved, turn-ready, turn-index-fits, turn-from-fits, turn-more, turn-misread, turn-closable, turn-done, turn-summable, turn-refused}
 use Rattle.packs.proofs.load_lines.Statement.{statement}
 use Rattle.packs.proofs.load_lines.Tie as tie
 
@@ -33,6 +33,13 @@ abbrev μ-lines : tie.MeasureT-lines
 μ-lines text names₀ signatures₀ claims₀ classes plain variables₀ rows₀ weights₀ slots₀ hints₀ arities₀ places₀ len state₀ ending₀ residual₀ number₀ at₀ names signatures claims variables rows weights slots hints arities places state ending residual number at =
     len - at
 
+-- a turn up to its call of `open`
+turn : (c : tie.After-open Inv-fields μ-fields Inv-lines μ-lines)
+    → let loop = c .before .before .before .before .before .before .before .before .lines in
+    let args = c .before .before .before .before .before .before .before .before .before .before .before .before .before .args in
+    Turn (args .text .now) (args .start) (unruled (args .names .now) (args .signatures .now) (args .claims .now)) (loop .state) (tables (loop .names) (loop .signatures) (loop .claims) (loop .variables) (loop .rows) (loop .slots)) (loop .weights) (loop .number) (loop .at) (c .before .before .before .before .before .before .find-far .result) (c .«open» .result)
+turn c = record { read = c .before .before .before .before .before .before .before .before .lines .inv .1; inside = c .before .before .before .before .before .before .before .lines-test .taken; finds = c .before .before .before .before .before .before .find-far .ensures; opens = c .«open» .ensures }
+
 lines-holds : tie.Need-lines-holds Inv-fields μ-fields Inv-lines μ-lines
 lines-holds c = (refl, search (needs, lines-begin, zeros-clear), refl, refl)
 
@@ -44,108 +51,123 @@ fields-holds c = (search needs, search (needs, turn-begins), search needs, searc
 
 add-index : tie.Need-add-index Inv-fields μ-fields Inv-lines μ-lines
 add-index c =
-    let line = c .before .before .before .before .before .before .before in
-    let told = c .before .before .before .before .before .opened .given in
-    turn-index-moved (line .before .before .before .before .before .before .before .before .lines .inv .1) (line .before .before .before .before .before .before .before .lines-test .taken) (line .before .before .before .before .before .before .find-far .ensures) (line .«open» .ensures) (told .1) (c .before .before .fields .inv .1) (c .zeros-ahead .ensures) (c .before .fields-test .taken)
+    let held = c .before .before in
+    let line = held .before .before .before .before .before in
+    let told = held .before .before .before .opened .given .1 in
+    turn-index-moved (turn line) told (held .fields .inv .1) (c .zeros-ahead .ensures) (c .before .fields-test .taken)
 
 mul-from : tie.Need-mul-from Inv-fields μ-fields Inv-lines μ-lines
 mul-from c =
-    let line = c .before .before .before .before .before .before .before in
-    let told = c .before .before .before .before .before .opened .given in
-    turn-width-fits (line .before .before .before .before .before .before .before .before .lines .inv .1) (line .before .before .before .before .before .before .before .lines-test .taken) (line .before .before .before .before .before .before .find-far .ensures) (line .«open» .ensures) (told .1) (c .before .before .fields .inv .1) (c .zeros-ahead .ensures) (c .before .fields-test .taken)
+    let held = c .before .before in
+    let line = held .before .before .before .before .before in
+    let told = held .before .before .before .opened .given .1 in
+    turn-width-fits (turn line) told (held .fields .inv .1) (c .zeros-ahead .ensures) (c .before .fields-test .taken)
 
 add-from : tie.Need-add-from Inv-fields μ-fields Inv-lines μ-lines
 add-from c =
-    let line = c .before .before .before .before .before .before .before in
-    let told = c .before .before .before .before .before .opened .given in
-    turn-from-moved (line .before .before .before .before .before .before .before .before .lines .inv .1) (line .before .before .before .before .before .before .before .lines-test .taken) (line .before .before .before .before .before .before .find-far .ensures) (line .«open» .ensures) (told .1) (c .before .before .fields .inv .1) (c .zeros-ahead .ensures) (c .before .fields-test .taken)
+    let held = c .before .before in
+    let line = held .before .before .before .before .before in
+    let told = held .before .before .before .opened .given .1 in
+    turn-from-moved (turn line) told (held .fields .inv .1) (c .zeros-ahead .ensures) (c .before .fields-test .taken)
 
 field-end-requires : tie.Need-field-end-requires Inv-fields μ-fields Inv-lines μ-lines
 field-end-requires c κs = skipped-within (c .before .fields-test .taken) (c .zeros-ahead .ensures)
 
 field-requires : tie.Need-field-requires Inv-fields μ-fields Inv-lines μ-lines
 field-requires c κs =
-    let line = c .before .before .before .before .before .before .before .before .before .before .before .before .before .before .before .before .before .before .before .before in
-    let told = c .before .before .before .before .before .before .before .before .before .before .before .before .before .before .before .before .before .before .opened .given in
     let found = c .before .before .before .before .before .before .before .before .before .before .before .before in
-    let fields = turn-skipped (line .before .before .before .before .before .before .before .before .lines .inv .1) (line .before .before .before .before .before .before .before .lines-test .taken) (line .before .before .before .before .before .before .find-far .ensures) (line .«open» .ensures) (told .1) (found .before .before .before .fields .inv .1) (found .before .zeros-ahead .ensures) in
+    let line = found .before .before .before .before .before .before .before .before in
+    let told = found .before .before .before .before .before .before .opened .given .1 in
+    let fields = turn-skipped (turn line) told (found .before .before .before .fields .inv .1) (found .before .zeros-ahead .ensures) in
     let within = skipped-within (found .before .before .fields-test .taken) (found .before .zeros-ahead .ensures) in
-    (turn-ready (line .before .before .before .before .before .before .before .before .lines .inv .1) (line .before .before .before .before .before .before .before .lines-test .taken) (line .before .before .before .before .before .before .find-far .ensures) (line .«open» .ensures) (told .1) fields within (found .field-end .ensures), c .before .before .before .before .before .before .before .before .before .before .before .before .before .before .before .fields .inv .2, c .before .before .before .before .before .before .before .before .before .before .before .before .before .before .before .fields .inv .3, c .before .before .before .before .before .before .before .before .before .before .before .before .before .before .before .before .before .before .before .before .before .before .before .before .before .before .before .before .before .before .before .class-table .ensures)
+    (turn-ready (turn line) told fields within (found .field-end .ensures), found .before .before .before .fields .inv .2, found .before .before .before .fields .inv .3, line .before .before .before .before .before .before .before .before .before .before .before .class-table .ensures)
 
 add-index-2 : tie.Need-add-index-2 Inv-fields μ-fields Inv-lines μ-lines
 add-index-2 c =
-    let line = c .before .before .before .before .before .before .before .before .before .before .before .before .before .before .before .before .before .before .before .before .before .before .before .before in
-    let told = c .before .before .before .before .before .before .before .before .before .before .before .before .before .before .before .before .before .before .before .before .before .before .opened .given in
     let found = c .before .before .before .before .before .before .before .before .before .before .before .before .before .before .before .before in
-    let fields = turn-skipped (line .before .before .before .before .before .before .before .before .lines .inv .1) (line .before .before .before .before .before .before .before .lines-test .taken) (line .before .before .before .before .before .before .find-far .ensures) (line .«open» .ensures) (told .1) (found .before .before .before .fields .inv .1) (found .before .zeros-ahead .ensures) in
+    let line = found .before .before .before .before .before .before .before .before in
+    let told = found .before .before .before .before .before .before .opened .given .1 in
+    let fields = turn-skipped (turn line) told (found .before .before .before .fields .inv .1) (found .before .zeros-ahead .ensures) in
     let within = skipped-within (found .before .before .fields-test .taken) (found .before .zeros-ahead .ensures) in
-    turn-index-fits (line .before .before .before .before .before .before .before .before .lines .inv .1) (line .before .before .before .before .before .before .before .lines-test .taken) (line .before .before .before .before .before .before .find-far .ensures) (line .«open» .ensures) (told .1) fields within (found .field-end .ensures)
+    turn-index-fits (turn line) told fields within (found .field-end .ensures)
 
 add-from-2 : tie.Need-add-from-2 Inv-fields μ-fields Inv-lines μ-lines
 add-from-2 c =
-    let line = c .before .before .before .before .before .before .before .before .before .before .before .before .before .before .before .before .before .before .before .before .before .before .before .before in
-    let told = c .before .before .before .before .before .before .before .before .before .before .before .before .before .before .before .before .before .before .before .before .before .before .opened .given in
     let found = c .before .before .before .before .before .before .before .before .before .before .before .before .before .before .before .before in
-    let fields = turn-skipped (line .before .before .before .before .before .before .before .before .lines .inv .1) (line .before .before .before .before .before .before .before .lines-test .taken) (line .before .before .before .before .before .before .find-far .ensures) (line .«open» .ensures) (told .1) (found .before .before .before .fields .inv .1) (found .before .zeros-ahead .ensures) in
+    let line = found .before .before .before .before .before .before .before .before in
+    let told = found .before .before .before .before .before .before .opened .given .1 in
+    let fields = turn-skipped (turn line) told (found .before .before .before .fields .inv .1) (found .before .zeros-ahead .ensures) in
     let within = skipped-within (found .before .before .fields-test .taken) (found .before .zeros-ahead .ensures) in
-    turn-from-fits (line .before .before .before .before .before .before .before .before .lines .inv .1) (line .before .before .before .before .before .before .before .lines-test .taken) (line .before .before .before .before .before .before .find-far .ensures) (line .«open» .ensures) (told .1) fields within (found .field-end .ensures)
+    turn-from-fits (turn line) told fields within (found .field-end .ensures)
 
 fields-less : tie.Need-fields-less Inv-fields μ-fields Inv-lines μ-lines
-fields-less c = omega (arith, c .before .before .before .before .before .before .before .before .before .before .before .before .before .before .before .before .field-end .ensures .low, c .before .before .before .before .before .before .before .before .before .before .before .before .before .before .before .before .before .before .fields-test .taken)
+fields-less c =
+    let found = c .before .before .before .before .before .before .before .before .before .before .before .before .before .before .before .before in
+    omega (arith, found .field-end .ensures .low, found .before .before .fields-test .taken)
 
 fields-again : tie.Need-fields-again Inv-fields μ-fields Inv-lines μ-lines
 fields-again c =
-    let line = c .before .before .before .before .before .before .before .before .before .before .before .before .before .before .before .before .before .before .before .before .before .before .before .before in
-    let told = c .before .before .before .before .before .before .before .before .before .before .before .before .before .before .before .before .before .before .before .before .before .before .opened .given in
     let found = c .before .before .before .before .before .before .before .before .before .before .before .before .before .before .before .before in
-    let fields = turn-skipped (line .before .before .before .before .before .before .before .before .lines .inv .1) (line .before .before .before .before .before .before .before .lines-test .taken) (line .before .before .before .before .before .before .find-far .ensures) (line .«open» .ensures) (told .1) (found .before .before .before .fields .inv .1) (found .before .zeros-ahead .ensures) in
+    let line = found .before .before .before .before .before .before .before .before in
+    let told = found .before .before .before .before .before .before .opened .given .1 in
+    let fields = turn-skipped (turn line) told (found .before .before .before .fields .inv .1) (found .before .zeros-ahead .ensures) in
     let within = skipped-within (found .before .before .fields-test .taken) (found .before .zeros-ahead .ensures) in
-    (search needs, turn-more (line .before .before .before .before .before .before .before .before .lines .inv .1) (line .before .before .before .before .before .before .before .lines-test .taken) (line .before .before .before .before .before .before .find-far .ensures) (line .«open» .ensures) (told .1) fields within (found .field-end .ensures) (c .before .before .before .field .ensures .1) (search needs), c .before .before .before .field .ensures .0 .0, c .before .before .before .field .ensures .0 .1)
+    (search needs, turn-more (turn line) told fields within (found .field-end .ensures) (c .before .before .before .field .ensures .1) (search needs), c .before .before .before .field .ensures .0 .0, c .before .before .before .field .ensures .0 .1)
 
 close-requires : tie.Need-close-requires Inv-fields μ-fields Inv-lines μ-lines
 close-requires c κs =
-    let line = c .before .before .before .before .before .before .before .before .before .before .before .before .before .before in
-    let told = c .before .before .before .before .before .before .before .before .before .before .before .before .opened .given in
-    turn-closable (line .before .before .before .before .before .before .before .before .lines .inv .1) (line .before .before .before .before .before .before .before .lines-test .taken) (line .before .before .before .before .before .before .find-far .ensures) (line .«open» .ensures) (told .1) (c .before .before .before .before .before .before .before .before .before .fields .inv .1) (c .before .before .before .before .before .before .before .before .fields-test .left)
+    let held = c .before .before .before .before .before .before .before .before .before in
+    let line = held .before .before .before .before .before in
+    let told = held .before .before .before .opened .given .1 in
+    turn-closable (turn line) told (held .fields .inv .1) (c .before .before .before .before .before .before .before .before .fields-test .left)
 
 residual-requires : tie.Need-residual-requires Inv-fields μ-fields Inv-lines μ-lines
 residual-requires c κs =
-    let line = c .before .before .before .before .before .before .before .before .before .before .before .before .before .before .before .before .before .before .before .before in
-    let told = c .before .before .before .before .before .before .before .before .before .before .before .before .before .before .before .before .before .before .opened .given in
-    (c .before .before .before .before .before .before .before .before .before .before .before .before .before .before .before .before .before .before .before .before .before .before .before .before .before .before .before .before .lines .inv .1 .safe .state .subgoals, turn-summable (line .before .before .before .before .before .before .before .before .lines .inv .1) (line .before .before .before .before .before .before .before .lines-test .taken) (line .before .before .before .before .before .before .find-far .ensures) (line .«open» .ensures) (told .1) (c .before .before .before .before .before .before .before .before .before .before .before .before .before .before .before .fields .inv .1) (c .before .before .before .before .before .before .before .before .before .before .before .before .before .before .fields-test .left) (c .before .before .before .before .before .close .ensures))
+    let held = c .before .before .before .before .before .before .before .before .before .before .before .before .before .before .before in
+    let line = held .before .before .before .before .before in
+    let told = held .before .before .before .opened .given .1 in
+    (turn line .read .safe .state .subgoals, turn-summable (turn line) told (held .fields .inv .1) (c .before .before .before .before .before .before .before .before .before .before .before .before .before .before .fields-test .left) (c .before .before .before .before .before .close .ensures))
 
 add-at : tie.Need-add-at Inv-fields μ-fields Inv-lines μ-lines
-add-at c = record { fits = omega (arith, c .before .before .before .before .before .before .before .before .before .before .before .before .before .before .before .before .before .before .before .before .before .before .before .before .before .before .before .before .before .before .before .good .0 .1, c .before .before .before .before .before .before .before .before .before .before .before .before .before .before .before .before .before .before .before .before .before .before .before .before .find-far .ensures .high) }
+add-at c =
+    let held = c .before .before .before .before .before .before .before .before .before .before .before .before .before in
+    let line = held .before .before .before .before .before in
+    record { fits = omega (arith, line .before .before .before .before .before .before .before .before .before .before .before .before .before .good .0 .1, line .before .before .before .before .before .before .find-far .ensures .high) }
 
 lines-less : tie.Need-lines-less Inv-fields μ-fields Inv-lines μ-lines
-lines-less c = omega (arith, c .before .before .before .before .before .before .before .before .before .before .before .before .before .before .before .before .before .before .before .before .before .before .before .before .before .lines-test .taken, c .before .before .before .before .before .before .before .before .before .before .before .before .before .before .before .before .before .before .before .before .before .before .before .before .find-far .ensures .low)
+lines-less c =
+    let held = c .before .before .before .before .before .before .before .before .before .before .before .before .before in
+    let line = held .before .before .before .before .before in
+    omega (arith, line .before .before .before .before .before .before .before .lines-test .taken, line .before .before .before .before .before .before .find-far .ensures .low)
 
 lines-again : tie.Need-lines-again Inv-fields μ-fields Inv-lines μ-lines
 lines-again c =
-    let line = c .before .before .before .before .before .before .before .before .before .before .before .before .before .before .before .before .before .before in
-    let told = c .before .before .before .before .before .before .before .before .before .before .before .before .before .before .before .before .opened .given in
-    (c .before .before .before .before .before .before .before .before .before .before .before .before .before .fields .inv .0, turn-done (line .before .before .before .before .before .before .before .before .lines .inv .1) (line .before .before .before .before .before .before .before .lines-test .taken) (line .before .before .before .before .before .before .find-far .ensures) (line .«open» .ensures) (told .1) (c .before .before .before .before .before .before .before .before .before .before .before .before .before .fields .inv .1) (c .before .before .before .before .before .before .before .before .before .before .before .before .fields-test .left) (c .before .before .before .close .ensures) (search needs), c .before .before .before .before .before .before .before .before .before .before .before .before .before .fields .inv .2, c .before .before .before .before .before .before .before .before .before .before .before .before .before .fields .inv .3)
+    let held = c .before .before .before .before .before .before .before .before .before .before .before .before .before in
+    let line = held .before .before .before .before .before in
+    let told = held .before .before .before .opened .given .1 in
+    (held .fields .inv .0, turn-done (turn line) told (held .fields .inv .1) (c .before .before .before .before .before .before .before .before .before .before .before .before .fields-test .left) (c .before .before .before .close .ensures) (search needs), held .fields .inv .2, held .fields .inv .3)
 
 returns : tie.Need-returns Inv-fields μ-fields Inv-lines μ-lines
 returns c = rw (c .before .lines .inv .0) (lines-end (c .before .lines .inv .1) (c .lines-test .left))
 
 returns-2 : tie.Need-returns-2 Inv-fields μ-fields Inv-lines μ-lines
-returns-2 c = search (needs, turn-unopened)
+returns-2 c = turn-unopened (turn (c .before .before .before)) (search needs)
 
 returns-3 : tie.Need-returns-3 Inv-fields μ-fields Inv-lines μ-lines
 returns-3 c =
-    let line = c .before .before .before .before .before .before .before .before .before .before .before .before .before .before .before .before .before .before .before .before .before .before .before .before in
-    let told = c .before .before .before .before .before .before .before .before .before .before .before .before .before .before .before .before .before .before .before .before .before .before .opened .given in
     let found = c .before .before .before .before .before .before .before .before .before .before .before .before .before .before .before .before in
-    let fields = turn-skipped (line .before .before .before .before .before .before .before .before .lines .inv .1) (line .before .before .before .before .before .before .before .lines-test .taken) (line .before .before .before .before .before .before .find-far .ensures) (line .«open» .ensures) (told .1) (found .before .before .before .fields .inv .1) (found .before .zeros-ahead .ensures) in
+    let line = found .before .before .before .before .before .before .before .before in
+    let told = found .before .before .before .before .before .before .opened .given .1 in
+    let fields = turn-skipped (turn line) told (found .before .before .before .fields .inv .1) (found .before .zeros-ahead .ensures) in
     let within = skipped-within (found .before .before .fields-test .taken) (found .before .zeros-ahead .ensures) in
-    turn-misread (line .before .before .before .before .before .before .before .before .lines .inv .1) (line .before .before .before .before .before .before .before .lines-test .taken) (line .before .before .before .before .before .before .find-far .ensures) (line .«open» .ensures) (told .1) fields within (found .field-end .ensures) (c .before .before .before .field .ensures .1) (search needs)
+    turn-misread (turn line) told fields within (found .field-end .ensures) (c .before .before .before .field .ensures .1) (search needs)
 
 returns-4 : tie.Need-returns-4 Inv-fields μ-fields Inv-lines μ-lines
 returns-4 c =
-    let line = c .before .before .before .before .before .before .before .before .before .before .before .before .before .before .before .before .before .before .before .before .before in
-    let told = c .before .before .before .before .before .before .before .before .before .before .before .before .before .before .before .before .before .before .before .opened .given in
-    turn-refused (line .before .before .before .before .before .before .before .before .lines .inv .1) (line .before .before .before .before .before .before .before .lines-test .taken) (line .before .before .before .before .before .before .find-far .ensures) (line .«open» .ensures) (told .1) (c .before .before .before .before .before .before .before .before .before .before .before .before .before .before .before .before .fields .inv .1) (c .before .before .before .before .before .before .before .before .before .before .before .before .before .before .before .fields-test .left) (c .before .before .before .before .before .before .close .ensures) (search needs) (c .residual .ensures)
+    let held = c .before .before .before .before .before .before .before .before .before .before .before .before .before .before .before .before in
+    let line = held .before .before .before .before .before in
+    let told = held .before .before .before .opened .given .1 in
+    turn-refused (turn line) told (held .fields .inv .1) (c .before .before .before .before .before .before .before .before .before .before .before .before .before .before .before .fields-test .left) (c .before .before .before .before .before .before .close .ensures) (search needs) (c .residual .ensures)
 
 pub load-lines-spec : {M : Type 1} → statement M
 load-lines-spec =
