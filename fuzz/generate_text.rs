@@ -73,7 +73,7 @@ impl Model {
 }
 
 /// How many bytes `H,name,a/0` takes with its byte 10.
-pub(super) fn shortest_head(name: &str) -> usize {
+pub fn shortest_head(name: &str) -> usize {
     "H,".len() + name.len() + ",a/0\n".len()
 }
 

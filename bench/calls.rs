@@ -1,0 +1,56 @@
+//! How much stack each call of the library uses, at most, on the packs that are timed.
+
+use crate::generate::term_of_length;
+use crate::kinds::{Kind, Sample};
+use crate::{library, plain, stack};
+use std::hint::black_box;
+
+/// What a call may use at most.
+pub const STACK_ALLOWED: usize = 32 * 1_024;
+
+/// A call that is known to use more than is allowed, to see that this is noticed.
+pub const DEEP_CALL: usize = 40_000;
+
+/// Of each kind so many packs are tried.
+const PACKS_TRIED: usize = 100;
+
+/// What one call used at most.
+pub struct Depth {
+    pub call: &'static str,
+    pub bytes: usize,
+}
+
+fn call_check(sample: &mut &Sample) {
+    let mut area = [0; plain::AREA_NEEDED];
+    black_box(library::check(&sample.text, &mut area));
+}
+
+fn call_reserve(sample: &mut &Sample) {
+    black_box(library::reserve(&sample.text, &sample.query));
+}
+
+fn call_measure(term: &mut &[u8]) {
+    black_box(library::measure(term));
+}
+
+fn call_deep(_: &mut ()) {
+    black_box(&mut [0_u8; DEEP_CALL]);
+}
+
+/// The three calls with the most stack that each used: check and reserve on packs of all kinds, measure on terms.
+pub fn depths(kinds: &[Kind]) -> [Depth; 3] {
+    let samples = || kinds.iter().flat_map(|kind| kind.samples.iter().take(PACKS_TRIED));
+    let most = |call: fn(&mut &Sample)| samples().map(|mut sample| stack::depth(call, &mut sample)).max().unwrap_or(0);
+    let terms = ["a/0".to_string(), "s/1 X".to_string(), term_of_length(1_024), term_of_length(1_025)];
+    let measure = terms.iter().map(|term| stack::depth(call_measure, &mut term.as_bytes())).max().unwrap_or(0);
+    [
+        Depth { call: "check", bytes: most(call_check) },
+        Depth { call: "reserve", bytes: most(call_reserve) },
+        Depth { call: "measure", bytes: measure },
+    ]
+}
+
+/// What is seen of the call that uses too much.
+pub fn depth_of_deep_call() -> usize {
+    stack::depth(call_deep, &mut ())
+}

@@ -1,0 +1,91 @@
+//! Asks the library and the plain implementation the same: of each kind's packs, and of copies with a byte changed.
+
+use crate::kinds::{Kind, Sample};
+use crate::random::Random;
+use crate::{library, plain};
+
+/// How many damaged copies of a kind's packs are asked about.
+const COPIES: usize = 40;
+/// Bytes that packs are made of, and one that they may not have.
+const BYTES: &[u8] = b"0019,,/- \nAXahEM\t";
+
+/// Numbers that the area is filled with before each check: those that check leaves alone must stay.
+const FILLED: [i64; plain::AREA_NEEDED + 1] = [-77; plain::AREA_NEEDED + 1];
+
+/// What the calls answer: check's word and area, and reserve's word.
+#[derive(PartialEq)]
+struct Answers {
+    check: u64,
+    area: [i64; FILLED.len()],
+    reserve: u64,
+}
+
+fn of_library(sample: &Sample) -> Answers {
+    let mut area = FILLED;
+    let check = library::check(&sample.text, &mut area);
+    Answers { check, area, reserve: library::reserve(&sample.text, &sample.query) }
+}
+
+fn of_plain(sample: &Sample) -> Answers {
+    let mut area = FILLED;
+    let check = plain::word_of_check(plain::check(&sample.text, &mut area));
+    Answers { check, area, reserve: plain::word_of_reserve(plain::reserve(&sample.text, &sample.query)) }
+}
+
+/// Check's four numbers, from the word that C gets.
+fn numbers(word: u64) -> [u64; 4] {
+    [word & 255, (word >> 8) & 0xFFFF, (word >> 24) & 255, word >> 32]
+}
+
+impl std::fmt::Display for Answers {
+    fn fmt(&self, formatter: &mut std::fmt::Formatter) -> std::fmt::Result {
+        let [refusal, line, rule, claim] = numbers(self.check);
+        write!(formatter, "{refusal},{line},{rule},{claim}, area {:?}, reserve {:#x}", self.area, self.reserve)
+    }
+}
+
+/// The answer of both, or in words how they differ.
+fn same_answers(sample: &Sample) -> Result<Answers, String> {
+    let (library, plain) = (of_library(sample), of_plain(sample));
+    if library == plain {
+        Ok(library)
+    } else {
+        Err(format!("the library answers {library}; the plain implementation {plain}"))
+    }
+}
+
+/// Do both accept all packs of the kind, with the same numbers, and leave the area alone? And is the kind what its name
+/// says? In words, what is not so.
+pub fn compare_packs(kind: &Kind) -> Result<(), String> {
+    for sample in &kind.samples {
+        let answers = same_answers(sample)?;
+        if numbers(answers.check)[0] != 0 || answers.area != FILLED {
+            return Err(format!("both refuse it: {answers}"));
+        }
+        if ![b'B', b'N', b'I'].contains(&(answers.reserve as u8)) {
+            return Err(format!("both refuse the query: {answers}"));
+        }
+    }
+    if (kind.is_as_named)(&kind.samples) {
+        Ok(())
+    } else {
+        Err("its packs are not what its name says".to_string())
+    }
+}
+
+/// Do both answer alike of the damaged copies? How many of these were refused, and for how many the area was changed.
+pub fn compare_copies(kind: &Kind) -> Result<(usize, usize), String> {
+    let mut random = Random::new(6);
+    let (mut refused, mut residuals) = (0, 0);
+    for copy in 0..COPIES {
+        let sample = &kind.samples[copy % kind.samples.len()];
+        let mut text = sample.text.clone();
+        let place = random.below(text.len());
+        text[place] = random.pick(BYTES);
+        let answers = same_answers(&Sample { text, query: sample.query.clone() })
+            .map_err(|difference| format!("copy {copy}, byte {place} changed: {difference}"))?;
+        refused += usize::from(numbers(answers.check)[0] != 0);
+        residuals += usize::from(answers.area != FILLED);
+    }
+    Ok((refused, residuals))
+}
