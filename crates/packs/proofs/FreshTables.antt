@@ -3,13 +3,13 @@ use mathlib.Core.Path.{_≡_, refl, subst⁻¹}
 use Prim.Native.Nat.{ℕ, _+_}
 use native.Mathlib.Omega.{arith}
 use lib.IntN.{pos}
-use lib.ListN.{replicate, length-replicate}
+use lib.ListN.{length-replicate}
 use Rattle.groundwork.proofs.Lists.{same-everywhere}
 use Rattle.theory.specs.Lists.{isEmpty}
 use Rattle.theory.specs.Written.{nothing}
 use Rattle.theory.specs.Check.{multiplierLines}
 use Rattle.tables.specs.declared.State.{State}
-use Rattle.tables.specs.Tables.{Tables, Holds, NoWeights, slotsOf, Safe}
+use Rattle.tables.specs.Tables.{Tables, Holds, slotsOf, Safe}
 use Rattle.packs.specs.Loading.{begun, fresh}
 
 pub fresh-safe : Safe fresh begun
@@ -23,10 +23,6 @@ fresh-safe =
       rows = record { small = λ i. rw (same-everywhere {A = ℕ} 0 1224 i) (omega arith) };
       slots = record { place = λ k below. absurd (omega arith); subgoal = λ k below. absurd (omega arith); few = λ subgoal. omega arith };
     }
-
--- no weights stand in an array of zeros
-pub zeros-clear : NoWeights (replicate 81 (pos 0))
-zeros-clear = record { size = length-replicate 81 (pos 0); zero = λ i. same-everywhere (pos 0) 81 i }
 
 pub fresh-holds : Holds fresh begun nothing
 unfolding nothing multiplierLines isEmpty

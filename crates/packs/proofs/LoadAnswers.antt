@@ -21,12 +21,13 @@ use Rattle.tables.specs.declared.Fault.{Fault}
 use Rattle.tables.specs.Faults.{numberOf}
 use Rattle.tables.specs.Tables.{Tables, Holds}
 use Rattle.certificates.specs.Sums.{formNumbers}
-use Rattle.packs.specs.declared.Ending.the-variants.{AllPass, Stopped}
-use Rattle.packs.specs.declared.LoadedLines.{LoadedLines}
+use Rattle.lines.specs.declared.Ending.the-variants.{AllPass, Stopped}
+use Rattle.lines.specs.declared.LoadedLines.{LoadedLines}
+use Rattle.lines.specs.LineLoading.{faultNumbers, LinesLoadedFor, LoadsLines}
+use Rattle.lines.proofs.LineLoop.{number-some}
 use Rattle.packs.specs.declared.Loaded.{Loaded}
-use Rattle.packs.specs.Loading.{faultNumbers, begun, fresh, LinesLoadedFor, LoadsLines, Laid, Loads}
+use Rattle.packs.specs.Loading.{begun, fresh, Laid, Loads}
 use Rattle.packs.proofs.FreshTables.{fresh-holds}
-use Rattle.packs.proofs.LineLoop.{number-some}
 
 -- ---- the tests of the whole text
 

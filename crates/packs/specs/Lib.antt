@@ -1,4 +1,2 @@
--- What the steps of a line need and leave by its letter, what the loops over lines and fields keep, and what loading leaves. No public promise cites them.
-pub mod Steps
-pub mod Between
+-- What loading a text leaves. No public promise cites it.
 pub mod Loading

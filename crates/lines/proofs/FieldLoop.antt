@@ -32,8 +32,8 @@ use Rattle.atoms.proofs.TermFields.{t-misread, t-high}
 use Rattle.atoms.proofs.HeadLines.{h-begin, h-field, h-fault}
 use Rattle.atoms.proofs.SubgoalLines.{b-begin, b-field, b-fault}
 use Rattle.certificates.proofs.MultiplierLines.{m-begin, m-field, m-count, m-room, m-fault}
-use Rattle.packs.specs.Steps.{Stores, stores, FieldNeeds, FieldLeaves, FieldReady, FieldDone, variablesBefore, Progress}
-use Rattle.packs.specs.Between.{SafeStores, Untouched, Weighed, FieldsRead}
+use Rattle.lines.specs.Steps.{Stores, stores, FieldNeeds, FieldLeaves, FieldReady, FieldDone, variablesBefore, Progress}
+use Rattle.lines.specs.Between.{SafeStores, Untouched, Weighed, FieldsRead}
 
 -- the fields of a line that are read one by one
 abbrev pub fieldsFrom : Bytes → Opened → List Bytes

@@ -14,7 +14,7 @@ use Rattle.tables.specs.Faults.{closingNumber}
 use Rattle.tables.specs.Tables.{Tables, Holds, Safe}
 use Rattle.tables.specs.Lines.{Passed, ClosedFor}
 use Rattle.tables.proofs.Outcomes.{done-state}
-use Rattle.packs.specs.Steps.{withEnd}
+use Rattle.lines.specs.Steps.{withEnd}
 
 e-left : (line : Bytes) (s : State) (w : Written) (o : Opened) → Passed E line s w o → fault w line ≡ 0
 unfolding firstOf tests

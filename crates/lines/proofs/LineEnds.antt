@@ -26,10 +26,10 @@ use Rattle.declarations.proofs.ClaimLines.{c-limit, c-close, c-safe}
 use Rattle.atoms.proofs.HeadLines.{h-limit, h-close, h-safe}
 use Rattle.atoms.proofs.SubgoalLines.{b-limit, b-close, b-safe}
 use Rattle.certificates.proofs.MultiplierLines.{m-summable, m-close, m-left, m-left-summable, m-cleared, m-safe}
-use Rattle.packs.specs.Steps.{Stores, Tabled, tabled, CloseNeeds, CloseLeaves, Progress}
-use Rattle.packs.specs.Between.{FieldsRead, LineJudged}
-use Rattle.packs.proofs.FieldLoop.{fieldsFrom}
-use Rattle.packs.proofs.EndLines.{e-close, e-safe}
+use Rattle.lines.specs.Steps.{Stores, Tabled, tabled, CloseNeeds, CloseLeaves, Progress}
+use Rattle.lines.specs.Between.{FieldsRead, LineJudged}
+use Rattle.lines.proofs.FieldLoop.{fieldsFrom}
+use Rattle.lines.proofs.EndLines.{e-close, e-safe}
 
 claim-other : C ≡ P → ⊥
 claim-other e = let never : _≡_ {A = ℕ} 0 1 = cc in absurd (omega arith)

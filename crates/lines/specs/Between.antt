@@ -21,7 +21,7 @@ use Rattle.tables.specs.Tables.{Tables, Holds, SafeRows, NoWeights, Safe}
 use Rattle.tables.specs.Lines.{Passed, ClosedFor}
 use Rattle.certificates.specs.Sums.{width, Summable, SumsTo, formNumbers}
 use Rattle.certificates.specs.Multipliers.{ProgressM}
-use Rattle.packs.specs.Steps.{Stores, Progress}
+use Rattle.lines.specs.Steps.{Stores, Progress}
 
 -- the stores that the fields are read into
 pub record SafeStores (x : Stores) : Type 0 where

@@ -1,11 +1,11 @@
--- `packs::field` meets its contract. Assumes nothing.
+-- `lines::field` meets its contract. Assumes nothing.
 use borrow.Author.Needs.{needs}
 use mathlib.Core.Path.{refl}
 use Rattle.theory.specs.declared.Letter.the-variants.{P, C, M, E, NoLetter}
 use Rattle.atoms.proofs.StatedAtoms.{atom-high}
-use Rattle.packs.proofs.Steps.{field-done, atom-ready, atom-done}
-use Rattle.packs.proofs.field.Statement.{statement}
-use Rattle.packs.proofs.field.Tie as tie
+use Rattle.lines.proofs.Steps.{field-done, atom-ready, atom-done}
+use Rattle.lines.proofs.field.Statement.{statement}
+use Rattle.lines.proofs.field.Tie as tie
 
 field-predicate-requires : tie.Need-field-predicate-requires
 field-predicate-requires c κs = c .before .before .before .before .pre .0 .of P (search needs)

@@ -14,10 +14,10 @@ use Rattle.tables.specs.declared.Opened.{Opened}
 use Rattle.tables.specs.Tables.{Tables, Safe}
 use Rattle.tables.specs.Lines.{most}
 use Rattle.certificates.proofs.MultiplierFields.{zero-weighed}
-use Rattle.packs.specs.Steps.{Stores, Skips, none, zeros}
-use Rattle.packs.specs.Between.{FieldsRead}
-use Rattle.packs.proofs.Steps.{field-done}
-use Rattle.packs.proofs.FieldLoop.{fieldsFrom, fields-more}
+use Rattle.lines.specs.Steps.{Stores, Skips, none, zeros}
+use Rattle.lines.specs.Between.{FieldsRead}
+use Rattle.lines.proofs.Steps.{field-done}
+use Rattle.lines.proofs.FieldLoop.{fieldsFrom, fields-more}
 
 module _ {line : Bytes} {t : Tables} {s : State} {o : Opened} (safe : Safe t s) (short : length line ≤ 1024) {many : ℕ} {x : Stores} where
   module _ (few : length (fieldsFrom line o) ≤ most M s) where

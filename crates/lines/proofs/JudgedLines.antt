@@ -19,7 +19,7 @@ use Rattle.tables.proofs.Outcomes.{done-misclosed, misclosed-fault}
 use Rattle.tables.proofs.Outlines.{outline}
 use Rattle.certificates.specs.Sums.{Summable}
 use Rattle.opening.specs.Opening.{Opens}
-use Rattle.packs.specs.Between.{LineJudged}
+use Rattle.lines.specs.Between.{LineJudged}
 
 -- nothing is asked of the tables after it
 pub refused-line : {line : Bytes} {t t₁ : Tables} {s : State} {weights : List ℤ} (f : Fault) → numberOf f ≤ 12 → Summable weights (t₁ .rows) → ((w : Written) → Holds t s w → fault w line ≡ numberOf f) → LineJudged line s t (Misclosed f) t₁ weights

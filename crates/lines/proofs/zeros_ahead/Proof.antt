@@ -1,9 +1,9 @@
--- `packs::zeros_ahead` meets its contract. Assumes nothing.
+-- `lines::zeros_ahead` meets its contract. Assumes nothing.
 use borrow.Author.Needs.{needs}
-use Rattle.packs.specs.Steps.{none}
-use Rattle.packs.proofs.ZeroFields.{zeros-skipped}
-use Rattle.packs.proofs.zeros_ahead.Statement.{statement}
-use Rattle.packs.proofs.zeros_ahead.Tie as tie
+use Rattle.lines.specs.Steps.{none}
+use Rattle.lines.proofs.ZeroFields.{zeros-skipped}
+use Rattle.lines.proofs.zeros_ahead.Statement.{statement}
+use Rattle.lines.proofs.zeros_ahead.Tie as tie
 
 returns : tie.Need-returns
 returns c = none

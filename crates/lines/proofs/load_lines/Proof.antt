@@ -1,4 +1,4 @@
--- `packs::load_lines` meets its contract. Assumes nothing.
+-- `lines::load_lines` meets its contract. Assumes nothing.
 use mathlib.Core.Path.{_≡_, refl, sym, _∙_}
 use Prim.Native.Nat.{_+_, _-_}
 use native.Mathlib.Omega.{arith}
@@ -6,16 +6,15 @@ use lib.ListN.{length}
 use borrow.Author.Needs.{needs}
 use Rattle.text.proofs.PlainText.{plain-line}
 use Rattle.tables.specs.Tables.{tables}
-use Rattle.packs.specs.declared.Ending.the-variants.{AllPass}
-use Rattle.packs.specs.Steps.{stores}
-use Rattle.packs.specs.Between.{FieldsRead, LinesRead}
-use Rattle.packs.specs.Loading.{unruled}
-use Rattle.packs.proofs.FreshTables.{zeros-clear}
-use Rattle.packs.proofs.ZeroFields.{skipped-within}
-use Rattle.packs.proofs.LineLoop.{lines-begin, lines-end}
-use Rattle.packs.proofs.Turns.{Turn, turn-begins, turn-unopened, turn-skipped, turn-index-moved, turn-width-fits, turn-from-moved, turn-ready, turn-index-fits, turn-from-fits, turn-more, turn-misread, turn-closable, turn-done, turn-summable, turn-refused}
-use Rattle.packs.proofs.load_lines.Statement.{statement}
-use Rattle.packs.proofs.load_lines.Tie as tie
+use Rattle.lines.specs.declared.Ending.the-variants.{AllPass}
+use Rattle.lines.specs.Steps.{stores}
+use Rattle.lines.specs.Between.{FieldsRead, LinesRead}
+use Rattle.lines.specs.LineLoading.{unruled}
+use Rattle.lines.proofs.ZeroFields.{skipped-within}
+use Rattle.lines.proofs.LineLoop.{zeros-clear, lines-begin, lines-end}
+use Rattle.lines.proofs.Turns.{Turn, turn-begins, turn-unopened, turn-skipped, turn-index-moved, turn-width-fits, turn-from-moved, turn-ready, turn-index-fits, turn-from-fits, turn-more, turn-misread, turn-closable, turn-done, turn-summable, turn-refused}
+use Rattle.lines.proofs.load_lines.Statement.{statement}
+use Rattle.lines.proofs.load_lines.Tie as tie
 
 abbrev Inv-fields : tie.InvT-fields
 Inv-fields text names signatures claims classes plain variables₀ rows₀ weights₀ slots hints₀ arities₀ places₀ len state ending₀ residual number at end line o letter width small₀ row₀ many₀ from₀ index₀ variables rows weights hints arities places ending small row many from index =

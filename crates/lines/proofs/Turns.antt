@@ -26,16 +26,16 @@ use Rattle.tables.specs.Lines.{Passed, SafeOpened}
 use Rattle.tables.proofs.Outlines.{outline}
 use Rattle.opening.specs.Opening.{Opens}
 use Rattle.certificates.specs.Sums.{width, Summable, SumsTo}
-use Rattle.packs.specs.declared.Ending.the-variants.{Stopped}
-use Rattle.packs.specs.Steps.{Stores, FieldReady, FieldDone, Skips, variablesBefore, Tabled, CloseReady, CloseDone}
-use Rattle.packs.specs.Between.{FieldsRead, LineJudged, LinesRead}
-use Rattle.packs.specs.Loading.{LoadsLines}
-use Rattle.packs.proofs.Steps.{close-ready}
-use Rattle.packs.proofs.FieldLoop.{emptied, fields-begin, fields-ready, fields-fault, fields-early, fields-more, fields-all}
-use Rattle.packs.proofs.ZeroFields.{fields-skipped, skipped-within}
-use Rattle.packs.proofs.LineEnds.{unweighed, unclosed, closedTables, closable, closed}
-use Rattle.packs.proofs.JudgedLines.{refused-line, refused-opening}
-use Rattle.packs.proofs.LineLoop.{lines-more, lines-refused}
+use Rattle.lines.specs.declared.Ending.the-variants.{Stopped}
+use Rattle.lines.specs.Steps.{Stores, FieldReady, FieldDone, Skips, variablesBefore, Tabled, CloseReady, CloseDone}
+use Rattle.lines.specs.Between.{FieldsRead, LineJudged, LinesRead}
+use Rattle.lines.specs.LineLoading.{LoadsLines}
+use Rattle.lines.proofs.Steps.{close-ready}
+use Rattle.lines.proofs.FieldLoop.{emptied, fields-begin, fields-ready, fields-fault, fields-early, fields-more, fields-all}
+use Rattle.lines.proofs.ZeroFields.{fields-skipped, skipped-within}
+use Rattle.lines.proofs.LineEnds.{unweighed, unclosed, closedTables, closable, closed}
+use Rattle.lines.proofs.JudgedLines.{refused-line, refused-opening}
+use Rattle.lines.proofs.LineLoop.{lines-more, lines-refused}
 
 -- a turn of the loop over lines up to its call of `open`: the lines before it are read, and its own is found
 pub record Turn (text : Bytes) (start : State) (t₀ : Tables) (s : State) (t : Tables) (weights : List ℤ) (number at end : ℕ) (r : Opening) : Type 0 where

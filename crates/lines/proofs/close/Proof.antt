@@ -1,10 +1,10 @@
--- `packs::close` meets its contract. Assumes nothing.
+-- `lines::close` meets its contract. Assumes nothing.
 use borrow.Author.Needs.{needs}
 use mathlib.Core.Path.{refl}
 use Rattle.theory.specs.declared.Letter.the-variants.{P, C, H, B, M, E, NoLetter}
-use Rattle.packs.proofs.Steps.{close-done}
-use Rattle.packs.proofs.close.Statement.{statement}
-use Rattle.packs.proofs.close.Tie as tie
+use Rattle.lines.proofs.Steps.{close-done}
+use Rattle.lines.proofs.close.Statement.{statement}
+use Rattle.lines.proofs.close.Tie as tie
 
 close-claim-requires : tie.Need-close-claim-requires
 close-claim-requires c κs = c .before .before .before .before .pre .of C (search needs)

@@ -15,7 +15,7 @@ use Rattle.tables.specs.declared.Opened.{Opened}
 use Rattle.tables.specs.declared.Fielding.{Fielding}
 use Rattle.tables.specs.declared.Closing.{Closing}
 use Rattle.atoms.specs.Fields.{FieldTerm, atomOf}
-use Rattle.packs.specs.Steps.{Stores, stores, TermReady, FieldNeeds, FieldLeaves, FieldReady, FieldDone, Tabled, CloseNeeds, CloseReady, CloseLeaves, CloseDone}
+use Rattle.lines.specs.Steps.{Stores, stores, TermReady, FieldNeeds, FieldLeaves, FieldReady, FieldDone, Tabled, CloseNeeds, CloseReady, CloseLeaves, CloseDone}
 
 pub field-done : (l : Letter) {letter : Letter} {index : ℕ} {field : Bytes} {s : State} {many : ℕ} {claims : List ℤ} {slots : List ℕ} {x₀ : Stores} {r : Fielding} {x : Stores}
     → letter ≡ l → FieldLeaves l index field s many claims slots x₀ r x → FieldDone letter index field s many claims slots x₀ r x

@@ -4,8 +4,9 @@ use mathlib.Core.List.{List, [], _∷_}
 use Prim.Native.Nat.{ℕ, _+_, _≤_, _<_}
 use native.Mathlib.Omega.{arith}
 use lib.Dec.{eqb}
-use lib.IntN.{ℤ}
-use lib.ListN.{length, drop}
+use lib.IntN.{ℤ, pos}
+use lib.ListN.{length, drop, replicate, length-replicate}
+use Rattle.groundwork.proofs.Lists.{same-everywhere}
 use Rattle.groundwork.proofs.Truth.{by-truth, eqb-equal, eqb-different}
 use Rattle.theory.specs.Text.{Bytes, fieldsOf, linesOf}
 use Rattle.theory.specs.Written.{Written, write, writeAll, multipliersFrom}
@@ -22,9 +23,9 @@ use Rattle.tables.specs.declared.Closing.the-variants.{Done, Misclosed}
 use Rattle.tables.specs.Faults.{numberOf, closingNumber}
 use Rattle.tables.specs.Tables.{Tables, NoWeights, Safe}
 use Rattle.certificates.specs.Sums.{width, SumsTo, formNumbers}
-use Rattle.packs.specs.declared.Ending.the-variants.{AllPass, Stopped}
-use Rattle.packs.specs.Between.{LineJudged, Reached, LinesRead}
-use Rattle.packs.specs.Loading.{faultNumbers, faultResidue, LinesLoadedFor, LoadsLines}
+use Rattle.lines.specs.declared.Ending.the-variants.{AllPass, Stopped}
+use Rattle.lines.specs.Between.{LineJudged, Reached, LinesRead}
+use Rattle.lines.specs.LineLoading.{faultNumbers, faultResidue, LinesLoadedFor, LoadsLines}
 
 -- ---- how the lines end
 
@@ -91,6 +92,10 @@ unfolding writeAll
 writeAll-none w = refl
 
 -- ---- the loop
+
+-- no weights stand in an array of zeros
+pub zeros-clear : NoWeights (replicate 81 (pos 0))
+zeros-clear = record { size = length-replicate 81 (pos 0); zero = λ i. same-everywhere (pos 0) 81 i }
 
 pub lines-begin : {text : Bytes} {start : State} {t : Tables} {weights : List ℤ} → Safe t start → NoWeights weights → LinesRead text start t start t weights 0 0
 lines-begin safe clear =
