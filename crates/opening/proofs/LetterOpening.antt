@@ -1,12 +1,15 @@
 -- What the opening of a line answers, by the way in which its letter opens: what `open_declaration`, `open_reference` and `open_bare` cite.
 use mathlib.Core.Path.{_≡_, refl, sym, _∙_, ap, subst⁻¹}
 use mathlib.Core.Bool.{Bool, true, false}
-use mathlib.Core.List.{List}
+use mathlib.Core.List.{List, [], _∷_}
 use mathlib.Core.Option.{some, none}
 use Prim.Native.Nat.{ℕ, _+_, _≤_, _<_}
 use native.Mathlib.Omega.{arith}
 use lib.ListN.{length, getD}
-use Rattle.groundwork.proofs.Truth.{not-true}
+use types.Run.{OneOf, miss}
+use denote.Enum.Declared.{tagOf}
+use Rattle.theory.proofs.Letter.{the-type}
+use Rattle.groundwork.proofs.Truth.{not-true, never-both}
 use Rattle.theory.specs.declared.Letter.{Letter}
 use Rattle.theory.specs.declared.Letter.the-variants.{P, C, H, B, M, E, NoLetter}
 use Rattle.theory.specs.Text.{Bytes, partsAt, fieldsOf}
@@ -25,20 +28,20 @@ use Rattle.tables.specs.Lines.{skipped, openingTests, most, OldPredicate, Named
 use Rattle.opening.specs.declared.Named.{Named}
 use Rattle.opening.specs.declared.Naming.{Naming}
 use Rattle.opening.specs.declared.Naming.the-variants.{Found, NoName}
-use Rattle.opening.specs.Opening.{besides, bars, Refers, Nameless, Begins, NameStands, NameRead, OpensLetter, OpensDeclaration, OpensBare}
+use Rattle.opening.specs.Opening.{besides, bars, HasName, Refers, Nameless, Begins, NameStands, NameRead, OpensLetter, OpensDeclaration, OpensBare}
 use Rattle.opening.proofs.Standing.{other-than-m}
-use Rattle.opening.proofs.LetterTests.{Names, refers-names, keyIn, foundIn, findsEight, fieldsDue, undeclared-found, declared-eight, declared-fields, fault-seven, fault-eight, fault-nine, past-nine, fault-nine-alone, past-nine-alone}
+use Rattle.opening.proofs.LetterTests.{refers-names, keyIn, foundIn, findsEight, fieldsDue, undeclared-found, declared-eight, declared-fields, fault-seven, fault-eight, fault-nine, past-nine, fault-nine-alone, past-nine-alone}
 use Rattle.opening.proofs.NamedPredicate.{looked-up, looked-up-is, looked-up-none, barred-mark}
 use Rattle.opening.proofs.Outcomes.{opened, refuses, passes}
 
 -- ---- no name
 
 module _ (names : List ℕ) (s : State) (line : Bytes) (naming : Naming) (read : NameRead line names (s .predicates) naming) (other : naming ≡ NoName) where
-  unnamed : {l : Letter} → Names l → (signatures : List ℕ) → OpensLetter l line names signatures s (Misopened Name)
+  unnamed : {l : Letter} → HasName l → (signatures : List ℕ) → OpensLetter l line names signatures s (Misopened Name)
   unnamed {l} names-it signatures = refuses l Name (omega arith) λ w outline stands. fault-seven (fieldsOf line) (w .pack) l names-it (read .none other)
 
   pub declares-unnamed : OpensDeclaration line names s (Misopened Name)
-  declares-unnamed = record { opens = unnamed Names.predicate }
+  declares-unnamed = record { opens = unnamed HasName.predicate }
 
   pub refers-unnamed : {l : Letter} → Refers l → (signatures : List ℕ) → OpensLetter l line names signatures s (Misopened Name)
   refers-unnamed refers = unnamed (refers-names refers)
@@ -120,18 +123,18 @@ module _ (names : List ℕ) (s : State) (line : Bytes) (naming : Naming) (read :
   declares-again below = record {
     opens = λ signatures.
         refuses P Declaration (omega arith) λ w outline stands.
-        fault-eight (fieldsOf line) (w .pack) P Names.predicate (read .found name is .named) (some-is _ _ (looked-up Names.predicate outline (read .found name is) below));
+        fault-eight (fieldsOf line) (w .pack) P HasName.predicate (read .found name is .named) (some-is _ _ (looked-up HasName.predicate outline (read .found name is) below));
   }
 
   module _ (above : s .predicates ≤ name .place) (n : ℕ) (count : n + 1 ≡ length (partsAt 44 line)) where
     is-undeclared : (signatures : List ℕ) (w : Written) → Outline names signatures s w → foundIn P (fieldsOf line) (w .pack) ≡ none
-    is-undeclared signatures w outline = looked-up-none Names.predicate outline (read .found name is) above
+    is-undeclared signatures w outline = looked-up-none HasName.predicate outline (read .found name is) above
 
     pub declares-miscounted : (n ≡ 3 → ⊥) → OpensDeclaration line names s (Misopened FieldCount)
     declares-miscounted other = record {
       opens = λ signatures.
           refuses P FieldCount (omega arith) λ w outline stands.
-          fault-nine (fieldsOf line) (w .pack) P Names.predicate (read .found name is .named) (none-is _ (is-undeclared signatures w outline)) (λ e. other (omega arith));
+          fault-nine (fieldsOf line) (w .pack) P HasName.predicate (read .found name is .named) (none-is _ (is-undeclared signatures w outline)) (λ e. other (omega arith));
     }
 
     pub declares-passed : length line ≤ 1024 → n ≡ 3 → OpensDeclaration line names s (Line (record { letter = P; predicate = s .predicates; words = name .words; from = name .stop + 1 }))
@@ -146,7 +149,7 @@ module _ (names : List ℕ) (s : State) (line : Bytes) (naming : Naming) (read :
           })
           λ w outline stands.
           record {
-            left = past-nine (fieldsOf line) (w .pack) P Names.predicate (read .found name is .named) (none-is _ (is-undeclared signatures w outline)) (omega arith);
+            left = past-nine (fieldsOf line) (w .pack) P HasName.predicate (read .found name is .named) (none-is _ (is-undeclared signatures w outline)) (omega arith);
             named = record {
               named = read .found name is .named;
               isNew = is-undeclared signatures w outline;
@@ -212,6 +215,36 @@ refers-head is = subst⁻¹ Refers is Refers.head
 
 pub refers-subgoal : {l : Letter} → l ≡ B → Refers l
 refers-subgoal is = subst⁻¹ Refers is Refers.subgoal
+
+-- ---- a letter by its tag
+
+pub named-letter : (l : Letter) → OneOf (0 ∷ 1 ∷ 2 ∷ 3 ∷ []) (tagOf the-type l) → HasName l
+named-letter P tag = HasName.predicate
+named-letter C tag = HasName.claim
+named-letter H tag = HasName.head
+named-letter B tag = HasName.subgoal
+named-letter M tag = absurd (miss (0 ∷ 1 ∷ 2 ∷ 3 ∷ []) 4 tt tag)
+named-letter E tag = absurd (miss (0 ∷ 1 ∷ 2 ∷ 3 ∷ []) 5 tt tag)
+named-letter NoLetter tag = absurd (miss (0 ∷ 1 ∷ 2 ∷ 3 ∷ []) 6 tt tag)
+
+abbrev hasName : Letter → Bool
+hasName P = true
+hasName C = true
+hasName H = true
+hasName B = true
+hasName M = false
+hasName E = false
+hasName NoLetter = false
+
+has-name : {l : Letter} → HasName l → hasName l ≡ true
+has-name HasName.predicate = refl
+has-name HasName.claim = refl
+has-name HasName.head = refl
+has-name HasName.subgoal = refl
+
+-- a line without a name does not come there
+pub opens-nameless : {l k : Letter} → HasName l → l ≡ k → hasName k ≡ false → {line : Bytes} {names signatures : List ℕ} {s : State} {r : Opening} → OpensLetter l line names signatures s r
+opens-nameless named is other = never-both (has-name named) (ap hasName is ∙ other)
 
 pub nameless-multipliers : {l : Letter} → l ≡ M → Nameless l
 nameless-multipliers is = subst⁻¹ Nameless is Nameless.multipliers

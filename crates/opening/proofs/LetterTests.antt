@@ -13,23 +13,16 @@ use Rattle.theory.specs.Packs.{Predicate, Key, Pack, key, keyOf, claimKey, atom
 use Rattle.theory.specs.declared.Letter.{Letter}
 use Rattle.theory.specs.declared.Letter.the-variants.{P, C, H, B, M, E, NoLetter}
 use Rattle.theory.specs.Written.{field, predicateFrom, claimFrom, atomFrom}
-use Rattle.opening.specs.Opening.{Refers, Nameless, besides}
+use Rattle.opening.specs.Opening.{HasName, Refers, Nameless, besides}
 use Rattle.theory.proofs.Judging.Tests.{first-passed, first-found}
 use Rattle.theory.specs.Faults.{test, firstOf, arityIn, givenIn, lastRule, predicateTests, claimTests, atomTests, headTests, subgoalTests, multiplierTests, tests}
 
 -- ---- by letter
 
--- lines that name a predicate
-pub data Names : Letter → Type 0 where
-  predicate : Names P
-  claim : Names C
-  head : Names H
-  subgoal : Names B
-
-pub refers-names : {l : Letter} → Refers l → Names l
-refers-names Refers.claim = Names.claim
-refers-names Refers.head = Names.head
-refers-names Refers.subgoal = Names.subgoal
+pub refers-names : {l : Letter} → Refers l → HasName l
+refers-names Refers.claim = HasName.claim
+refers-names Refers.head = HasName.head
+refers-names Refers.subgoal = HasName.subgoal
 
 -- the key under which the predicate is looked up
 abbrev pub keyIn : Letter → List Bytes → Key
@@ -54,12 +47,12 @@ isBarred M found = false
 isBarred E found = false
 isBarred NoLetter found = false
 
-pub name-key : {l : Letter} → Names l → (fields : List Bytes) → (n : ℕ) × (keyIn l fields ≡ key (field 1 fields) n)
+pub name-key : {l : Letter} → HasName l → (fields : List Bytes) → (n : ℕ) × (keyIn l fields ≡ key (field 1 fields) n)
 unfolding predicateFrom claimFrom atomFrom
-name-key Names.predicate fields = (_, refl)
-name-key Names.claim fields = (_, refl)
-name-key Names.head fields = (_, refl)
-name-key Names.subgoal fields = (_, refl)
+name-key HasName.predicate fields = (_, refl)
+name-key HasName.claim fields = (_, refl)
+name-key HasName.head fields = (_, refl)
+name-key HasName.subgoal fields = (_, refl)
 
 -- what test 8 finds
 abbrev pub findsEight : Letter → List Bytes → Pack → Bool
@@ -109,12 +102,12 @@ module _ (fields : List Bytes) (p : Pack) where
 
   -- ---- one test after another
 
-  name-tests : {l : Letter} → Names l → tests l fields p ≡ test 7 (not (isName (field 1 fields))) ∷ test 8 (findsEight l fields p) ∷ test 9 (isMiscounted l fields p) ∷ drop 3 (tests l fields p)
+  name-tests : {l : Letter} → HasName l → tests l fields p ≡ test 7 (not (isName (field 1 fields))) ∷ test 8 (findsEight l fields p) ∷ test 9 (isMiscounted l fields p) ∷ drop 3 (tests l fields p)
   unfolding tests predicateTests claimTests atomTests headTests subgoalTests
-  name-tests Names.predicate = refl
-  name-tests Names.claim = refl
-  name-tests Names.head = refl
-  name-tests Names.subgoal = refl
+  name-tests HasName.predicate = refl
+  name-tests HasName.claim = refl
+  name-tests HasName.head = refl
+  name-tests HasName.subgoal = refl
 
   nameless-tests : {l : Letter} → Nameless l → tests l fields p ≡ test 9 (isMiscounted l fields p) ∷ drop 1 (tests l fields p)
   unfolding tests multiplierTests
@@ -128,7 +121,7 @@ module _ (fields : List Bytes) (p : Pack) where
     counted : length fields ≡ fieldsDue l fields p → isMiscounted l fields p ≡ false
     counted e = ap not (equal-eqb (length fields) (fieldsDue l fields p) e)
 
-    module _ (named : Names l) where
+    module _ (named : HasName l) where
       pub fault-seven : isName (field 1 fields) ≡ false → firstOf (tests l fields p) ≡ 7
       fault-seven unnamed = ap firstOf (name-tests named) ∙ first-found 7 _ _ (ap not unnamed)
 

@@ -15,12 +15,12 @@ use Rattle.tables.specs.declared.State.{State}
 use Rattle.tables.specs.Tables.{predicateAt, flag, Outline}
 use Rattle.tables.proofs.Lookup.{name-is, name-declared, name-absent}
 use Rattle.opening.specs.declared.Named.{Named}
-use Rattle.opening.specs.Opening.{bars, NameStands}
-use Rattle.opening.proofs.LetterTests.{Names, keyIn, foundIn, isBarred, name-key}
+use Rattle.opening.specs.Opening.{bars, HasName, NameStands}
+use Rattle.opening.proofs.LetterTests.{keyIn, foundIn, isBarred, name-key}
 
 -- ---- looking it up
 
-module _ {l : Letter} (names-it : Names l) {names signatures : List ℕ} {s : State} {w : Written} (outline : Outline names signatures s w) {line : Bytes} {name : Named} (stands : NameStands line names (s .predicates) name) where
+module _ {l : Letter} (names-it : HasName l) {names signatures : List ℕ} {s : State} {w : Written} (outline : Outline names signatures s w) {line : Bytes} {name : Named} (stands : NameStands line names (s .predicates) name) where
   pub looked-up : name .place < s .predicates → foundIn l (fieldsOf line) (w .pack) ≡ some (predicateAt (w .pack .predicates) (name .place))
   looked-up h =
       let k = name-key names-it (fieldsOf line) in

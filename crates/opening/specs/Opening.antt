@@ -26,6 +26,13 @@ use Rattle.opening.specs.declared.Naming.the-variants.{Found, NoName}
 
 -- ## By letter
 
+-- lines that name a predicate
+pub data HasName : Letter → Type 0 where
+  predicate : HasName P
+  claim : HasName C
+  head : HasName H
+  subgoal : HasName B
+
 -- lines whose predicate is declared before
 pub data Refers : Letter → Type 0 where
   claim : Refers C

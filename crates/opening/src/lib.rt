@@ -10,7 +10,7 @@ ghost use Rattle.theory.specs.Text.{between};
 ghost use Rattle.text.specs.Classes.{Classes};
 ghost use Rattle.tables.specs.Tables.{SafeState, SafeSignatures};
 ghost use Rattle.tables.specs.Lines.{most};
-ghost use Rattle.opening.specs.Opening.{besides, bars, Refers, Nameless, Begins, LetterRead, NameRead, Completes, Stands, OpensLetter, OpensDeclaration, OpensBare, Opens};
+ghost use Rattle.opening.specs.Opening.{besides, bars, HasName, Refers, Nameless, Begins, LetterRead, NameRead, Completes, Stands, OpensLetter, OpensDeclaration, OpensBare, Opens};
 use tables::Fault;
 use tables::Hints;
 use tables::Names;
@@ -129,18 +129,11 @@ fn name_of(
 }
 
 /// A line of a letter that names a predicate which is not declared yet.
-fn open_declaration(
-    line: &[u8],
-    state: State,
-    names: &Names,
-    hints: &mut Hints,
-    classes: &[u8; 256],
-) -> Opening
-    requires { ⌜ (Begins (now line)) × (length (now line) ≤ 1024) × (SafeState state) × Classes (now classes) ⌝ }
+fn open_declaration(line: &[u8], state: State, names: &Names, naming: Naming) -> Opening
+    requires { ⌜ (length (now line) ≤ 1024) × (NameRead (now line) (now names) (state .predicates) naming) ⌝ }
     ensures { λ r. ⌜ OpensDeclaration (now (line .entry)) (now (names .entry)) state r ⌝ }
 {
     let known = state.predicates;
-    let naming = name_of(line, names, known, hints, classes);
     let Naming::Found(name) = naming else {
         return Opening::Misopened(Fault::Name);
     };
@@ -196,14 +189,12 @@ fn open_reference(
     state: State,
     names: &Names,
     signatures: &Signatures,
-    hints: &mut Hints,
-    classes: &[u8; 256],
+    naming: Naming,
 ) -> Opening
-    requires { ⌜ (Refers letter) × (Begins (now line)) × (length (now line) ≤ 1024) × (SafeState state) × (SafeSignatures (now signatures)) × Classes (now classes) ⌝ }
+    requires { ⌜ (Refers letter) × (length (now line) ≤ 1024) × (SafeState state) × (SafeSignatures (now signatures)) × (NameRead (now line) (now names) (state .predicates) naming) ⌝ }
     ensures { λ r. ⌜ OpensLetter letter (now (line .entry)) (now (names .entry)) (now (signatures .entry)) state r ⌝ }
 {
     let known = state.predicates;
-    let naming = name_of(line, names, known, hints, classes);
     let Naming::Found(name) = naming else {
         return Opening::Misopened(Fault::Name);
     };
@@ -224,6 +215,29 @@ fn open_reference(
         words,
         from: name.stop + 1,
     })
+}
+
+/// A line of a letter that names a predicate, with what its second field is.
+fn open_named(
+    letter: Letter,
+    line: &[u8],
+    state: State,
+    names: &Names,
+    signatures: &Signatures,
+    naming: Naming,
+) -> Opening
+    requires { ⌜ (HasName letter) × (length (now line) ≤ 1024) × (SafeState state) × (SafeSignatures (now signatures)) × (NameRead (now line) (now names) (state .predicates) naming) ⌝ }
+    ensures { λ r. ⌜ OpensLetter letter (now (line .entry)) (now (names .entry)) (now (signatures .entry)) state r ⌝ }
+{
+    match letter {
+        Letter::P => open_declaration(line, state, names, naming),
+        Letter::C => open_reference(letter, line, state, names, signatures, naming),
+        Letter::H => open_reference(letter, line, state, names, signatures, naming),
+        Letter::B => open_reference(letter, line, state, names, signatures, naming),
+        Letter::M => Opening::Misopened(Fault::Letter),
+        Letter::E => Opening::Misopened(Fault::Letter),
+        Letter::NoLetter => Opening::Misopened(Fault::Letter),
+    }
 }
 
 /// A line of a letter that names no predicate, with a number of commas.
@@ -260,10 +274,10 @@ fn open_letter(
     ensures { λ r. ⌜ OpensLetter letter (now (line .entry)) (now (names .entry)) (now (signatures .entry)) state r ⌝ }
 {
     match letter {
-        Letter::P => open_declaration(line, state, names, hints, classes),
-        Letter::C => open_reference(letter, line, state, names, signatures, hints, classes),
-        Letter::H => open_reference(letter, line, state, names, signatures, hints, classes),
-        Letter::B => open_reference(letter, line, state, names, signatures, hints, classes),
+        Letter::P | Letter::C | Letter::H | Letter::B => {
+            let naming = name_of(line, names, state.predicates, hints, classes);
+            open_named(letter, line, state, names, signatures, naming)
+        }
         Letter::M => open_bare(letter, state.slots, line, state),
         Letter::E => open_bare(letter, 0, line, state),
         Letter::NoLetter => Opening::Misopened(Fault::Letter),

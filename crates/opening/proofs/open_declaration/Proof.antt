@@ -15,13 +15,12 @@ returns-2 c = search (needs, declares-again)
 returns-3 : tie.Need-returns-3
 returns-3 c = search (needs, declares-miscounted, not-false)
 
-add-t14 : tie.Need-add-t14
-add-t14 c = search (needs, stop-fits)
+add-t11 : tie.Need-add-t11
+add-t11 c = search (needs, stop-fits)
 
 returns-4 : tie.Need-returns-4
 returns-4 c = search (needs, declares-passed, not-false)
 
 pub open-declaration-spec : {M : Type 1} → statement M
 open-declaration-spec =
-    tie.close (tie.spec (λ c κs. search needs) (λ c. search needs) (λ c. search needs) returns returns-2
-    (λ c κs. search needs) returns-3 add-t14 returns-4)
+    tie.close (tie.spec (λ c. search needs) (λ c. search needs) returns returns-2 (λ c κs. search needs) returns-3 add-t11 returns-4)

@@ -20,14 +20,13 @@ add-if3 c = search (needs, commas-fit)
 returns-4 : tie.Need-returns-4
 returns-4 c = search (needs, refers-miscounted)
 
-add-t18 : tie.Need-add-t18
-add-t18 c = search (needs, stop-fits)
+add-t15 : tie.Need-add-t15
+add-t15 c = search (needs, stop-fits)
 
 returns-5 : tie.Need-returns-5
 returns-5 c = search (needs, refers-passed)
 
 pub open-reference-spec : {M : Type 1} → statement M
 open-reference-spec =
-    tie.close (tie.spec (λ c κs. search needs) (λ c. search needs) (λ c. search needs) returns returns-2
-    (λ c. search needs) (λ c. search needs) (λ c κs. search needs) returns-3 (λ c κs. search needs)
-    (λ c. search needs) (λ c κs. search needs) (λ c κs. search needs) add-if3 returns-4 add-t18 returns-5)
+    tie.close (tie.spec (λ c. search needs) (λ c. search needs) returns returns-2 (λ c. search needs) (λ c. search needs) (λ c κs. search needs) returns-3 (λ c κs. search needs)
+    (λ c. search needs) (λ c κs. search needs) (λ c κs. search needs) add-if3 returns-4 add-t15 returns-5)
