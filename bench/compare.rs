@@ -7,7 +7,7 @@ use crate::{library, plain};
 /// How many damaged copies of a kind's packs are asked about.
 const COPIES: usize = 40;
 /// Bytes that packs are made of, and one that they may not have.
-const BYTES: &[u8] = b"0019,,/- \nAXahEM\t";
+const BYTES: &[u8] = b"09,/- \nAXahEM\t";
 
 /// Numbers that the area is filled with before each check: those that check leaves alone must stay.
 const FILLED: [i64; plain::AREA_NEEDED + 1] = [-77; plain::AREA_NEEDED + 1];
@@ -81,7 +81,8 @@ pub fn compare_copies(kind: &Kind) -> Result<(usize, usize), String> {
         let sample = &kind.samples[copy % kind.samples.len()];
         let mut text = sample.text.clone();
         let place = random.below(text.len());
-        text[place] = random.pick(BYTES);
+        // Another digit for a digit, so that many copies are refused for a claim only.
+        text[place] = random.pick(if text[place].is_ascii_digit() { b"0123456789" } else { BYTES });
         let answers = same_answers(&Sample { text, query: sample.query.clone() })
             .map_err(|difference| format!("copy {copy}, byte {place} changed: {difference}"))?;
         refused += usize::from(numbers(answers.check)[0] != 0);
