@@ -11,7 +11,7 @@ extern "C" {
 }
 
 pub fn check(text: &[u8], area: &mut [i64]) -> u64 {
-    // Safe: each pointer comes with the length of the memory lent behind it, for the time of the call only.
+    // Safe: each pointer comes with the length of the memory that it lends, for the time of the call only.
     unsafe { library_check(text.as_ptr(), text.len(), area.as_mut_ptr(), area.len()) }
 }
 

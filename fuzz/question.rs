@@ -18,7 +18,7 @@ pub struct Question {
     pub area: Vec<i64>,
     /// For `reserve`.
     pub query: Vec<u8>,
-    /// The byte that stands before and behind the lent texts, many times: the answer must not depend on it.
+    /// The byte that stands before and after the lent texts, many times: the answer must not depend on it.
     pub guard: u8,
 }
 
