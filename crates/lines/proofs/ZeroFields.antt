@@ -20,6 +20,12 @@ use Rattle.lines.proofs.Steps.{field-done}
 use Rattle.lines.proofs.FieldLoop.{fieldsFrom, fields-more}
 
 module _ {line : Bytes} {t : Tables} {s : State} {o : Opened} (safe : Safe t s) (short : length line ≤ 1024) {many : ℕ} {x : Stores} where
+  none-read : (letter : Letter) {from index : ℕ} → FieldsRead letter line t s o many from index x → FieldsRead letter line t s o many (from + 2 * 0) (index + 0) x
+  none-read letter {from} {index} read =
+      let at : from ≡ from + 2 * 0 = omega arith in
+      let count : index ≡ index + 0 = omega arith in
+      subst (λ (n : ℕ). FieldsRead letter line t s o many n (index + 0) x) at (subst (λ (n : ℕ). FieldsRead letter line t s o many from n x) count read)
+
   module _ (few : length (fieldsFrom line o) ≤ most M s) where
     one-zero : {from index : ℕ} → FieldsRead M line t s o many from index x → Finds line 44 from (from + 1) → part line from (from + 1) ≡ 48 ∷ [] → FieldsRead M line t s o many (from + 2) (index + 1) x
     one-zero {from} {index} read finds is =
@@ -29,10 +35,7 @@ module _ {line : Bytes} {t : Tables} {s : State} {o : Opened} (safe : Safe t s) 
         (fields-more safe short M few read inside finds x (field-done M refl (zero-weighed is, refl)) refl)
 
     pub zeros-read : (z : ℕ) {from index : ℕ} → FieldsRead M line t s o many from index x → Zeros line from z → FieldsRead M line t s o many (from + 2 * z) (index + z) x
-    zeros-read zero {from} {index} read zs =
-        let at : from ≡ from + 2 * 0 = omega arith in
-        let count : index ≡ index + 0 = omega arith in
-        subst (λ (n : ℕ). FieldsRead M line t s o many n (index + 0) x) at (subst (λ (n : ℕ). FieldsRead M line t s o many from n x) count read)
+    zeros-read zero read zs = none-read M read
     zeros-read (suc z) {from} {index} read zs =
         let first = zeros-first zs in
         let rest = zeros-read z (one-zero read (first .0) (first .1)) (zeros-rest zs) in
@@ -41,10 +44,7 @@ module _ {line : Bytes} {t : Tables} {s : State} {o : Opened} (safe : Safe t s) 
         subst (λ (n : ℕ). FieldsRead M line t s o many n (index + suc z) x) at (subst (λ (n : ℕ). FieldsRead M line t s o many (from + 2 + 2 * z) n x) count rest)
 
   pub fields-skipped : (letter : Letter) {from index z : ℕ} → length (fieldsFrom line o) ≤ most letter s → FieldsRead letter line t s o many from index x → Skips line from letter z → FieldsRead letter line t s o many (from + 2 * z) (index + z) x
-  fields-skipped letter {from} {index} few read none =
-      let at : from ≡ from + 2 * 0 = omega arith in
-      let count : index ≡ index + 0 = omega arith in
-      subst (λ (n : ℕ). FieldsRead letter line t s o many n (index + 0) x) at (subst (λ (n : ℕ). FieldsRead letter line t s o many from n x) count read)
+  fields-skipped letter few read none = none-read letter read
   fields-skipped letter {z = z} few read (zeros zs) = zeros-read few z read zs
 
 pub zeros-skipped : {line : Bytes} {from z : ℕ} {letter : Letter} → letter ≡ M → Zeros line from z → Skips line from letter z

@@ -1,7 +1,7 @@
 // The program: reads a pack and queries from standard input and prints check's numbers, then reserve's fields for each
 // query. The reply is one function of the input's bytes; `main` only reads and writes.
 ghost use mathlib.Core.Path.{_≡_};
-ghost use Prim.Native.Nat.{_+_, _≤_};
+ghost use Prim.Native.Nat.{_≤_};
 ghost use lib.ListN.{length, take};
 ghost use Rattle.theory.specs.Text.{Bytes};
 ghost use Rattle.theory.specs.Program.{reply};

@@ -1,7 +1,7 @@
 // Scanners over bytes, and the readers of names, variables and decimal numbers. Fields are handed on as parts of their
 // line; nothing is copied.
 ghost use mathlib.Core.Path.{_≡_};
-ghost use Prim.Native.Nat.{_+_, _-_, _≤_, _<_};
+ghost use Prim.Native.Nat.{_-_, _≤_, _<_};
 ghost use lib.ListN.{length};
 ghost use lib.IntN.{negsuc};
 ghost use Rattle.theory.specs.Text.{natural, integer};
