@@ -9,14 +9,14 @@ use lib.ListN.{length, getD, set, length-set}
 use Rattle.groundwork.proofs.Truth.{never-both, equal-eqb}
 use Rattle.theory.specs.Text.{Bytes, isUpper, isVariable}
 use Rattle.theory.specs.Faults.{isTerm}
-use Rattle.text.specs.declared.Word.{Word}
-use Rattle.text.specs.declared.Word.the-variants.{Name, Variable, Neither}
-use Rattle.text.specs.declared.Words.{Words}
-use Rattle.text.specs.Classes.{Class}
 use Rattle.text.specs.Scans.{part}
-use Rattle.text.specs.Words.{wordsOf, WordRead}
 use Rattle.text.proofs.Parts.{part-rest}
-use Rattle.text.proofs.WordKinds.{isVariableWord, variable-told, variable-words}
+use Rattle.words.specs.declared.Word.{Word}
+use Rattle.words.specs.declared.Word.the-variants.{Name, Variable, Neither}
+use Rattle.words.specs.declared.Words.{Words}
+use Rattle.words.specs.Classes.{Class}
+use Rattle.words.specs.Words.{wordsOf, WordRead}
+use Rattle.words.proofs.WordKinds.{isVariableWord, variable-told, variable-words}
 use Rattle.terms.specs.declared.Tokens.{Tokens}
 use Rattle.terms.specs.Tokens.{ConstantRead}
 use Rattle.terms.specs.TokenRows.{SmallArities, PlacesStand, TokensRead, AritiesSummed}

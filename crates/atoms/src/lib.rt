@@ -4,7 +4,7 @@ ghost use mathlib.Core.Bool.{true};
 ghost use Prim.Native.Nat.{_+_, _*_, _≤_, _<_};
 ghost use lib.ListN.{length, getD};
 ghost use Rattle.theory.specs.Text.{isUpper};
-ghost use Rattle.text.specs.Classes.{Classes};
+ghost use Rattle.words.specs.Classes.{Classes};
 ghost use Rattle.tables.specs.Tables.{SafeSignatures};
 ghost use Rattle.atoms.specs.Fields.{FieldTerm, subgoalAtom, atomOf};
 ghost use Rattle.atoms.specs.Ends.{isPast, ClosesH, SlotsAdded, ClosesB};
@@ -19,8 +19,8 @@ use tables::Signatures;
 use tables::Slots;
 use tables::State;
 use tables::Variables;
-use text::Word;
 use theory::Letter;
+use words::Word;
 
 /// Which atom of the rule the next subgoal is. (A ninth one, which is refused when its line is done, takes the eighth one's
 /// rows.)
@@ -59,7 +59,7 @@ fn field_variable(
     requires { ⌜ (atom ≤ 8) × (index < 8) × (many ≤ 17) × (0 < length (now field)) × (isUpper (getD (now field) 0 0) ≡ true) × Classes (now classes) ⌝ }
     ensures { λ r. ⌜ FieldTerm atom index (now (field .entry)) many (now (variables .entry)) (now (rows .entry)) r (now (variables .exit)) (now (rows .exit)) ⌝ }
 {
-    let word = text::word_between(field, 0, field.len(), classes);
+    let word = words::word_between(field, 0, field.len(), classes);
     match word {
         Word::Variable(words) => {
             let base = tables::row_place(atom, index);
@@ -91,7 +91,7 @@ pub fn field_term(
     ensures done { λ r. ⌜ FieldTerm atom index (now (field .entry)) many (now (variables .entry)) (now (rows .entry)) r (now (variables .exit)) (now (rows .exit)) ⌝ }
 {
     if 0 < field.len() {
-        if text::class_of(field[0], classes) == 2 {
+        if words::class_of(field[0], classes) == 2 {
             return field_variable(atom, index, field, many, variables, rows, hints, classes);
         }
     }

@@ -12,9 +12,9 @@ use Rattle.groundwork.proofs.Difference.{diff-eq, to-diff, by-diff₂}
 use Rattle.theory.specs.Lists.{isSome}
 use Rattle.theory.specs.Text.{Bytes, natural, isDecimal, valueAfter}
 use Rattle.theory.proofs.Reading.Spelling.{natural-within}
-use Rattle.text.specs.declared.Natural.{Natural}
-use Rattle.text.specs.declared.Natural.the-variants.{Whole, NoNatural}
-use Rattle.text.specs.Numbers.{naturalOf}
+use Rattle.numbers.specs.declared.Natural.{Natural}
+use Rattle.numbers.specs.declared.Natural.the-variants.{Whole, NoNatural}
+use Rattle.numbers.specs.Numbers.{naturalOf}
 use Rattle.tables.specs.declared.Fault.the-variants.{Number}
 use Rattle.tables.specs.declared.Fielding.the-variants.{Read, Misread}
 use Rattle.certificates.specs.Weights.{RoomFor, Weighs}

@@ -10,6 +10,7 @@ ghost use Rattle.certificates.specs.Weights.{RoomFor, Weighs, HeadWeighe
 ghost use Rattle.certificates.specs.Sums.{width, Summable, FormAt, WithRow, WithConstant, Partial, SumsTo, Judged};
 ghost use Rattle.certificates.specs.Multipliers.{FieldM, ClosesM};
 use forms::Form;
+use numbers::Natural;
 use tables::Claims;
 use tables::Closing;
 use tables::Fault;
@@ -18,7 +19,6 @@ use tables::Rows;
 use tables::Slots;
 use tables::State;
 use tables::Weights;
-use text::Natural;
 
 /// Takes a claim's numbers, times a multiplier, away from the weights of an atom.
 fn weigh(m: i32, place: usize, atom: usize, claims: &Claims, weights: &mut Weights)
@@ -45,7 +45,7 @@ pub fn field_multiplier(
     requires { ⌜ (index < 128) × (getD (now slots) index 0 + 9 ≤ 4608) × (getD (now slots) (128 + index) 0 < 8) × (SafeClaims (now claims)) × (RoomFor (now weights) (getD (now slots) (128 + index) 0 + 1)) ⌝ }
     ensures { λ r. ⌜ FieldM index (now (field .entry)) many (now (claims .entry)) (now (slots .entry)) (now (weights .entry)) r (now (weights .exit)) ⌝ }
 {
-    let read = text::read_natural(field, 9999);
+    let read = numbers::read_natural(field, 9999);
     match read {
         Natural::Whole(m) => {
             if m == 0 {

@@ -7,7 +7,7 @@ ghost use lib.IntN.{natAbs};
 ghost use lib.ListN.{length};
 use answers::Four;
 use libc::STDOUT_FILENO;
-use text::Natural;
+use numbers::Natural;
 
 fn show(n: u64) {
     io::print_decimal(STDOUT_FILENO, n);
@@ -66,7 +66,7 @@ fn check_one(text: &[u8], room: usize)
 
 // A number of a header, or one that no case has.
 fn number(field: &[u8]) -> usize {
-    let read = text::read_natural(field, 99998);
+    let read = numbers::read_natural(field, 99998);
     match read {
         Natural::Whole(n) => n as usize,
         Natural::NoNatural => 99999,

@@ -18,9 +18,9 @@ use Rattle.theory.specs.Lists.{isSome}
 use Rattle.theory.specs.Text.{Bytes, integer}
 use Rattle.theory.specs.Faults.{isClaimNumber}
 use Rattle.theory.proofs.Reading.Spelling.{integer-within}
-use Rattle.text.specs.declared.Integer.{Integer}
-use Rattle.text.specs.declared.Integer.the-variants.{Signed, NoInteger}
-use Rattle.text.specs.Numbers.{integerOf}
+use Rattle.numbers.specs.declared.Integer.{Integer}
+use Rattle.numbers.specs.declared.Integer.the-variants.{Signed, NoInteger}
+use Rattle.numbers.specs.Numbers.{integerOf}
 use Rattle.forms.proofs.Results.{kept}
 use Rattle.tables.specs.declared.Fault.the-variants.{Number}
 use Rattle.tables.specs.declared.Fielding.the-variants.{Read, Misread}

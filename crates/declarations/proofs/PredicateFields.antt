@@ -15,9 +15,9 @@ use Rattle.theory.specs.Packs.{Kind, given, ruled}
 use Rattle.theory.specs.Written.{kindFrom}
 use Rattle.theory.specs.Faults.{isKind}
 use Rattle.theory.proofs.Reading.Spelling.{natural-within}
-use Rattle.text.specs.declared.Natural.{Natural}
-use Rattle.text.specs.declared.Natural.the-variants.{Whole, NoNatural}
-use Rattle.text.specs.Numbers.{naturalOf}
+use Rattle.numbers.specs.declared.Natural.{Natural}
+use Rattle.numbers.specs.declared.Natural.the-variants.{Whole, NoNatural}
+use Rattle.numbers.specs.Numbers.{naturalOf}
 use Rattle.tables.specs.declared.Fault.the-variants.{Number}
 use Rattle.tables.specs.declared.Fielding.the-variants.{Read, Misread}
 use Rattle.tables.specs.Tables.{flag}

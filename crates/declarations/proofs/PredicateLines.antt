@@ -20,7 +20,7 @@ use Rattle.theory.specs.Faults.{isKind, firstOf, predicateTests, tests, fault}
 use Rattle.theory.proofs.Reading.Presence.{some-is, is-empty}
 use Rattle.theory.proofs.Judging.Sections.{predicates-stand}
 use Rattle.theory.proofs.Judging.LineWriting.{writes-letter}
-use Rattle.text.specs.Words.{wordsOf}
+use Rattle.words.specs.Words.{wordsOf}
 use Rattle.terms.proofs.VariableTable.{withWords}
 use Rattle.tables.specs.declared.State.{State}
 use Rattle.tables.specs.declared.Opened.{Opened}

@@ -6,6 +6,8 @@ ghost use Rattle.tables.specs.Tables.{SafeSignatures};
 ghost use Rattle.declarations.specs.Fields.{FieldP, FieldC};
 ghost use Rattle.declarations.specs.Ends.{ClosesP, Laid, ClosesC};
 use forms::Form;
+use numbers::Integer;
+use numbers::Natural;
 use tables::Claims;
 use tables::Closing;
 use tables::Fault;
@@ -14,8 +16,6 @@ use tables::Names;
 use tables::Opened;
 use tables::Signatures;
 use tables::State;
-use text::Integer;
-use text::Natural;
 
 /// A field of a `P` line: the arity, then the kind. `small` holds both, the kind as 1 if the predicate is given.
 pub fn field_predicate(index: usize, field: &[u8], small: &mut [u8; 2], many: usize) -> Fielding
@@ -23,7 +23,7 @@ pub fn field_predicate(index: usize, field: &[u8], small: &mut [u8; 2], many: us
     ensures { λ r. ⌜ FieldP index (now (field .entry)) many (now (small .entry)) r (now (small .exit)) ⌝ }
 {
     if index == 0 {
-        let arity = text::read_natural(field, 8);
+        let arity = numbers::read_natural(field, 8);
         match arity {
             Natural::Whole(n) => {
                 small[0] = widths::u32_to_u8(n);
@@ -52,7 +52,7 @@ pub fn field_claim(index: usize, field: &[u8], row: &mut [i16; 9], many: usize) 
     requires { ⌜ (index < 9) × (length (now row) ≡ 9) ⌝ }
     ensures { λ r. ⌜ FieldC index (now (field .entry)) many (now (row .entry)) r (now (row .exit)) ⌝ }
 {
-    let number = text::read_integer(field, 9999);
+    let number = numbers::read_integer(field, 9999);
     match number {
         Integer::Signed(z) => {
             row[index] = widths::i64_to_i16(z);

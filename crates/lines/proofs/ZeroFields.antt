@@ -7,8 +7,9 @@ use lib.ListN.{length}
 use Rattle.theory.specs.declared.Letter.{Letter}
 use Rattle.theory.specs.declared.Letter.the-variants.{M}
 use Rattle.theory.specs.Text.{Bytes}
-use Rattle.text.specs.Scans.{part, Finds, Zeros}
-use Rattle.text.proofs.ZeroLaws.{zeros-first, zeros-rest}
+use Rattle.text.specs.Scans.{part, Finds}
+use Rattle.numbers.specs.Zeros.{Zeros}
+use Rattle.numbers.proofs.ZeroLaws.{zeros-first, zeros-rest}
 use Rattle.tables.specs.declared.State.{State}
 use Rattle.tables.specs.declared.Opened.{Opened}
 use Rattle.tables.specs.Tables.{Tables, Safe}

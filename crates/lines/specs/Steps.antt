@@ -9,7 +9,7 @@ use Rattle.theory.specs.declared.Letter.{Letter}
 use Rattle.theory.specs.declared.Letter.the-variants.{P, C, H, B, M, E, NoLetter}
 use Rattle.theory.specs.Text.{Bytes, fieldsOf}
 use Rattle.theory.specs.Written.{Written}
-use Rattle.text.specs.Scans.{Zeros}
+use Rattle.numbers.specs.Zeros.{Zeros}
 use Rattle.tables.specs.declared.State.{State}
 use Rattle.tables.specs.declared.Fault.the-variants.{Letter as Misplaced}
 use Rattle.tables.specs.declared.Opened.{Opened}

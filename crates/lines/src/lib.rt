@@ -2,7 +2,7 @@
 ghost use mathlib.Core.Path.{_≡_};
 ghost use Prim.Native.Nat.{_≤_};
 ghost use lib.ListN.{length};
-ghost use Rattle.text.specs.Classes.{Classes};
+ghost use Rattle.words.specs.Classes.{Classes};
 ghost use Rattle.tables.specs.declared.Closing.the-variants.{Done};
 ghost use Rattle.tables.specs.Tables.{Safe};
 ghost use Rattle.lines.specs.Steps.{stores, FieldReady, FieldDone, Skips, variablesBefore, tabled, withEnd, CloseReady, CloseDone};
@@ -134,7 +134,7 @@ fn zeros_ahead(letter: Letter, line: &[u8], from: usize) -> usize
         Letter::C => 0,
         Letter::H => 0,
         Letter::B => 0,
-        Letter::M => text::zeros(line, from),
+        Letter::M => numbers::zeros(line, from),
         Letter::E => 0,
         Letter::NoLetter => 0,
     }
@@ -167,7 +167,7 @@ pub fn load_lines(
     requires { ⌜ Safe (unruled (now names) (now signatures) (now claims)) start ⌝ }
     ensures { λ r. ⌜ LoadsLines (now (text .entry)) start (unruled (now (names .entry)) (now (signatures .entry)) (now (claims .entry))) r (now (names .exit)) (now (signatures .exit)) (now (claims .exit)) ⌝ }
 {
-    let classes = text::class_table();
+    let classes = words::class_table();
     let plain = text::is_plain(text);
     let mut variables = [0u64; 64];
     let mut rows = [0u16; 1224];

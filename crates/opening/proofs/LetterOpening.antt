@@ -17,7 +17,7 @@ use Rattle.theory.specs.Written.{Written}
 use Rattle.theory.specs.Faults.{isComplete, mayStand}
 use Rattle.theory.proofs.Judging.Completeness.{rule-from-incomplete}
 use Rattle.theory.proofs.Reading.Presence.{some-is, none-is}
-use Rattle.text.specs.declared.Words.{Words}
+use Rattle.words.specs.declared.Words.{Words}
 use Rattle.tables.specs.declared.State.{State}
 use Rattle.tables.specs.declared.Fault.the-variants.{Name, Declaration, FieldCount}
 use Rattle.tables.specs.declared.Opened.{Opened}

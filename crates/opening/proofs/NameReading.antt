@@ -8,13 +8,13 @@ use lib.ListN.{length, drop}
 use lib.Seq.{getD-drop, drop-drop}
 use Rattle.theory.specs.Text.{Bytes, isWord, isName, fieldsOf}
 use Rattle.theory.specs.Written.{field}
-use Rattle.text.specs.declared.Word.{Word}
-use Rattle.text.specs.declared.Word.the-variants.{Name, Variable, Neither}
-use Rattle.text.specs.declared.Words.{Words}
 use Rattle.text.specs.Scans.{part, Finds, partsFrom}
-use Rattle.text.specs.Words.{wordsOf, WordRead, StandsAt}
 use Rattle.text.proofs.Cuts.{parts-done, parts-step}
-use Rattle.text.proofs.WordKinds.{isNameWord, name-told, read-words}
+use Rattle.words.specs.declared.Word.{Word}
+use Rattle.words.specs.declared.Word.the-variants.{Name, Variable, Neither}
+use Rattle.words.specs.declared.Words.{Words}
+use Rattle.words.specs.Words.{wordsOf, WordRead, StandsAt}
+use Rattle.words.proofs.WordKinds.{isNameWord, name-told, read-words}
 use Rattle.opening.specs.declared.Named.{Named}
 use Rattle.opening.specs.declared.Naming.the-variants.{Found, NoName}
 use Rattle.opening.specs.Opening.{Begins, NameStands, NameRead}

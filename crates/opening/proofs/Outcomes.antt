@@ -11,7 +11,7 @@ use Rattle.theory.specs.Text.{Bytes, fieldsOf}
 use Rattle.theory.specs.Written.{lineLetter, Written}
 use Rattle.theory.specs.Faults.{firstOf, isUnfit, mayStand, tests, fault}
 use Rattle.text.specs.Scans.{partsFrom}
-use Rattle.text.specs.declared.Words.{Words}
+use Rattle.words.specs.declared.Words.{Words}
 use Rattle.tables.specs.declared.State.{State}
 use Rattle.tables.specs.declared.Fault.{Fault}
 use Rattle.tables.specs.declared.Opened.{Opened}

@@ -11,7 +11,7 @@ use Rattle.theory.specs.Text.{Bytes, isName, fieldsOf}
 use Rattle.theory.specs.Written.{lineLetter, field, Written}
 use Rattle.theory.specs.Faults.{isUnfit, isComplete, mayStand, fault}
 use Rattle.text.specs.Scans.{partsFrom}
-use Rattle.text.specs.Words.{wordsOf, StandsAt}
+use Rattle.words.specs.Words.{wordsOf, StandsAt}
 use Rattle.tables.specs.declared.State.{State}
 use Rattle.tables.specs.declared.Fault.{Fault}
 use Rattle.tables.specs.declared.Opened.{Opened}

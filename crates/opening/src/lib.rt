@@ -7,7 +7,7 @@ ghost use lib.ListN.{length};
 ghost use Rattle.theory.specs.declared.Letter.the-variants.{M, NoLetter};
 ghost use Rattle.theory.specs.Lists.{every};
 ghost use Rattle.theory.specs.Text.{between};
-ghost use Rattle.text.specs.Classes.{Classes};
+ghost use Rattle.words.specs.Classes.{Classes};
 ghost use Rattle.tables.specs.Tables.{SafeState, SafeSignatures};
 ghost use Rattle.tables.specs.Lines.{most};
 ghost use Rattle.opening.specs.Opening.{besides, bars, HasName, Refers, Nameless, Begins, LetterRead, NameRead, Completes, Stands, OpensLetter, OpensDeclaration, OpensBare, Opens};
@@ -18,9 +18,9 @@ use tables::Opened;
 use tables::Opening;
 use tables::Signatures;
 use tables::State;
-use text::Word;
-use text::Words;
 use theory::Letter;
+use words::Word;
+use words::Words;
 
 /// The letter that a line begins with.
 fn letter_of(line: &[u8]) -> Letter
@@ -115,12 +115,12 @@ fn name_of(
     if line.len() < 2 {
         return Naming::NoName;
     }
-    let ends = text::word_end(line, 2, classes);
+    let ends = words::word_end(line, 2, classes);
     let stop = reader::field_end(line, ends);
-    let word = text::word_by_end(line, 2, stop, ends, classes);
+    let word = words::word_by_end(line, 2, stop, ends, classes);
     match word {
         Word::Name(words) => {
-            let place = text::place_by(names, known, words, hints);
+            let place = words::place_by(names, known, words, hints);
             Naming::Found(Named { words, place, stop })
         }
         Word::Variable(_) => Naming::NoName,

@@ -7,13 +7,13 @@ use native.Mathlib.Omega.{arith}
 use lib.ListN.{length}
 use Rattle.groundwork.proofs.Truth.{never-both}
 use Rattle.theory.specs.Text.{Bytes}
-use Rattle.text.specs.declared.Word.{Word}
-use Rattle.text.specs.declared.Word.the-variants.{Name, Variable, Neither}
-use Rattle.text.specs.declared.Words.{Words}
 use Rattle.text.specs.Scans.{part}
-use Rattle.text.specs.Words.{WordRead, StandsAt}
 use Rattle.text.proofs.Parts.{part-rest}
-use Rattle.text.proofs.WordKinds.{isNameWord, name-told, read-words}
+use Rattle.words.specs.declared.Word.{Word}
+use Rattle.words.specs.declared.Word.the-variants.{Name, Variable, Neither}
+use Rattle.words.specs.declared.Words.{Words}
+use Rattle.words.specs.Words.{WordRead, StandsAt}
+use Rattle.words.proofs.WordKinds.{isNameWord, name-told, read-words}
 use Rattle.queries.specs.Queries.{Means}
 
 module _ (field : Bytes) (names : List ℕ) (known : ℕ) (word : Word) (between : WordRead (part field 0 (length field)) word) where

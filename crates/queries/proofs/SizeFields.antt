@@ -11,10 +11,10 @@ use Rattle.theory.specs.Text.{Bytes, bytes, same, natural}
 use Rattle.theory.specs.Reserve.{sizeFrom}
 use Rattle.theory.proofs.Reading.Bytes.{same-refl, same-equal}
 use Rattle.theory.proofs.Reserving.QuerySizes.{Small, size-small}
-use Rattle.text.specs.declared.Natural.{Natural}
-use Rattle.text.specs.declared.Natural.the-variants.{Whole, NoNatural}
-use Rattle.text.specs.Numbers.{naturalOf}
 use Rattle.text.proofs.Parts.{drop-more}
+use Rattle.numbers.specs.declared.Natural.{Natural}
+use Rattle.numbers.specs.declared.Natural.the-variants.{Whole, NoNatural}
+use Rattle.numbers.specs.Numbers.{naturalOf}
 use Rattle.tables.specs.QuerySizes.{entryOf}
 use Rattle.queries.specs.Queries.{sizeNumber}
 

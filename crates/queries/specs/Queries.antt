@@ -12,7 +12,7 @@ use Rattle.theory.specs.Reserve.{queryKey, queryOf, sizeFrom, queryFault}
 use Rattle.theory.specs.Answers.{queryNumber}
 use Rattle.theory.specs.declared.QueryRefusal.{QueryRefusal}
 use Rattle.text.specs.Scans.{partsFrom}
-use Rattle.text.specs.Words.{wordsOf, StandsAt}
+use Rattle.words.specs.Words.{wordsOf, StandsAt}
 use Rattle.tables.specs.Tables.{predicateAt, Declares}
 use Rattle.tables.specs.QuerySizes.{entryOf, SafeSizes, SizesStand}
 use Rattle.queries.specs.declared.Asked.{Asked}

@@ -9,11 +9,11 @@ ghost use Rattle.text.specs.Scans.{partsFrom};
 ghost use Rattle.tables.specs.Tables.{SafeSignatures};
 ghost use Rattle.tables.specs.QuerySizes.{SafeSizes};
 ghost use Rattle.queries.specs.Queries.{sizeNumber, SizesRead, Means, OpensQuery};
+use numbers::Natural;
 use tables::Names;
 use tables::Signatures;
-use text::Natural;
-use text::Word;
 use theory::QueryRefusal;
+use words::Word;
 
 /// What a query asks: its predicate's place, how many arguments that has, and the asked argument's place, from 0.
 pub struct Asked {
@@ -37,7 +37,7 @@ fn read_size(field: &[u8]) -> u32
             return 65536;
         }
     }
-    let size = text::read_natural(field, 65535);
+    let size = numbers::read_natural(field, 65535);
     match size {
         Natural::Whole(n) => n,
         Natural::NoNatural => 65537,
@@ -70,7 +70,7 @@ fn read_asked(field: &[u8], arity: u8) -> usize
     requires { ⌜ arity ≤ 8 ⌝ }
     ensures { λ r. ⌜ r ≡ Option·getD (natural arity (now (field .entry))) 0 ⌝ }
 {
-    let asked = text::read_natural(field, widths::u8_to_u32(arity));
+    let asked = numbers::read_natural(field, widths::u8_to_u32(arity));
     match asked {
         Natural::Whole(n) => widths::u32_to_usize(n),
         Natural::NoNatural => 0,
@@ -82,10 +82,10 @@ fn named_by(field: &[u8], names: &Names, known: usize) -> usize
     requires { ⌜ known ≤ 32 ⌝ }
     ensures { λ r. ⌜ Means (now (field .entry)) (now (names .entry)) known r ⌝ }
 {
-    let classes = text::class_table();
-    let word = text::word_between(field, 0, field.len(), &classes);
+    let classes = words::class_table();
+    let word = words::word_between(field, 0, field.len(), &classes);
     match word {
-        Word::Name(words) => text::place(names, known, words),
+        Word::Name(words) => words::place(names, known, words),
         Word::Variable(_) => known,
         Word::Neither => known,
     }

@@ -14,7 +14,7 @@ use Rattle.groundwork.proofs.Lists.{length-end}
 use Rattle.theory.specs.Text.{isName}
 use Rattle.theory.specs.Packs.{Predicate, keyOf, declaredAs, claimsOn}
 use Rattle.theory.proofs.Reading.Places.{each-and-last}
-use Rattle.text.specs.Words.{wordsOf, wordsAt}
+use Rattle.words.specs.Words.{wordsOf, wordsAt}
 use Rattle.terms.proofs.VariableTable.{withWords, with-other, with-here}
 use Rattle.tables.specs.Tables.{Declares, HoldsClaims, noPredicate, predicateAt, flag}
 use Rattle.tables.proofs.Lookup.{undeclared}

@@ -11,8 +11,8 @@ use Rattle.theory.specs.Text.{Bytes, isName}
 use Rattle.theory.specs.Packs.{Predicate, Key, key, sameKey, keyOf, declaredAs}
 use Rattle.theory.proofs.Judging.Keys.{sameKey-refl, sameKey-equal}
 use Rattle.theory.proofs.Reading.Spelling.{name-bytes}
-use Rattle.text.specs.Words.{wordsOf, StandsAt}
-use Rattle.text.proofs.WordLaws.{words-equal}
+use Rattle.words.specs.Words.{wordsOf, StandsAt}
+use Rattle.words.proofs.WordLaws.{words-equal}
 use Rattle.tables.specs.Tables.{predicateAt, Declares}
 
 -- ---- the first predicate of a key

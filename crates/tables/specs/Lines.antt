@@ -12,7 +12,7 @@ use Rattle.theory.specs.Packs.{Key, keyOf, claimKey, atomKey, declaredAs}
 use Rattle.theory.specs.Written.{lineLetter, field, predicateFrom, claimFrom, atomFrom, Written, write}
 use Rattle.theory.specs.Faults.{firstOf, mayStand, tests, fault}
 use Rattle.text.specs.Scans.{partsFrom}
-use Rattle.text.specs.Words.{wordsOf}
+use Rattle.words.specs.Words.{wordsOf}
 use Rattle.tables.specs.declared.State.{State}
 use Rattle.tables.specs.declared.Opened.{Opened}
 use Rattle.tables.specs.declared.Closing.{Closing}

@@ -15,7 +15,7 @@ use Rattle.theory.specs.Written.{Written}
 use Rattle.theory.specs.Residuals.{claimForm, subgoalForms, ruleVariables}
 use Rattle.theory.specs.Faults.{lastRule}
 use Rattle.theory.specs.Check.{multiplierLines}
-use Rattle.text.specs.Words.{wordsOf, wordsAt}
+use Rattle.words.specs.Words.{wordsOf, wordsAt}
 use Rattle.terms.specs.Rows.{Holds as HoldsVariables}
 use Rattle.tables.specs.declared.State.{State}
 

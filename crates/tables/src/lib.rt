@@ -5,11 +5,11 @@
 ghost use mathlib.Core.Path.{_≡_};
 ghost use Prim.Native.Nat.{_≤_, _<_};
 ghost use Rattle.tables.specs.Tables.{claimPlace, rowPlace};
-use text::Words;
 use theory::Letter;
+use words::Words;
 
 /// The predicates' names, two words each.
-pub type Names = text::WordTable;
+pub type Names = words::WordTable;
 
 /// Of the predicate at place i: its arity at i, 1 at 32 + i if it is given, the number of its claims at 64 + i.
 pub type Signatures = [u8; 96];
@@ -18,7 +18,7 @@ pub type Signatures = [u8; 96];
 pub type Claims = [i16; 4608];
 
 /// The names of the last rule's variables, two words each.
-pub type Variables = text::WordTable;
+pub type Variables = words::WordTable;
 
 /// The forms of the last rule's arguments, rows of 17 numbers: argument k of atom a from `row_place(a, k)` on. The head is
 /// atom 0, the subgoal at place s atom s + 1.
@@ -31,7 +31,7 @@ pub type Weights = [i32; 81];
 pub type Slots = [u16; 256];
 
 /// Where names and variables stood before: any content will do.
-pub type Hints = text::Hints;
+pub type Hints = words::Hints;
 
 /// Where the numbers of a claim on a predicate begin.
 pub fn claim_place(predicate: usize, claim: usize) -> usize

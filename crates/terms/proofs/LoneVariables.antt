@@ -17,10 +17,10 @@ use Rattle.theory.proofs.Reading.Bytes.{between-low, between-high}
 use Rattle.theory.proofs.Reading.Separators.{free-from, parts-of-free}
 use Rattle.theory.proofs.Reading.Tokens.{ReadAs, as-variable, as-symbol, as-none, read-as, token-of-variable}
 use Rattle.text.specs.Scans.{part, Finds, partsFrom}
-use Rattle.text.specs.declared.Words.{Words}
 use Rattle.text.proofs.Parts.{part-at, part-rest}
 use Rattle.text.proofs.Cuts.{parts-all, parts-step}
-use Rattle.text.proofs.Classes.{upper-in-name}
+use Rattle.words.specs.declared.Words.{Words}
+use Rattle.words.proofs.Letters.{upper-in-name}
 use Rattle.terms.specs.Tokens.{ConstantRead}
 use Rattle.terms.specs.Rows.{Cleared, SmallRow, CountsOne, CountedAlone}
 use Rattle.terms.proofs.TokenEnds.{word-spelled}

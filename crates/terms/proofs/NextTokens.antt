@@ -9,10 +9,10 @@ use Rattle.theory.specs.Text.{Bytes, isLower, isUpper, isDigit, isNameByte, isW
 use Rattle.theory.specs.Terms.{symbolOf, noToken, tokenOf}
 use Rattle.theory.proofs.Reading.Bytes.{between-from, between-low, between-high}
 use Rattle.theory.proofs.Reading.Separators.{isFree, free-from}
-use Rattle.text.specs.Classes.{Class}
-use Rattle.text.specs.Scans.{part, EndsWord, Finds}
+use Rattle.text.specs.Scans.{part, Finds}
 use Rattle.text.proofs.Parts.{part-length, part-at, free-more}
-use Rattle.text.proofs.Classes.{lower-in-name, upper-in-name}
+use Rattle.words.specs.Classes.{Class, EndsWord}
+use Rattle.words.proofs.Letters.{lower-in-name, upper-in-name}
 use Rattle.terms.specs.TokenRows.{Decides, EndsAt, ArityAt, startOf, endOf, standingAt, VariableAt}
 use Rattle.terms.proofs.SymbolTokens.{lastByte, frontOf, SymbolWritten, symbol-read, other-no-token}
 use Rattle.terms.proofs.WordEnding.{word-end-once, word-from}

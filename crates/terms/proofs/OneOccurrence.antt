@@ -4,8 +4,8 @@ use mathlib.Core.List.{List}
 use Prim.Native.Nat.{ℕ, _+_, _*_, _≤_, _<_}
 use native.Mathlib.Omega.{arith}
 use lib.ListN.{length, set, length-set}
-use Rattle.text.specs.Words.{StandsAt}
-use Rattle.text.specs.declared.Words.{Words}
+use Rattle.words.specs.Words.{StandsAt}
+use Rattle.words.specs.declared.Words.{Words}
 use Rattle.terms.specs.Rows.{Elsewhere, SmallRow, CountsOne, known-already, one-more, none-left, past}
 use Rattle.groundwork.proofs.Stretches.{replaced}
 use Rattle.terms.proofs.RowStores.{countAt, countedAt, none-stored, one-stored}

@@ -10,8 +10,8 @@ use lib.Seq.{take-suc}
 use Rattle.theory.specs.Text.{Bytes}
 use Rattle.theory.specs.Terms.{Term, readTerm, variables}
 use Rattle.text.specs.Scans.{part}
-use Rattle.text.specs.Words.{wordsOf}
-use Rattle.text.specs.declared.Words.{Words}
+use Rattle.words.specs.Words.{wordsOf}
+use Rattle.words.specs.declared.Words.{Words}
 use Rattle.terms.specs.TokenRows.{startOf, endOf, standingAt, PlacesStand}
 use Rattle.terms.specs.Rows.{Holds, Elsewhere, Cleared, SmallRow, CountsOne, Counted}
 use Rattle.terms.proofs.RowStores.{countAt, none-stored, stored-again}

@@ -9,7 +9,7 @@ use Rattle.groundwork.proofs.Lists.{length-end}
 use Rattle.theory.specs.Text.{Bytes, among, isVariable}
 use Rattle.theory.specs.Terms.{Term, variables, occurrences}
 use Rattle.theory.specs.Residuals.{numbered}
-use Rattle.text.specs.Words.{wordsOf}
+use Rattle.words.specs.Words.{wordsOf}
 use Rattle.terms.specs.Rows.{Holds, RowCounts, CountedFrom, CountsOne, known-already, one-more, none-left, past}
 use Rattle.terms.proofs.Numbering.{place-among, numbered-end-known, numbered-end-new, numbered-grows}
 use Rattle.terms.proofs.VariableTable.{found-is, not-found, holds-more}

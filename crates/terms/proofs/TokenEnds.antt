@@ -13,7 +13,7 @@ use Rattle.theory.specs.Text.{Bytes, isDigit, isNameByte, isWord}
 use Rattle.theory.proofs.Reading.Bytes.{between-low}
 use Rattle.text.specs.Scans.{part}
 use Rattle.text.proofs.Parts.{part-length, part-at}
-use Rattle.text.proofs.WordReading.{word-is}
+use Rattle.words.proofs.WordReading.{word-is}
 use Rattle.terms.specs.TokenRows.{Decides, EndsAt, ArityAt}
 use Rattle.terms.proofs.SymbolTokens.{lastByte, lastButOne, frontOf}
 

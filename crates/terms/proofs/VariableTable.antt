@@ -12,9 +12,9 @@ use Rattle.theory.specs.Text.{Bytes, among, isVariable}
 use Rattle.theory.specs.Residuals.{numbered}
 use Rattle.theory.proofs.Reading.Spelling.{variable-bytes}
 use Rattle.theory.proofs.Judging.Variables.{Once, numbered-once}
-use Rattle.text.specs.Words.{wordsOf, wordsAt, StandsAt}
-use Rattle.text.specs.declared.Words.{Words}
-use Rattle.text.proofs.WordLaws.{words-equal}
+use Rattle.words.specs.Words.{wordsOf, wordsAt, StandsAt}
+use Rattle.words.specs.declared.Words.{Words}
+use Rattle.words.proofs.WordLaws.{words-equal}
 use Rattle.terms.specs.Rows.{Holds}
 use Rattle.terms.proofs.Numbering.{no-place-among, numbered-new}
 

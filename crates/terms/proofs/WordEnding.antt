@@ -10,8 +10,9 @@ use Rattle.groundwork.proofs.Lists.{getD-member}
 use Rattle.theory.specs.Lists.{every}
 use Rattle.theory.specs.Text.{Bytes, isNameByte}
 use Rattle.theory.proofs.Reading.Every.{every-member}
-use Rattle.text.specs.Scans.{part, EndsWord}
+use Rattle.text.specs.Scans.{part}
 use Rattle.text.proofs.Parts.{part-length, part-at, drop-more}
+use Rattle.words.specs.Classes.{EndsWord}
 
 -- a test that every byte of a part passes, at a place of it
 every-place : (s : Bytes) (a e : ℕ) → e ≤ length s → (test : ℕ → Bool) → every test (part s a e) ≡ true → (i : ℕ) → a ≤ i → i < e → test (getD s i 0) ≡ true

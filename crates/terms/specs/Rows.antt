@@ -10,8 +10,8 @@ use Rattle.theory.specs.Terms.{Term, readTerm, variables, occurrences}
 use Rattle.theory.specs.Packs.{lineLimit, variableLimit}
 use Rattle.theory.specs.Residuals.{numbered}
 use Rattle.theory.proofs.Judging.Variables.{Once}
-use Rattle.text.specs.Words.{wordsOf, wordsAt, StandsAt}
-use Rattle.text.specs.declared.Words.{Words}
+use Rattle.words.specs.Words.{wordsOf, wordsAt, StandsAt}
+use Rattle.words.specs.declared.Words.{Words}
 
 -- the table holds the words of these variables, each once
 pub record Holds (names : List ℕ) (seen : List Bytes) : Type 0 where

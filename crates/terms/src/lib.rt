@@ -6,14 +6,14 @@ ghost use lib.ListN.{length};
 ghost use Rattle.theory.specs.Text.{isDigit};
 ghost use Rattle.theory.specs.Measure.{measureOf};
 ghost use Rattle.theory.specs.Answers.{measuredOf};
-ghost use Rattle.text.specs.Classes.{Classes};
+ghost use Rattle.words.specs.Classes.{Classes};
 ghost use Rattle.terms.specs.TokenRows.{EndsAt, ArityAt, Decides, SmallArities, PlacesStand, TokensRead, AritiesSummed, startOf, endOf};
 ghost use Rattle.terms.specs.Rows.{Cleared, SmallRow, CountsOne, Counted, CountedAlone};
 use forms::Form;
-use text::Hints;
-use text::WordTable;
-use text::Words;
 use theory::Measurement;
+use words::Hints;
+use words::WordTable;
+use words::Words;
 
 fn is_digit(b: u8) -> bool
     ensures { λ r. ⌜ r ≡ isDigit b ⌝ }
@@ -132,9 +132,9 @@ pub fn read_tokens(
         if wanted == 0 {
             return no_term();
         }
-        let class = text::class_of(field[from], classes);
+        let class = words::class_of(field[from], classes);
         if class == 1 {
-            let end = text::word_end(field, from + 1, classes);
+            let end = words::word_end(field, from + 1, classes);
             if 16 < end - from {
                 return no_term();
             }
@@ -150,7 +150,7 @@ pub fn read_tokens(
             if class != 2 {
                 return no_term();
             }
-            let end = text::word_end(field, from + 1, classes);
+            let end = words::word_end(field, from + 1, classes);
             if 16 < end - from {
                 return no_term();
             }
@@ -197,7 +197,7 @@ pub fn measure(term: &[u8]) -> Measurement
     if text::is_unfit(term) {
         return Measurement::UnfitTerm;
     }
-    let classes = text::class_table();
+    let classes = words::class_table();
     let mut arities = [0u8; 512];
     let mut places = [0u16; 512];
     let read = read_tokens(term, &classes, &mut arities, &mut places);
@@ -239,7 +239,7 @@ fn count_variable(
     if Form::VARIABLES < known {
         return Form::VARIABLES + 1;
     }
-    let at = text::place_by(names, known, words, hints);
+    let at = words::place_by(names, known, words, hints);
     if Form::VARIABLES <= at {
         return Form::VARIABLES + 1;
     }
@@ -277,7 +277,7 @@ pub fn count_occurrences(
         let place = places[i];
         let start = start_of(place);
         let end = end_of(place);
-        let words = text::words_at(field, start, end);
+        let words = words::words_at(field, start, end);
         many = count_variable(words, names, many, hints, rows, base);
         i += 1;
     }

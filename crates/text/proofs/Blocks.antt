@@ -1,26 +1,14 @@
 -- Where a byte stands, one block of bytes at a time.
 use mathlib.Core.Path.{_≡_, sym, _∙_, ap}
 use mathlib.Core.Bool.{true}
-use mathlib.Core.List.{_++_}
 use Prim.Native.Nat.{ℕ, _+_, _-_, _≤_, _<_}
 use native.Mathlib.Omega.{arith}
-use lib.ListN.{length, getD, take, drop}
-use lib.Seq.{take-add, drop-drop}
+use lib.ListN.{length, getD}
 use Rattle.theory.specs.Text.{Bytes}
 use Rattle.theory.proofs.Reading.Every.{every-append}
 use Rattle.theory.proofs.Reading.Separators.{isFree}
 use Rattle.text.specs.Scans.{part, Finds, Nearest}
-use Rattle.text.proofs.Parts.{free-none, free-more}
-
-module _ (s : Bytes) where
-  -- two parts, one after the other
-  pub part-join : (a m e : ℕ) → a ≤ m → m ≤ e → part s a e ≡ part s a m ++ part s m e
-  part-join a m e h k =
-      let more : e - a ≡ m - a + (e - m) = omega arith in
-      let place : a + (m - a) ≡ m = omega arith in
-      ap (λ (n : ℕ). take n (drop a s)) more
-      ∙ take-add (m - a) (e - m) (drop a s)
-      ∙ ap (λ (rest : Bytes). part s a m ++ take (e - m) rest) (drop-drop (m - a) a s ∙ ap (λ (n : ℕ). drop n s) place)
+use Rattle.text.proofs.Parts.{part-join, free-none, free-more}
 
 module _ (s : Bytes) (wanted : ℕ) where
   free-join : (a m e : ℕ) → a ≤ m → m ≤ e → isFree wanted (part s a m) ≡ true → isFree wanted (part s m e) ≡ true → isFree wanted (part s a e) ≡ true

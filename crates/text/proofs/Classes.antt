@@ -1,13 +1,13 @@
--- A test of every byte of a string, cut at a place, and the classes of bytes that words have.
+-- A test of every byte of a string, cut at a place; and bytes outside a class.
 use mathlib.Core.Path.{_≡_, refl, sym, _∙_, ap}
-use mathlib.Core.Bool.{Bool, true, false, _&&_, and-assoc, or-true}
+use mathlib.Core.Bool.{Bool, true, false, _&&_, and-assoc}
 use mathlib.Core.List.{[], _∷_, _++_}
 use Prim.Native.Nat.{ℕ, _+_, _<_}
 use lib.Dec.{leb}
 use lib.ListN.{length, getD, take, drop, take-append-drop}
 use Rattle.groundwork.proofs.Truth.{and-left, and-right, and-not-left, and-not-right, gt-leb}
 use Rattle.theory.specs.Lists.{every}
-use Rattle.theory.specs.Text.{Bytes, between, isLower, isUpper, isNameByte}
+use Rattle.theory.specs.Text.{Bytes, between}
 use Rattle.text.proofs.Parts.{drop-more}
 
 module _ (test : ℕ → Bool) where
@@ -40,14 +40,3 @@ between-below low high b h = and-not-left (leb low b) (leb b high) (gt-leb low b
 
 pub between-above : (low high b : ℕ) → high < b → between low high b ≡ false
 between-above low high b h = and-not-right (leb low b) (leb b high) (gt-leb b high h)
-
--- ---- letters
-
-module _ (b : ℕ) where
-  pub lower-in-name : isLower b ≡ true → isNameByte b ≡ true
-  unfolding isNameByte
-  lower-in-name h = rw h
-
-  pub upper-in-name : isUpper b ≡ true → isNameByte b ≡ true
-  unfolding isNameByte
-  upper-in-name h = simp (h, or-true)

@@ -7,8 +7,7 @@ use native.Mathlib.Omega.{arith}
 use lib.ListN.{length, getD}
 use Rattle.theory.specs.Text.{Bytes}
 use Rattle.text.specs.Scans.{part}
-use Rattle.text.proofs.Parts.{part-length, part-none, part-more}
-use Rattle.text.proofs.Blocks.{part-join}
+use Rattle.text.proofs.Parts.{part-length, part-none, part-more, part-join}
 
 module _ (base : ℕ) (digit : ℕ → ℕ) (value : Bytes → ℕ) (none : value [] ≡ 0) (more : (b : ℕ) (bs : Bytes) → value (b ∷ bs) ≡ digit b + base * value bs) where
   value-append : (xs ys : Bytes) → value (xs ++ ys) ≡ value xs + base ^ length xs * value ys

@@ -1,4 +1,4 @@
--- Parts of a byte string: one byte more, and what stands from a place on.
+-- Parts of a byte string: one byte more, two parts, one after the other, and what stands from a place on.
 use mathlib.Core.Path.{_≡_, sym, _∙_, ap}
 use mathlib.Core.Bool.{Bool, true}
 use mathlib.Core.List.{[], _∷_, _++_}
@@ -6,7 +6,7 @@ use Prim.Native.Nat.{ℕ, suc, _+_, _-_, _≤_, _<_}
 use native.Mathlib.Numerals.{add-one}
 use native.Mathlib.Omega.{arith}
 use lib.ListN.{length, getD, take, drop, length-drop, take-append-drop, drop-of-length-le}
-use lib.Seq.{length-take-le, take-suc, take-all, drop-cons, drop-drop, getD-take, getD-drop}
+use lib.Seq.{length-take-le, take-add, take-suc, take-all, drop-cons, drop-drop, getD-take, getD-drop}
 use Rattle.groundwork.proofs.Truth.{eqb-different}
 use Rattle.theory.specs.Lists.{every}
 use Rattle.theory.specs.Text.{Bytes}
@@ -38,6 +38,15 @@ module _ (s : Bytes) where
   -- the part up to the end
   pub part-rest : (a : ℕ) → part s a (length s) ≡ drop a s
   part-rest a = take-all (length s - a) (drop a s) (simp length-drop (omega arith))
+
+  -- two parts, one after the other
+  pub part-join : (a m e : ℕ) → a ≤ m → m ≤ e → part s a e ≡ part s a m ++ part s m e
+  part-join a m e h k =
+      let more : e - a ≡ m - a + (e - m) = omega arith in
+      let place : a + (m - a) ≡ m = omega arith in
+      ap (λ (n : ℕ). take n (drop a s)) more
+      ∙ take-add (m - a) (e - m) (drop a s)
+      ∙ ap (λ (rest : Bytes). part s a m ++ take (e - m) rest) (drop-drop (m - a) a s ∙ ap (λ (n : ℕ). drop n s) place)
 
   -- what stands from a place on, cut at a later place
   pub drop-cut : (a e : ℕ) → a ≤ e → drop a s ≡ part s a e ++ drop e s

@@ -1,5 +1,3 @@
--- What the scanners and readers say, as relations to the definitions of the crate theory. No public promise cites them.
-pub mod Classes
+-- What the scanners say, as relations to the definitions of the crate theory. No public promise cites them.
 pub mod Scans
-pub mod Words
-pub mod Numbers
+pub mod ByteNumbers

@@ -1,13 +1,11 @@
 -- Parts of a byte string by their places, and where a byte stands.
 use mathlib.Core.Path.{_≡_}
-use mathlib.Core.Bool.{Bool, true, false, cond, _||_}
+use mathlib.Core.Bool.{Bool, true, cond, _||_}
 use mathlib.Core.List.{List, [], _∷_}
-use Prim.Native.Nat.{ℕ, zero, suc, _+_, _-_, _*_, _≤_, _<_}
-use Prim.Native.Char.{code}
+use Prim.Native.Nat.{ℕ, _+_, _-_, _*_, _≤_, _<_}
 use lib.Dec.{leb, eqb}
 use lib.ListN.{length, getD, take, drop}
-use Rattle.theory.specs.Lists.{every}
-use Rattle.theory.specs.Text.{Bytes, partsAt, between, isNameByte}
+use Rattle.theory.specs.Text.{Bytes, partsAt, between}
 use Rattle.theory.proofs.Reading.Separators.{isFree}
 
 -- the bytes from place a up to place e
@@ -20,13 +18,6 @@ pub record Finds (s : Bytes) (wanted from r : ℕ) : Type 0 where
   pub high : r ≤ length s
   pub free : isFree wanted (part s from r) ≡ true
   pub found : r < length s → getD s r 0 ≡ wanted
-
--- r is the first place at or after `from` whose byte no name has, or the end
-pub record EndsWord (s : Bytes) (from r : ℕ) : Type 0 where
-  pub low : from ≤ r
-  pub high : r ≤ length s
-  pub named : every isNameByte (part s from r) ≡ true
-  pub ended : r < length s → isNameByte (getD s r 0) ≡ false
 
 -- byte 10, or one that may stand in a line
 unfoldable pub isPlain : ℕ → Bool
@@ -54,16 +45,6 @@ marks wanted (b ∷ bs) = markOf wanted b + 2 * marks wanted bs
 pub record Marked (s : Bytes) (wanted at n bound r : ℕ) : Type 0 where
   pub is : r ≡ marks wanted (part s at (at + n))
   pub small : r < bound
-
--- fields `0`, each with the comma after it
-unfoldable pub zeroFields : ℕ → Bytes
-zeroFields zero = []
-zeroFields (suc r) = code "0" ∷ code "," ∷ zeroFields r
-
--- r such fields stand from a place on
-pub record Zeros (s : Bytes) (from r : ℕ) : Type 0 where
-  pub high : from + 2 * r ≤ length s
-  pub stand : part s from (from + 2 * r) ≡ zeroFields r
 
 -- r separators stand in s: one less than there are parts
 pub record CountsParts (separator : ℕ) (s : Bytes) (r : ℕ) : Type 0 where

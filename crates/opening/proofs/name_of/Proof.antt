@@ -1,6 +1,6 @@
 -- `opening::name_of` meets its contract. Assumes nothing.
 use borrow.Author.Needs.{needs}
-use Rattle.text.proofs.WordEnds.{word-then-field}
+use Rattle.words.proofs.WordEnds.{word-then-field}
 use Rattle.opening.proofs.NameReading.{name-none, name-variable, name-neither, name-found}
 use Rattle.opening.proofs.name_of.Statement.{statement}
 use Rattle.opening.proofs.name_of.Tie as tie

@@ -1,0 +1,12 @@
+-- Laws that callers use.
+pub mod WordLaws
+pub mod WordKinds
+pub mod Letters
+-- What the functions' proofs cite.
+pub mod Entries
+pub mod WordEnds
+pub mod ByteSums
+pub mod WordBytes
+pub mod WordReading
+pub mod WordsBetween
+pub mod Places
