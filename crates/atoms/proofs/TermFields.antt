@@ -17,9 +17,9 @@ use Rattle.words.specs.declared.Words.{Words}
 use Rattle.words.specs.Classes.{Class}
 use Rattle.words.specs.Words.{wordsOf, WordRead}
 use Rattle.words.proofs.WordKinds.{isVariableWord, variable-told, variable-words}
-use Rattle.terms.specs.declared.Tokens.{Tokens}
-use Rattle.terms.specs.Tokens.{ConstantRead}
-use Rattle.terms.specs.TokenRows.{SmallArities, PlacesStand, TokensRead, AritiesSummed}
+use Rattle.tokens.specs.declared.Tokens.{Tokens}
+use Rattle.tokens.specs.TokenRows.{SmallArities, PlacesStand, TokensRead}
+use Rattle.terms.specs.Constants.{ConstantRead, AritiesSummed}
 use Rattle.terms.specs.Rows.{Counted, CountedAlone}
 use Rattle.groundwork.proofs.Stretches.{replaced}
 use Rattle.terms.proofs.LoneVariables.{lone-term, lone-constant, capital-no-term}

@@ -12,7 +12,7 @@ use Rattle.theory.specs.Terms.{allVariables}
 use Rattle.theory.specs.Written.{termsFrom, Written}
 use Rattle.theory.specs.Residuals.{numbered, ruleVariables}
 use Rattle.theory.specs.Faults.{isTerm, lastRule}
-use Rattle.terms.specs.Tokens.{ConstantRead}
+use Rattle.terms.specs.Constants.{ConstantRead}
 use Rattle.terms.specs.Rows.{Counted, Holds as HoldsVariables}
 use Rattle.tables.specs.declared.Fault.the-variants.{NoTerm}
 use Rattle.tables.specs.declared.Fielding.{Fielding}

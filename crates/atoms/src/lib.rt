@@ -95,7 +95,7 @@ pub fn field_term(
             return field_variable(atom, index, field, many, variables, rows, hints, classes);
         }
     }
-    let read = terms::read_tokens(field, classes, arities, places);
+    let read = tokens::read_tokens(field, classes, arities, places);
     if !read.fine {
         return Fielding::Misread(Fault::NoTerm);
     }

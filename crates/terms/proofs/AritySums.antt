@@ -1,23 +1,13 @@
 -- The loop of `sum_of_arities`: the arities passed are summed.
 use mathlib.Core.Path.{_≡_, refl, _∙_, ap}
-use mathlib.Core.List.{List, [], _∷_}
-use Prim.Native.Nat.{ℕ, zero, suc, _+_, _*_, _≤_, _<_}
-use native.Mathlib.Numerals.{add-one}
+use mathlib.Core.List.{List}
+use Prim.Native.Nat.{ℕ, _+_, _*_, _≤_, _<_}
 use native.Mathlib.Omega.{arith}
 use lib.ListN.{getD, take}
 use Rattle.theory.specs.Lists.{total}
-use Rattle.terms.specs.TokenRows.{SmallArities, AritiesSummed}
-
--- one number more, or, past the end of the row, none
-total-suc : (ns : List ℕ) (i : ℕ) → total (take (suc i) ns) ≡ total (take i ns) + getD ns i 0
-unfolding total
-total-suc [] zero = refl
-total-suc [] (suc i) = refl
-total-suc (n ∷ ns) zero = omega arith
-total-suc (n ∷ ns) (suc i) = omega (arith, total-suc ns i)
-
-pub total-more : (ns : List ℕ) (i : ℕ) → total (take (i + 1) ns) ≡ total (take i ns) + getD ns i 0
-total-more ns i = rw add-one (total-suc ns i)
+use Rattle.tokens.specs.TokenRows.{SmallArities}
+use Rattle.tokens.proofs.Totals.{total-more}
+use Rattle.terms.specs.Constants.{AritiesSummed}
 
 pub record Summing (arities : List ℕ) (symbols sum i : ℕ) : Type 0 where
   pub high : i ≤ symbols

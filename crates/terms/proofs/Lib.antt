@@ -1,17 +1,7 @@
--- Laws on the tokens of a term, for the loops that scan them from the left.
+-- Laws on the size and the variables of a term, by its tokens.
 
--- what one token is read as; whether tokens write a term
-pub mod TokenKinds
-pub mod SymbolTokens
-pub mod WordEnding
-pub mod TokenEnds
-pub mod NextTokens
-pub mod FirstTerms
-pub mod Scan
--- a term's size and variables as sums over its tokens
-pub mod TokenSums
+-- a term's constant, and what measure answers
 pub mod AritySums
-pub mod TokenLoop
 pub mod Measures
 -- a rule's variables, numbered and counted one at a time
 pub mod Numbering

@@ -21,13 +21,13 @@ use Rattle.text.proofs.Parts.{part-at, part-rest}
 use Rattle.text.proofs.Cuts.{parts-all, parts-step}
 use Rattle.words.specs.declared.Words.{Words}
 use Rattle.words.proofs.Letters.{upper-in-name}
-use Rattle.terms.specs.Tokens.{ConstantRead}
+use Rattle.tokens.proofs.TokenEnds.{word-spelled}
+use Rattle.tokens.proofs.NextTokens.{space-no-name}
+use Rattle.tokens.proofs.Scan.{scan, scan-unwanted, scan-no-token, scan-takes-variable, scan-end, scan-is-term}
+use Rattle.tokens.proofs.TokenSums.{constants, variableTokens, constants-variable, variable-first, token-sums}
+use Rattle.tokens.proofs.TokenLoop.{token-end}
+use Rattle.terms.specs.Constants.{ConstantRead}
 use Rattle.terms.specs.Rows.{Cleared, SmallRow, CountsOne, CountedAlone}
-use Rattle.terms.proofs.TokenEnds.{word-spelled}
-use Rattle.terms.proofs.NextTokens.{space-no-name}
-use Rattle.terms.proofs.Scan.{scan, scan-unwanted, scan-no-token, scan-takes-variable, scan-end, scan-is-term}
-use Rattle.terms.proofs.TokenSums.{constants, variableTokens, constants-variable, variable-first, token-sums}
-use Rattle.terms.proofs.TokenLoop.{token-end}
 use Rattle.terms.proofs.RowStores.{stored-again}
 use Rattle.terms.proofs.OneOccurrence.{leaves}
 use Rattle.terms.proofs.Tally.{none-tallied, tally-counted, one-tallied}

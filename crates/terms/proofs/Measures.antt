@@ -15,8 +15,9 @@ use Rattle.theory.specs.Faults.{isUnfit}
 use Rattle.theory.specs.Measure.{measured, measureTerm, measureOf}
 use Rattle.theory.specs.Answers.{measuredOf}
 use Rattle.theory.proofs.Reading.Presence.{is-some, is-none, empty-is, filled-is}
-use Rattle.terms.specs.declared.Tokens.{Tokens}
-use Rattle.terms.specs.TokenRows.{SmallArities, TokensRead, AritiesSummed}
+use Rattle.tokens.specs.declared.Tokens.{Tokens}
+use Rattle.tokens.specs.TokenRows.{SmallArities, TokensRead}
+use Rattle.terms.specs.Constants.{AritiesSummed}
 
 module _ (s : Bytes) (unfit : Bool) (unfit-is : unfit ≡ isUnfit s) where
   pub measure-unfit : unfit ≡ true → measured 4 0 ≡ measureOf s

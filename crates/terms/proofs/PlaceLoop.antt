@@ -12,7 +12,7 @@ use Rattle.theory.specs.Terms.{Term, readTerm, variables}
 use Rattle.text.specs.Scans.{part}
 use Rattle.words.specs.Words.{wordsOf}
 use Rattle.words.specs.declared.Words.{Words}
-use Rattle.terms.specs.TokenRows.{startOf, endOf, standingAt, PlacesStand}
+use Rattle.tokens.specs.TokenRows.{startOf, endOf, standingAt, PlacesStand}
 use Rattle.terms.specs.Rows.{Holds, Elsewhere, Cleared, SmallRow, CountsOne, Counted}
 use Rattle.terms.proofs.RowStores.{countAt, none-stored, stored-again}
 use Rattle.terms.proofs.OneOccurrence.{leaves}

@@ -1,4 +1,3 @@
--- What the term readers say, as relations to the definitions of the crate theory. No public promise cites them.
-pub mod Tokens
-pub mod TokenRows
+-- What is said of a term by its tokens, as relations to the definitions of the crate theory. No public promise cites them.
+pub mod Constants
 pub mod Rows

@@ -1,9 +1,9 @@
--- `terms::has_arity` meets its contract. Assumes nothing.
+-- `tokens::has_arity` meets its contract. Assumes nothing.
 use Rattle.groundwork.proofs.Truth.{not-true, not-false}
-use Rattle.terms.proofs.TokenEnds.{arity-past, no-slash, no-digit, arity-ends, arity-spaced}
+use Rattle.tokens.proofs.TokenEnds.{arity-past, no-slash, no-digit, arity-ends, arity-spaced}
 use borrow.Author.Needs.{needs}
-use Rattle.terms.proofs.has_arity.Statement.{statement}
-use Rattle.terms.proofs.has_arity.Tie as tie
+use Rattle.tokens.proofs.has_arity.Statement.{statement}
+use Rattle.tokens.proofs.has_arity.Tie as tie
 
 returns : tie.Need-returns
 returns c = search (needs, no-slash)

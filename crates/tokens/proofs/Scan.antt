@@ -11,7 +11,7 @@ use Rattle.theory.specs.Lists.{isSome}
 use Rattle.theory.specs.Text.{Bytes, partsAt}
 use Rattle.theory.specs.Terms.{Terms, nil, cons, symbol, arity, Token, variableNamed, symbolOf, noToken, tokenOf, after, afterAll, termsOf, theOnly, readTerm}
 use Rattle.theory.specs.Faults.{isTerm}
-use Rattle.terms.proofs.FirstTerms.{FirstOf, enough, too-few, first-of}
+use Rattle.tokens.proofs.FirstTerms.{FirstOf, enough, too-few, first-of}
 
 -- one token, where some terms are wanted, and the rest of the scan by what is wanted then
 unfoldable pub scanToken : ℕ → Token → (ℕ → Bool) → Bool

@@ -1,13 +1,13 @@
--- `terms::read_tokens` meets its contract: the rows hold the arities and places of the tokens before the place, and those from it on, with so many terms wanted, decide whether the field is a term. Assumes nothing.
+-- `tokens::read_tokens` meets its contract: the rows hold the arities and places of the tokens before the place, and those from it on, with so many terms wanted, decide whether the field is a term. Assumes nothing.
 use Prim.Native.Nat.{_+_, _-_}
 use lib.ListN.{length}
 use Rattle.groundwork.proofs.Truth.{not-true, not-false}
-use Rattle.terms.proofs.TokenEnds.{digit-inside, digit-from}
-use Rattle.terms.proofs.NextTokens.{long-refused, letter-refused, arity-refused, symbol-found, variable-refused, variable-found}
-use Rattle.terms.proofs.TokenLoop.{Reading, reading-none, read-unwanted, read-no-token, reading-symbol, reading-variable, read-all}
+use Rattle.tokens.proofs.TokenEnds.{digit-inside, digit-from}
+use Rattle.tokens.proofs.NextTokens.{long-refused, letter-refused, arity-refused, symbol-found, variable-refused, variable-found}
+use Rattle.tokens.proofs.TokenLoop.{Reading, reading-none, read-unwanted, read-no-token, reading-symbol, reading-variable, read-all}
 use borrow.Author.Needs.{needs}
-use Rattle.terms.proofs.read_tokens.Statement.{statement}
-use Rattle.terms.proofs.read_tokens.Tie as tie
+use Rattle.tokens.proofs.read_tokens.Statement.{statement}
+use Rattle.tokens.proofs.read_tokens.Tie as tie
 
 abbrev Inv-loop : tie.InvT-loop
 Inv-loop field classes arities₀ places₀ wanted₀ symbols₀ variables₀ from₀ arities places wanted symbols variables from = Reading field arities places wanted symbols variables from

@@ -1,8 +1,8 @@
--- `terms::is_end` meets its contract. Assumes nothing.
-use Rattle.terms.proofs.TokenEnds.{end-inside, end-past}
+-- `tokens::is_end` meets its contract. Assumes nothing.
+use Rattle.tokens.proofs.TokenEnds.{end-inside, end-past}
 use borrow.Author.Needs.{needs}
-use Rattle.terms.proofs.is_end.Statement.{statement}
-use Rattle.terms.proofs.is_end.Tie as tie
+use Rattle.tokens.proofs.is_end.Statement.{statement}
+use Rattle.tokens.proofs.is_end.Tie as tie
 
 returns : tie.Need-returns
 returns c = search (needs, end-inside)

@@ -14,8 +14,8 @@ use Rattle.theory.proofs.Reading.Bytes.{between-low}
 use Rattle.text.specs.Scans.{part}
 use Rattle.text.proofs.Parts.{part-length, part-at}
 use Rattle.words.proofs.WordReading.{word-is}
-use Rattle.terms.specs.TokenRows.{Decides, EndsAt, ArityAt}
-use Rattle.terms.proofs.SymbolTokens.{lastByte, lastButOne, frontOf}
+use Rattle.tokens.specs.TokenRows.{Decides, EndsAt, ArityAt}
+use Rattle.tokens.proofs.SymbolTokens.{lastByte, lastButOne, frontOf}
 
 -- ---- the tests
 

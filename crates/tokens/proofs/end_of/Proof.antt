@@ -1,7 +1,7 @@
--- `terms::end_of` meets its contract. Assumes nothing.
+-- `tokens::end_of` meets its contract. Assumes nothing.
 use borrow.Author.Needs.{needs}
-use Rattle.terms.proofs.end_of.Statement.{statement}
-use Rattle.terms.proofs.end_of.Tie as tie
+use Rattle.tokens.proofs.end_of.Statement.{statement}
+use Rattle.tokens.proofs.end_of.Tie as tie
 
 returns : tie.Need-returns
 returns c = search needs

@@ -11,8 +11,8 @@ use Rattle.theory.specs.Terms.{Term, variable, symbol, Terms, nil, cons, Token,
 use Rattle.theory.specs.Terms.{structural, size, argumentSizes, variables, allVariables}
 use Rattle.theory.proofs.Reading.Tokens.{ReadAs, as-variable, as-symbol, as-none, read-as}
 use Rattle.theory.proofs.Soundness.StructuralSizes.{sizesTogether, structural-size}
-use Rattle.terms.proofs.TokenKinds.{symbol-token}
-use Rattle.terms.proofs.FirstTerms.{FirstOf, enough, too-few, first-of}
+use Rattle.tokens.proofs.TokenKinds.{symbol-token}
+use Rattle.tokens.proofs.FirstTerms.{FirstOf, enough, too-few, first-of}
 
 unfoldable pub constantOf : Token → ℕ
 constantOf (variableNamed x) = 0

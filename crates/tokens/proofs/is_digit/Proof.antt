@@ -1,10 +1,10 @@
--- `terms::is_digit` meets its contract. Assumes nothing.
+-- `tokens::is_digit` meets its contract. Assumes nothing.
 use mathlib.Core.Path.{sym}
 use native.Mathlib.Omega.{arith}
 use Rattle.theory.proofs.Reading.Bytes.{between-from}
 use Rattle.text.proofs.Classes.{between-below, between-above}
-use Rattle.terms.proofs.is_digit.Statement.{statement}
-use Rattle.terms.proofs.is_digit.Tie as tie
+use Rattle.tokens.proofs.is_digit.Statement.{statement}
+use Rattle.tokens.proofs.is_digit.Tie as tie
 
 returns : tie.Need-returns
 returns c = sym (between-from 48 57 _ (c .before .if1 .left) (omega arith))

@@ -10,8 +10,7 @@ use Rattle.theory.specs.Text.{Bytes, isDigit, isVariable}
 use Rattle.theory.specs.Terms.{Term, readTerm, structural, size, variables}
 use Rattle.theory.specs.Faults.{isTerm}
 use Rattle.text.specs.Scans.{part}
-use Rattle.terms.specs.declared.Tokens.{Tokens}
-use Rattle.terms.specs.Tokens.{ConstantRead}
+use Rattle.tokens.specs.declared.Tokens.{Tokens}
 
 -- a test decides
 pub record Decides (r : Bool) (P : Type 0) : Type 0 where
@@ -66,8 +65,3 @@ pub record TokensRead (field : Bytes) (r : Tokens) (arities places : List ℕ) :
   pub placeSize : length places ≡ 512
   pub stand : r .fine ≡ true → SymbolsStand field arities (r .symbols) × PlacesStand field places (r .variables)
   pub many : (t : Term) → readTerm field ≡ some t → r .variables ≡ length (variables t)
-
--- where the arities are those of a term's symbols: its constant
-pub record AritiesSummed (arities : List ℕ) (symbols r : ℕ) : Type 0 where
-  pub is : (field : Bytes) → SymbolsStand field arities symbols → ConstantRead field r
-  pub small : r ≤ 4608

@@ -20,13 +20,13 @@ use Rattle.theory.proofs.Reading.Tokens.{token-of-variable}
 use Rattle.text.specs.Scans.{part, Finds, partsFrom}
 use Rattle.text.proofs.Cuts.{parts-all, parts-done, parts-step}
 use Rattle.text.proofs.Parts.{free-none, free-more}
-use Rattle.terms.specs.declared.Tokens.{Tokens}
-use Rattle.terms.specs.TokenRows.{standingAt, VariableAt, TokensRead}
-use Rattle.terms.proofs.TokenKinds.{symbol-token}
-use Rattle.terms.proofs.Scan.{scan, scan-unwanted, scan-no-token, scan-takes-variable, scan-takes-symbol, scan-end, scan-is-term}
-use Rattle.terms.proofs.TokenSums.{constants, variableTokens, constants-symbol, constants-variable, variable-first, other-first, token-sums}
-use Rattle.terms.proofs.AritySums.{total-more}
-use Rattle.terms.proofs.NextTokens.{NoToken, SymbolFound, VariableFound}
+use Rattle.tokens.specs.declared.Tokens.{Tokens}
+use Rattle.tokens.specs.TokenRows.{standingAt, VariableAt, TokensRead}
+use Rattle.tokens.proofs.TokenKinds.{symbol-token}
+use Rattle.tokens.proofs.Scan.{scan, scan-unwanted, scan-no-token, scan-takes-variable, scan-takes-symbol, scan-end, scan-is-term}
+use Rattle.tokens.proofs.TokenSums.{constants, variableTokens, constants-symbol, constants-variable, variable-first, other-first, token-sums}
+use Rattle.tokens.proofs.Totals.{total-more}
+use Rattle.tokens.proofs.NextTokens.{NoToken, SymbolFound, VariableFound}
 
 -- what the rows hold, and what is to come
 pub record Reading (field : Bytes) (arities places : List ℕ) (wanted symbols variables from : ℕ) : Type 0 where

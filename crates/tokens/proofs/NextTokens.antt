@@ -13,10 +13,10 @@ use Rattle.text.specs.Scans.{part, Finds}
 use Rattle.text.proofs.Parts.{part-length, part-at, free-more}
 use Rattle.words.specs.Classes.{Class, EndsWord}
 use Rattle.words.proofs.Letters.{lower-in-name, upper-in-name}
-use Rattle.terms.specs.TokenRows.{Decides, EndsAt, ArityAt, startOf, endOf, standingAt, VariableAt}
-use Rattle.terms.proofs.SymbolTokens.{lastByte, frontOf, SymbolWritten, symbol-read, other-no-token}
-use Rattle.terms.proofs.WordEnding.{word-end-once, word-from}
-use Rattle.terms.proofs.TokenEnds.{word-spelled, spelled-word, size, front-place, slash-place, digit-place}
+use Rattle.tokens.specs.TokenRows.{Decides, EndsAt, ArityAt, startOf, endOf, standingAt, VariableAt}
+use Rattle.tokens.proofs.SymbolTokens.{lastByte, frontOf, SymbolWritten, symbol-read, other-no-token}
+use Rattle.tokens.proofs.WordEnding.{word-end-once, word-from}
+use Rattle.tokens.proofs.TokenEnds.{word-spelled, spelled-word, size, front-place, slash-place, digit-place}
 
 pub space-no-name : isNameByte 32 ≡ false
 unfolding isNameByte

@@ -1,0 +1,14 @@
+-- Laws on the tokens of a term, for the loop that scans them from the left.
+
+-- what one token is read as; whether tokens write a term
+pub mod TokenKinds
+pub mod SymbolTokens
+pub mod WordEnding
+pub mod TokenEnds
+pub mod NextTokens
+pub mod FirstTerms
+pub mod Scan
+-- a term's size and variables as sums over its tokens
+pub mod TokenSums
+pub mod Totals
+pub mod TokenLoop
