@@ -18,7 +18,7 @@ use Rattle.tables.specs.declared.Closing.the-variants.{Done, Misclosed}
 use Rattle.tables.specs.Tables.{Tables, tables, Holds, NoWeights, SafeRows, Safe}
 use Rattle.tables.specs.Lines.{skipped, most, Passed, ClosedFor}
 use Rattle.tables.proofs.Outcomes.{done-misclosed}
-use Rattle.certificates.specs.Sums.{Summable}
+use Rattle.residuals.specs.Sums.{Summable}
 use Rattle.certificates.specs.Multipliers.{ProgressM, ClosesM}
 use Rattle.declarations.specs.Fields.{ProgressP}
 use Rattle.declarations.proofs.PredicateLines.{p-limit, p-close, p-safe}

@@ -255,7 +255,7 @@ pub fn load_lines(
             }
             Closing::Misclosed(fault) => {
                 ending = Ending::Stopped(fault);
-                residual = certificates::residual(&weights, &rows, state.subgoals, state.variables);
+                residual = residuals::residual(&weights, &rows, state.subgoals, state.variables);
                 break 'lines;
             }
         }

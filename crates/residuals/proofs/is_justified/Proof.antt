@@ -1,4 +1,4 @@
--- `certificates::is_justified` meets its contract. The loop's invariant: no coefficient passed is below 0.
+-- `residuals::is_justified` meets its contract. The loop's invariant: no coefficient passed is below 0.
 use mathlib.Core.Path.{_≡_}
 use mathlib.Core.Bool.{true}
 use Prim.Native.Nat.{ℕ, _-_, _≤_, _<_}
@@ -9,10 +9,10 @@ use lib.ListN.{length}
 use lib.Signed.{nonNeg}
 use mir.Syntax.{w64}
 use mir.Val.{SFits}
-use Rattle.certificates.proofs.Signs.{not-negative, judged-constant, judged-coefficient, judged-yes}
+use Rattle.residuals.proofs.Signs.{not-negative, judged-constant, judged-coefficient, judged-yes}
 use Rattle.groundwork.proofs.Stretches.{elements}
-use Rattle.certificates.proofs.is_justified.Statement.{statement}
-use Rattle.certificates.proofs.is_justified.Tie as tie
+use Rattle.residuals.proofs.is_justified.Statement.{statement}
+use Rattle.residuals.proofs.is_justified.Tie as tie
 
 abbrev Inv-loop : tie.InvT-loop
 Inv-loop coefficients i₀ i =

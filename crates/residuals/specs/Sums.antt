@@ -10,7 +10,6 @@ use lib.Signed.{nonNeg}
 use Rattle.forms.specs.Sums.{at}
 use Rattle.forms.specs.declared.Form.{Form}
 use Rattle.tables.specs.Tables.{rowPlace, SafeRows}
-use Rattle.certificates.specs.Weights.{largest}
 
 -- how many of a row's sixteen counts are looked at, in a rule of so many variables: those of others are 0
 unfoldable pub width : ℕ → ℕ
@@ -49,6 +48,10 @@ formNumbers f = f .constant ∷ f .coefficients
 
 pub record SumsTo (weights : List ℤ) (rows : List ℕ) (width atoms : ℕ) (r : Form) : Type 0 where
   pub number : (i : ℕ) → i < 17 → numberAt r i ≡ atomsSum weights rows width i atoms
+
+-- the largest product of a multiplier and a number of a claim; sixteen of them are below 2^31
+abbrev pub largest : ℕ
+largest = 99980001
 
 -- weights and rows that can be summed without leaving 64 bits
 pub record Summable (weights : List ℤ) (rows : List ℕ) : Type 0 where

@@ -15,7 +15,7 @@ use Rattle.forms.specs.declared.Form.{Form}
 use Rattle.groundwork.proofs.Truth.{by-truth, le-leb, gt-leb, lt-ltb, ge-ltb}
 use Rattle.groundwork.proofs.Magnitude.{natAbs-mul}
 use Rattle.tables.specs.Tables.{SafeRows}
-use Rattle.certificates.specs.Sums.{width, seen, numberAt, FormAt, WithRow}
+use Rattle.residuals.specs.Sums.{width, seen, numberAt, FormAt, WithRow}
 use Rattle.widths.proofs.Kept.{keptAt, small-kept}
 
 -- what holds of the constant and of each coefficient holds of each of the 17

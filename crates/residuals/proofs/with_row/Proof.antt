@@ -1,11 +1,11 @@
--- `certificates::with_row` meets its contract, with half of a row or all of it.
+-- `residuals::with_row` meets its contract, with half of a row or all of it.
 use native.Mathlib.Omega.{arith}
 use mir.Syntax.{w64}
 use borrow.Author.Needs.{needs}
 use Rattle.widths.proofs.Kept.{small-kept}
-use Rattle.certificates.proofs.Rows.{width-narrow, width-whole, row-within, product-within, row-added}
-use Rattle.certificates.proofs.with_row.Statement.{statement}
-use Rattle.certificates.proofs.with_row.Tie as tie
+use Rattle.residuals.proofs.Rows.{width-narrow, width-whole, row-within, product-within, row-added}
+use Rattle.residuals.proofs.with_row.Statement.{statement}
+use Rattle.residuals.proofs.with_row.Tie as tie
 
 times-requires : tie.Need-times-requires
 times-requires c κs = search (needs, row-within)

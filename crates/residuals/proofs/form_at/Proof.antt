@@ -1,4 +1,4 @@
--- `certificates::form_at` meets its contract. The loop's invariant: the coefficients passed are the row's.
+-- `residuals::form_at` meets its contract. The loop's invariant: the coefficients passed are the row's.
 use mathlib.Core.Path.{_≡_, _∙_}
 use Prim.Native.Nat.{_+_, _-_, _≤_}
 use native.Mathlib.Omega.{arith}
@@ -6,9 +6,9 @@ use borrow.Author.Needs.{needs}
 use lib.IntN.{pos}
 use lib.ListN.{length, length-set, getD-replicate}
 use Rattle.groundwork.proofs.Stretches.{Stored, stored-none, stored-front, stored-more}
-use Rattle.certificates.proofs.Rows.{cellsFrom, cell-read, form-read}
-use Rattle.certificates.proofs.form_at.Statement.{statement}
-use Rattle.certificates.proofs.form_at.Tie as tie
+use Rattle.residuals.proofs.Rows.{cellsFrom, cell-read, form-read}
+use Rattle.residuals.proofs.form_at.Statement.{statement}
+use Rattle.residuals.proofs.form_at.Tie as tie
 
 abbrev Inv-loop : tie.InvT-loop
 Inv-loop rows base width coefficients₀ i₀ coefficients i =

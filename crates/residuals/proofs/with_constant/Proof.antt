@@ -1,8 +1,8 @@
--- `certificates::with_constant` meets its contract.
+-- `residuals::with_constant` meets its contract.
 use mathlib.Core.Path.{refl}
 use Rattle.forms.proofs.Results.{constant-adds}
-use Rattle.certificates.proofs.with_constant.Statement.{statement}
-use Rattle.certificates.proofs.with_constant.Tie as tie
+use Rattle.residuals.proofs.with_constant.Statement.{statement}
+use Rattle.residuals.proofs.with_constant.Tie as tie
 
 add-t4 : tie.Need-add-t4
 add-t4 c = let start = c .before .before .before in constant-adds (start .args .form .constant) (start .args .c) (start .pre) .fits

@@ -12,8 +12,8 @@ use Rattle.groundwork.proofs.Truth.{ge-ltb, not-true, not-false, never-both}
 use Rattle.forms.specs.Sums.{at}
 use Rattle.forms.specs.declared.Form.{Form}
 use Rattle.forms.proofs.Results.{kept}
-use Rattle.certificates.specs.Sums.{numberAt, Judged}
-use Rattle.certificates.proofs.Rows.{each-number}
+use Rattle.residuals.specs.Sums.{numberAt, Judged}
+use Rattle.residuals.proofs.Rows.{each-number}
 
 below-zero : (z : ℤ) → ltZ z (pos 0) ≡ not (nonNeg z)
 below-zero (pos n) = ge-ltb n 0 (omega arith)

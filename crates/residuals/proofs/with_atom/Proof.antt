@@ -1,12 +1,12 @@
--- `certificates::with_atom` meets its contract. The loop's invariant: the rows passed are added.
+-- `residuals::with_atom` meets its contract. The loop's invariant: the rows passed are added.
 use mathlib.Core.Logic.{⊎-elim}
 use Prim.Native.Nat.{_-_, _≤_}
 use native.Mathlib.Omega.{arith}
 use borrow.Author.Needs.{needs}
-use Rattle.certificates.specs.Sums.{width}
-use Rattle.certificates.proofs.Sums.{RowsAdded, constant-requires, rows-none, row-requires, row-weighed, row-skipped, atom-done}
-use Rattle.certificates.proofs.with_atom.Statement.{statement}
-use Rattle.certificates.proofs.with_atom.Tie as tie
+use Rattle.residuals.specs.Sums.{width}
+use Rattle.residuals.proofs.Sums.{RowsAdded, constant-requires, rows-none, row-requires, row-weighed, row-skipped, atom-done}
+use Rattle.residuals.proofs.with_atom.Statement.{statement}
+use Rattle.residuals.proofs.with_atom.Tie as tie
 
 abbrev Inv-loop : tie.InvT-loop
 Inv-loop weights rows atom variables form₀ k₀ form k = (k ≤ 8) × RowsAdded weights rows (width variables) atom form k

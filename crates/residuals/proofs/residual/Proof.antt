@@ -1,12 +1,12 @@
--- `certificates::residual` meets its contract. The loop's invariant: the form is the sum of the atoms passed.
+-- `residuals::residual` meets its contract. The loop's invariant: the form is the sum of the atoms passed.
 use mathlib.Core.Path.{_≡_}
 use Prim.Native.Nat.{_+_, _-_, _≤_}
 use native.Mathlib.Omega.{arith}
 use borrow.Author.Needs.{needs}
-use Rattle.certificates.specs.Sums.{width, Partial}
-use Rattle.certificates.proofs.Sums.{no-atoms}
-use Rattle.certificates.proofs.residual.Statement.{statement}
-use Rattle.certificates.proofs.residual.Tie as tie
+use Rattle.residuals.specs.Sums.{width, Partial}
+use Rattle.residuals.proofs.Sums.{no-atoms}
+use Rattle.residuals.proofs.residual.Statement.{statement}
+use Rattle.residuals.proofs.residual.Tie as tie
 
 abbrev Inv-loop : tie.InvT-loop
 Inv-loop weights rows subgoals variables form₀ atom₀ form atom = (atom ≤ subgoals + 1) × Partial weights rows (width variables) atom form

@@ -13,9 +13,9 @@ use Rattle.groundwork.proofs.Stretches.{elements}
 use Rattle.forms.specs.Sums.{at, Within, Zero}
 use Rattle.forms.specs.declared.Form.{Form}
 use Rattle.tables.specs.Tables.{rowPlace}
-use Rattle.certificates.specs.Sums.{seen, numberAt, rowsSum, ownPart, atomsSum, Summable, Partial, WithConstant, WithRow}
+use Rattle.residuals.specs.Sums.{seen, numberAt, rowsSum, ownPart, atomsSum, Summable, Partial, WithConstant, WithRow}
 use Rattle.widths.proofs.Kept.{keptAt, small-fits, small-kept, widened}
-use Rattle.certificates.proofs.Rows.{each-number, numbers-within, seen-small}
+use Rattle.residuals.proofs.Rows.{each-number, numbers-within, seen-small}
 
 -- ---- an atom's rows
 

@@ -1,7 +1,7 @@
 -- A form's numbers by place, over a rule's variables: how they go through sums, claims, multipliers and the residual.
 use mathlib.Core.Path.{_≡_, refl, sym, _∙_, ap, ap₂}
 use mathlib.Core.List.{List, [], _∷_, _++_, map}
-use Prim.Native.Nat.{ℕ, zero, suc, _+_, _≤_, _<_}
+use Prim.Native.Nat.{ℕ, zero, suc, _≤_, _<_}
 use native.Mathlib.Omega.{arith}
 use lib.IntN.{ℤ, pos, negsuc, _+ℤ_, _-ℤ_, _*ℤ_, zero-*ℤ, *ℤ-zero}
 use lib.ListN.{length, getD, replicate, length-map, length-append, List·getD-map, List·getD-eq-default}
@@ -14,7 +14,7 @@ use Rattle.theory.specs.Forms.{Form, zeroForm, plus, times, minus, constantForm
 use Rattle.theory.specs.Packs.{Claim, Atom}
 use Rattle.theory.specs.Residuals.{weighted as weightedForm, claimForm, combined, residualNumbers}
 use Rattle.tables.specs.Tables.{argument}
-use Rattle.certificates.proofs.WeightedSums.{sumBelow, sum-same, sum-none, sum-first, own, weightedSum}
+use Rattle.residuals.proofs.WeightedSums.{sumBelow, sum-same, sum-none, sum-first, own, weightedSum}
 
 -- at place 0 the constant, at place i + 1 the coefficient of the variable at place i, zeros after the last
 abbrev pub formNumber : List Bytes → Form → ℕ → ℤ

@@ -9,6 +9,9 @@ use Rattle.groundwork.proofs.Truth.{by-truth, eqb-equal, eqb-unequal, eqb-diffe
 use Rattle.groundwork.proofs.Difference.{diff-eq, to-diff, by-diff₃}
 use Rattle.groundwork.proofs.Ring.{*ℤ-distrib-left, *ℤ-assoc, -ℤ-middle}
 
+pub same-place : (f : ℕ → ℤ) (a b : ℕ) → a ≡ b → f a ≡ f b
+same-place f a b e = ap f e
+
 unfoldable pub sumBelow : (ℕ → ℤ) → ℕ → ℤ
 sumBelow f zero = pos 0
 sumBelow f (suc n) = sumBelow f n +ℤ f n
