@@ -16,7 +16,7 @@ use Rattle.theory.specs.Packs.{Claim, Atom, atomKey, claimsOn, claimsOnAll, noC
 use Rattle.theory.specs.Residuals.{weighted, claimForm, subgoalForms}
 use Rattle.tables.specs.Tables.{slotsOf, SafeSlots, ClaimAt, noAtom, SlotStands}
 use Rattle.tables.proofs.SlotCounts.{slots-of-same, slots-of-most, slots-of-others}
-use Rattle.atoms.specs.Ends.{SlotsAdded}
+use Rattle.rules.specs.Ends.{SlotsAdded}
 
 -- what holds of the places below a, and of the next b, holds below a + b
 pub below-sum : (P : ℕ → Type 0) (a b : ℕ) → ((k : ℕ) → k < a → P k) → ((j : ℕ) → j < b → P (a + j)) → (k : ℕ) → k < a + b → P k

@@ -7,7 +7,7 @@ use borrow.Author.Count.{below-more}
 use lib.ListN.{length, getD, set, length-set}
 use lib.Seq.{getD-set-same, getD-set-other}
 use Rattle.tables.specs.Tables.{claimPlace}
-use Rattle.atoms.specs.Ends.{SlotsAdded}
+use Rattle.rules.specs.Ends.{SlotsAdded}
 
 module _ (slots₀ : List ℕ) (from predicate subgoal : ℕ) where
   pub slots-none : SlotsAdded slots₀ from predicate 0 subgoal slots₀

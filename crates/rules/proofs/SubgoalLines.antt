@@ -36,14 +36,15 @@ use Rattle.tables.specs.Faults.{numberOf, closingNumber}
 use Rattle.tables.specs.Tables.{Tables, tables, SafeRows, AtomStands, noAtom, subgoalAt, SlotStands, RuleStands, Holds, Safe}
 use Rattle.tables.specs.Lines.{OldPredicate, Passed, at, ClosedFor}
 use Rattle.tables.proofs.Outcomes.{line-number}
+use Rattle.atoms.specs.Fields.{subgoalAtom, FieldTerm}
 use Rattle.atoms.proofs.StatedAtoms.{subgoal-next}
-use Rattle.atoms.specs.Fields.{subgoalAtom, FieldTerm, ProgressSubgoal}
-use Rattle.atoms.specs.Ends.{withSubgoal, isPast, SlotsAdded, ClosesB}
 use Rattle.atoms.proofs.TermFields.{t-read}
 use Rattle.atoms.proofs.TermRows.{atom-over-more, terms-begin, term-field}
-use Rattle.atoms.proofs.Ends.{limits-kept, limit-broken}
-use Rattle.atoms.proofs.RuleSlots.{below-sum, claims-more, slot-before, slot-after, slots-safe}
 use Rattle.atoms.proofs.AtomLines.{atom-limit, atom-fault, count-terms, few-terms, Finished, finished}
+use Rattle.rules.specs.Subgoals.{ProgressSubgoal}
+use Rattle.rules.specs.Ends.{withSubgoal, isPast, SlotsAdded, ClosesB}
+use Rattle.rules.proofs.Ends.{limits-kept, limit-broken}
+use Rattle.rules.proofs.RuleSlots.{below-sum, claims-more, slot-before, slot-after, slots-safe}
 
 -- a rule is there
 ruleful : (p : Pack) → mayStand p B ≡ true → p .rules ≡ [] → ⊥

@@ -1,10 +1,10 @@
--- `atoms::add_slots` meets its contract. Assumes nothing.
+-- `rules::add_slots` meets its contract. Assumes nothing.
 use Prim.Native.Nat.{_-_, _≤_}
 use borrow.Author.Needs.{needs}
-use Rattle.atoms.specs.Ends.{SlotsAdded}
-use Rattle.atoms.proofs.AddedSlots.{slots-none, slots-more, slots-all}
-use Rattle.atoms.proofs.add_slots.Statement.{statement}
-use Rattle.atoms.proofs.add_slots.Tie as tie
+use Rattle.rules.specs.Ends.{SlotsAdded}
+use Rattle.rules.proofs.AddedSlots.{slots-none, slots-more, slots-all}
+use Rattle.rules.proofs.add_slots.Statement.{statement}
+use Rattle.rules.proofs.add_slots.Tie as tie
 
 abbrev Inv-loop : tie.InvT-loop
 Inv-loop slots₀ from predicate count subgoal j₀ slots j = (j ≤ count) × SlotsAdded slots₀ from predicate j subgoal slots

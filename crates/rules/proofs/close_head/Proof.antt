@@ -1,8 +1,8 @@
--- `atoms::close_head` meets its contract. Assumes nothing.
+-- `rules::close_head` meets its contract. Assumes nothing.
 use borrow.Author.Needs.{needs}
-use Rattle.atoms.proofs.Ends.{head-refused, head-done}
-use Rattle.atoms.proofs.close_head.Statement.{statement}
-use Rattle.atoms.proofs.close_head.Tie as tie
+use Rattle.rules.proofs.Ends.{head-refused, head-done}
+use Rattle.rules.proofs.close_head.Statement.{statement}
+use Rattle.rules.proofs.close_head.Tie as tie
 
 returns : tie.Need-returns
 returns c = search (needs, head-refused)

@@ -1,10 +1,10 @@
--- `atoms::close_subgoal` meets its contract. Assumes nothing.
+-- `rules::close_subgoal` meets its contract. Assumes nothing.
 use Prim.Native.Nat.{_<_}
 use native.Mathlib.Omega.{arith}
 use borrow.Author.Needs.{needs}
-use Rattle.atoms.proofs.Ends.{room-left, subgoal-refused, subgoal-done}
-use Rattle.atoms.proofs.close_subgoal.Statement.{statement}
-use Rattle.atoms.proofs.close_subgoal.Tie as tie
+use Rattle.rules.proofs.Ends.{room-left, subgoal-refused, subgoal-done}
+use Rattle.rules.proofs.close_subgoal.Statement.{statement}
+use Rattle.rules.proofs.close_subgoal.Tie as tie
 
 returns : tie.Need-returns
 returns c = search (needs, subgoal-refused)

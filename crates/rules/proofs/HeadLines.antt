@@ -29,11 +29,11 @@ use Rattle.tables.specs.Faults.{numberOf}
 use Rattle.tables.specs.Tables.{Tables, tables, slotsOf, SafeRows, RuleStands, Holds, Safe}
 use Rattle.tables.specs.Lines.{OldPredicate, Passed, at, ClosedFor}
 use Rattle.tables.proofs.Outcomes.{line-number}
 use Rattle.atoms.specs.Fields.{FieldTerm, ProgressTerms}
-use Rattle.atoms.specs.Ends.{withHead, isPast, ClosesH}
 use Rattle.atoms.proofs.TermRows.{terms-begin, term-field}
-use Rattle.atoms.proofs.Ends.{limits-kept, limit-broken}
 use Rattle.atoms.proofs.AtomLines.{atom-limit, atom-fault, count-terms, few-terms, Finished, finished}
+use Rattle.rules.specs.Ends.{withHead, isPast, ClosesH}
+use Rattle.rules.proofs.Ends.{limits-kept, limit-broken}
 
 pub h-begin : (fs : List Bytes) (variables rows : List ℕ) → length variables ≡ 64 → ProgressTerms 0 [] fs 0 0 variables rows rows
 h-begin fs variables rows size = terms-begin 0 [] fs rows (record { size = size; few = omega arith; words = λ i h. absurd (omega arith); proper = λ i h. absurd (omega arith); once = once-none }) refl

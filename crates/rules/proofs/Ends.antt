@@ -14,7 +14,7 @@ use Rattle.tables.specs.declared.Fault.the-variants.{CountLimit}
 use Rattle.tables.specs.declared.Closing.{Closing}
 use Rattle.tables.specs.declared.Closing.the-variants.{Done, Misclosed}
 use Rattle.tables.proofs.Outcomes.{line-passes, line-fails}
-use Rattle.atoms.specs.Ends.{withHead, withSubgoal, isPast, ClosesH, SlotsAdded, ClosesB}
+use Rattle.rules.specs.Ends.{withHead, withSubgoal, isPast, ClosesH, SlotsAdded, ClosesB}
 
 -- what is within both limits, and what the test and the answer tell of it
 pub record Within (limit n many : ℕ) : Type 0 where
