@@ -1,4 +1,4 @@
--- `H` and `B` lines: their faults from the terms on, and what their terms leave when all are read.
+-- Lines that state an atom: their faults from the terms on, and what their terms leave when all are read.
 use mathlib.Core.Path.{_≡_, sym, _∙_, ap}
 use mathlib.Core.Bool.{Bool, true, cond}
 use mathlib.Core.List.{List, []}

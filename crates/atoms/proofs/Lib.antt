@@ -1,12 +1,6 @@
--- A field of an `H` or a `B` line.
+-- Which atom a line states; a field of such a line.
 pub mod StatedAtoms
 pub mod TermFields
 pub mod TermRows
--- The ends of the lines.
-pub mod Ends
-pub mod AddedSlots
-pub mod RuleSlots
--- What the lines say, and the laws that callers use.
+-- The laws that callers use of a line's terms.
 pub mod AtomLines
-pub mod HeadLines
-pub mod SubgoalLines

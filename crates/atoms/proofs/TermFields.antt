@@ -1,4 +1,4 @@
--- A field of an `H` or a `B` line: a term, into the row of its argument.
+-- A field of a line that states an atom: a term, into the row of its argument.
 use mathlib.Core.Path.{_≡_, refl, sym, _∙_, ap}
 use mathlib.Core.Bool.{true, false}
 use mathlib.Core.List.{List, []}

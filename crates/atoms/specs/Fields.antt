@@ -1,24 +1,23 @@
--- The fields of `H` and `B` lines: whether each is a term, and the row that it leaves; and what those read so far have left.
+-- The fields of lines that state an atom: whether each is a term, and the row that it leaves; and what those read so far have left.
 use mathlib.Core.Path.{_≡_}
 use mathlib.Core.Bool.{true, cond}
 use mathlib.Core.List.{List}
 use Prim.Native.Nat.{ℕ, suc, _≤_, _<_}
 use lib.Dec.{ltb}
-use lib.ListN.{length, getD, set, take, drop}
+use lib.ListN.{length, getD, set, take}
 use Rattle.theory.specs.declared.Letter.{Letter}
 use Rattle.theory.specs.declared.Letter.the-variants.{P, C, H, B, M, E, NoLetter}
-use Rattle.theory.specs.Text.{Bytes, fieldsOf}
+use Rattle.theory.specs.Text.{Bytes}
 use Rattle.theory.specs.Terms.{allVariables}
-use Rattle.theory.specs.Written.{termsFrom, Written}
-use Rattle.theory.specs.Residuals.{numbered, ruleVariables}
-use Rattle.theory.specs.Faults.{isTerm, lastRule}
+use Rattle.theory.specs.Written.{termsFrom}
+use Rattle.theory.specs.Residuals.{numbered}
+use Rattle.theory.specs.Faults.{isTerm}
 use Rattle.terms.specs.Constants.{ConstantRead}
 use Rattle.terms.specs.Rows.{Counted, Holds as HoldsVariables}
 use Rattle.tables.specs.declared.Fault.the-variants.{NoTerm}
 use Rattle.tables.specs.declared.Fielding.{Fielding}
 use Rattle.tables.specs.declared.Fielding.the-variants.{Read, Misread}
-use Rattle.tables.specs.declared.State.{State}
-use Rattle.tables.specs.Tables.{Tables, rowPlace, SafeRows, argument, RowStands}
+use Rattle.tables.specs.Tables.{rowPlace, SafeRows, argument, RowStands}
 use Rattle.tables.specs.Lines.{at}
 
 -- which atom of the rule the next subgoal is, or the eighth one's rows for a ninth
@@ -62,8 +61,3 @@ pub record ProgressTerms (atom : ℕ) (seen fs : List Bytes) (index many : ℕ) 
   pub holds : many ≤ 16 → HoldsVariables variables (known seen fs index)
   pub row : many ≤ 16 → (k : ℕ) → k < index → RowStands rows (rowPlace atom k) (known seen fs index) (argument (termsFrom fs) k)
   pub before : (i : ℕ) → i < rowPlace atom 0 → getD rows i 0 ≡ getD rows₀ i 0
-
--- those of a subgoal's line, after the rule's variables so far, where the tables were t at its beginning; of a ninth subgoal, which is refused when its line is done, only that they are terms
-pub record ProgressSubgoal (line : Bytes) (w : Written) (s : State) (t : Tables) (index many : ℕ) (variables rows : List ℕ) : Type 0 where
-  pub terms : s .subgoals < 8 → ProgressTerms (suc (s .subgoals)) (ruleVariables (lastRule (w .pack) .head) (lastRule (w .pack) .subgoals)) (drop 2 (fieldsOf line)) index many variables (t .rows) rows
-  pub good : (i : ℕ) → i < index → isTerm (at (drop 2 (fieldsOf line)) i) ≡ true

@@ -13,8 +13,8 @@ use Rattle.tables.specs.declared.Fault.the-variants.{Unjustified}
 use Rattle.tables.specs.declared.Closing.the-variants.{Done, Misclosed}
 use Rattle.tables.specs.Tables.{claimPlace, SafeClaims, NoWeights}
 use Rattle.tables.proofs.Outcomes.{done-misclosed}
-use Rattle.certificates.specs.Weights.{largest, HeadWeighed}
-use Rattle.certificates.specs.Sums.{width, Summable, SumsTo, Judged}
+use Rattle.residuals.specs.Sums.{width, largest, Summable, SumsTo, Judged}
+use Rattle.certificates.specs.Weights.{HeadWeighed}
 use Rattle.certificates.specs.Multipliers.{ClosesM, withMultipliers}
 
 pub head-summable : {claims : List ℤ} {place : ℕ} {before after : List ℤ} {rows : List ℕ} → SafeClaims claims → Summable before rows → HeadWeighed claims place before after → Summable after rows

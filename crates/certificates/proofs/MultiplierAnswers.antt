@@ -27,9 +27,9 @@ use Rattle.tables.specs.declared.Closing.the-variants.{Done, Misclosed}
 use Rattle.tables.specs.Tables.{Tables, claimPlace, predicateAt, ClaimAt, RuleStands, Holds, Safe}
 use Rattle.tables.specs.Faults.{numberOf, closingNumber}
 use Rattle.tables.specs.Lines.{Passed}
-use Rattle.certificates.specs.Sums.{width, atomsSum, numberAt, formNumbers, SumsTo}
+use Rattle.residuals.specs.Sums.{width, atomsSum, numberAt, formNumbers, SumsTo}
+use Rattle.residuals.proofs.FormNumbers.{residual-length, residual-number}
 use Rattle.certificates.specs.Multipliers.{ProgressM, ClosesM}
-use Rattle.certificates.proofs.FormNumbers.{residual-length, residual-number}
 use Rattle.certificates.proofs.LineResiduals.{line-number}
 
 form-number : (form : Form) (i : ℕ) → getD (formNumbers form) i (pos 0) ≡ numberAt form i

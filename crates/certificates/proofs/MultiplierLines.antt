@@ -31,11 +31,11 @@ use Rattle.tables.specs.Tables.{Tables, Holds, Safe, NoWeights}
 use Rattle.tables.specs.Faults.{numberOf}
 use Rattle.tables.specs.Lines.{at, Passed, ClosedFor}
 use Rattle.tables.proofs.Outcomes.{field-passes, field-fails}
-use Rattle.certificates.specs.Weights.{largest, RoomFor, Weighs}
-use Rattle.certificates.specs.Sums.{width, formNumbers, SumsTo, Summable}
+use Rattle.residuals.specs.Sums.{width, formNumbers, SumsTo, largest, Summable}
+use Rattle.residuals.proofs.WeightedSums.{same-place}
+use Rattle.certificates.specs.Weights.{RoomFor, Weighs}
 use Rattle.certificates.specs.Multipliers.{FieldM, weightAfter, ProgressM, ClosesM}
 use Rattle.certificates.proofs.HeadWeights.{head-summable}
-use Rattle.certificates.proofs.LineResiduals.{same-place}
 use Rattle.certificates.proofs.MultiplierAnswers.{has-rule, sum-numbers, residual-answer}
 use Rattle.certificates.proofs.MultiplierTables.{m-holds}
 use Rattle.certificates.proofs.WeightBounds.{weight-small, slots-few, slots-before}

@@ -15,7 +15,8 @@ use Rattle.groundwork.proofs.Magnitude.{natAbs-sub, natAbs-mul}
 use Rattle.groundwork.proofs.Truth.{by-truth, ltb-lt, ltb-ge}
 use Rattle.groundwork.proofs.Stretches.{Stored, elements, zeros, stored-front}
 use Rattle.tables.specs.Tables.{SafeClaims, NoWeights}
-use Rattle.certificates.specs.Weights.{largest, RoomFor, Weighs}
+use Rattle.residuals.specs.Sums.{largest}
+use Rattle.certificates.specs.Weights.{RoomFor, Weighs}
 use Rattle.widths.proofs.Kept.{keptAt, small-fits, small-kept}
 
 pub product-small : (m x : ℤ) → natAbs m ≤ 9999 → natAbs x ≤ 9999 → natAbs (m *ℤ x) ≤ largest

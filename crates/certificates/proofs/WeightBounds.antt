@@ -16,7 +16,7 @@ use Rattle.theory.specs.Written.{multiplierFrom}
 use Rattle.theory.proofs.Reading.Spelling.{natural-within}
 use Rattle.tables.specs.Tables.{SafeClaims, SafeSlots, slotsOf}
 use Rattle.tables.specs.Lines.{at}
-use Rattle.certificates.specs.Weights.{largest}
+use Rattle.residuals.specs.Sums.{largest}
 use Rattle.certificates.specs.Multipliers.{weightAfter}
 use Rattle.certificates.proofs.Weighing.{product-small}
 

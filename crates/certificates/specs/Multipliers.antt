@@ -22,8 +22,8 @@ use Rattle.tables.specs.declared.Closing.{Closing}
 use Rattle.tables.specs.declared.Closing.the-variants.{Done, Misclosed}
 use Rattle.tables.specs.Tables.{claimPlace, NoWeights}
 use Rattle.tables.specs.Lines.{at}
+use Rattle.residuals.specs.Sums.{width, numberAt, SumsTo}
 use Rattle.certificates.specs.Weights.{Weighs, HeadWeighed}
-use Rattle.certificates.specs.Sums.{width, numberAt, SumsTo}
 
 pub record FieldM (index : ℕ) (field : Bytes) (many : ℕ) (claims : List ℤ) (slots : List ℕ) (weights₀ : List ℤ) (r : Fielding) (weights : List ℤ) : Type 0 where
   pub answer : r ≡ cond (isMultiplier field) (Read many) (Misread Number)

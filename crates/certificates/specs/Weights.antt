@@ -4,10 +4,7 @@ use mathlib.Core.List.{List}
 use Prim.Native.Nat.{ℕ, _+_, _*_, _≤_, _<_}
 use lib.IntN.{ℤ, pos, natAbs, _-ℤ_, _*ℤ_}
 use lib.ListN.{length, getD}
-
--- the largest product of a multiplier and a number of a claim; sixteen of them are below 2^31
-abbrev pub largest : ℕ
-largest = 99980001
+use Rattle.residuals.specs.Sums.{largest}
 
 -- an atom's weights have room for one claim more, of the sixteen that there can be
 pub record RoomFor (weights : List ℤ) (atom : ℕ) : Type 0 where

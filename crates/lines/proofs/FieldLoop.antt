@@ -29,8 +29,8 @@ use Rattle.declarations.proofs.PredicateLines.{p-begin, p-field, p-count, p-mis
 use Rattle.declarations.proofs.ClaimLines.{c-begin, c-field, c-count, c-fault}
 use Rattle.atoms.specs.Fields.{FieldTerm}
 use Rattle.atoms.proofs.TermFields.{t-misread, t-high}
-use Rattle.atoms.proofs.HeadLines.{h-begin, h-field, h-fault}
-use Rattle.atoms.proofs.SubgoalLines.{b-begin, b-field, b-fault}
+use Rattle.rules.proofs.HeadLines.{h-begin, h-field, h-fault}
+use Rattle.rules.proofs.SubgoalLines.{b-begin, b-field, b-fault}
 use Rattle.certificates.proofs.MultiplierLines.{m-begin, m-field, m-count, m-room, m-fault}
 use Rattle.lines.specs.Steps.{Stores, stores, FieldNeeds, FieldLeaves, FieldReady, FieldDone, variablesBefore, Progress}
 use Rattle.lines.specs.Between.{SafeStores, Untouched, Weighed, FieldsRead}

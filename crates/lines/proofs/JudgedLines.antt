@@ -17,7 +17,7 @@ use Rattle.tables.specs.Faults.{numberOf}
 use Rattle.tables.specs.Tables.{Tables, Holds}
 use Rattle.tables.proofs.Outcomes.{done-misclosed, misclosed-fault}
 use Rattle.tables.proofs.Outlines.{outline}
-use Rattle.certificates.specs.Sums.{Summable}
+use Rattle.residuals.specs.Sums.{Summable}
 use Rattle.opening.specs.Opening.{Opens}
 use Rattle.lines.specs.Between.{LineJudged}
 

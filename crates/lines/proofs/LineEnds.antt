@@ -18,13 +18,13 @@ use Rattle.tables.specs.declared.Closing.the-variants.{Done, Misclosed}
 use Rattle.tables.specs.Tables.{Tables, tables, Holds, NoWeights, SafeRows, Safe}
 use Rattle.tables.specs.Lines.{skipped, most, Passed, ClosedFor}
 use Rattle.tables.proofs.Outcomes.{done-misclosed}
-use Rattle.certificates.specs.Sums.{Summable}
+use Rattle.residuals.specs.Sums.{Summable}
 use Rattle.certificates.specs.Multipliers.{ProgressM, ClosesM}
 use Rattle.declarations.specs.Fields.{ProgressP}
 use Rattle.declarations.proofs.PredicateLines.{p-limit, p-close, p-safe}
 use Rattle.declarations.proofs.ClaimLines.{c-limit, c-close, c-safe}
-use Rattle.atoms.proofs.HeadLines.{h-limit, h-close, h-safe}
-use Rattle.atoms.proofs.SubgoalLines.{b-limit, b-close, b-safe}
+use Rattle.rules.proofs.HeadLines.{h-limit, h-close, h-safe}
+use Rattle.rules.proofs.SubgoalLines.{b-limit, b-close, b-safe}
 use Rattle.certificates.proofs.MultiplierLines.{m-summable, m-close, m-left, m-left-summable, m-cleared, m-safe}
 use Rattle.lines.specs.Steps.{Stores, Tabled, tabled, CloseNeeds, CloseLeaves, Progress}
 use Rattle.lines.specs.Between.{FieldsRead, LineJudged}

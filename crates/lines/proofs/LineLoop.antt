@@ -22,7 +22,7 @@ use Rattle.tables.specs.declared.Closing.{Closing}
 use Rattle.tables.specs.declared.Closing.the-variants.{Done, Misclosed}
 use Rattle.tables.specs.Faults.{numberOf, closingNumber}
 use Rattle.tables.specs.Tables.{Tables, NoWeights, Safe}
-use Rattle.certificates.specs.Sums.{width, SumsTo, formNumbers}
+use Rattle.residuals.specs.Sums.{width, SumsTo, formNumbers}
 use Rattle.lines.specs.declared.Ending.the-variants.{AllPass, Stopped}
 use Rattle.lines.specs.Between.{LineJudged, Reached, LinesRead}
 use Rattle.lines.specs.LineLoading.{faultNumbers, faultResidue, LinesLoadedFor, LoadsLines}

@@ -25,7 +25,7 @@ use Rattle.tables.specs.Tables.{Tables, Holds}
 use Rattle.tables.specs.Lines.{Passed, SafeOpened}
 use Rattle.tables.proofs.Outlines.{outline}
 use Rattle.opening.specs.Opening.{Opens}
-use Rattle.certificates.specs.Sums.{width, Summable, SumsTo}
+use Rattle.residuals.specs.Sums.{width, Summable, SumsTo}
 use Rattle.lines.specs.declared.Ending.the-variants.{Stopped}
 use Rattle.lines.specs.Steps.{Stores, FieldReady, FieldDone, Skips, variablesBefore, Tabled, CloseReady, CloseDone}
 use Rattle.lines.specs.Between.{FieldsRead, LineJudged, LinesRead}

@@ -19,7 +19,7 @@ use Rattle.tables.specs.declared.Closing.{Closing}
 use Rattle.tables.specs.declared.Closing.the-variants.{Done, Misclosed}
 use Rattle.tables.specs.Tables.{Tables, Holds, SafeRows, NoWeights, Safe}
 use Rattle.tables.specs.Lines.{Passed, ClosedFor}
-use Rattle.certificates.specs.Sums.{width, Summable, SumsTo, formNumbers}
+use Rattle.residuals.specs.Sums.{width, Summable, SumsTo, formNumbers}
 use Rattle.certificates.specs.Multipliers.{ProgressM}
 use Rattle.lines.specs.Steps.{Stores, Progress}
 

@@ -15,7 +15,7 @@ use Rattle.tables.specs.declared.Fault.{Fault}
 use Rattle.tables.specs.declared.Fault.the-variants.{Unjustified}
 use Rattle.tables.specs.Faults.{numberOf}
 use Rattle.tables.specs.Tables.{Tables, tables, Holds, SafeState, Safe}
-use Rattle.certificates.specs.Sums.{formNumbers}
+use Rattle.residuals.specs.Sums.{formNumbers}
 use Rattle.lines.specs.declared.Ending.the-variants.{AllPass, Stopped}
 use Rattle.lines.specs.declared.LoadedLines.{LoadedLines}
 

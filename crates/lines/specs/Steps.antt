@@ -19,10 +19,11 @@ use Rattle.tables.specs.declared.Closing.the-variants.{Done, Misclosed}
 use Rattle.tables.specs.Tables.{Tables, SafeSignatures, SafeClaims}
 use Rattle.declarations.specs.Fields.{FieldP, FieldC, ProgressP, ProgressC}
 use Rattle.declarations.specs.Ends.{ClosesP, ClosesC}
-use Rattle.atoms.specs.Fields.{FieldTerm, subgoalAtom, ProgressTerms, ProgressSubgoal}
-use Rattle.atoms.specs.Ends.{ClosesH, ClosesB}
+use Rattle.atoms.specs.Fields.{FieldTerm, subgoalAtom, ProgressTerms}
+use Rattle.rules.specs.Subgoals.{ProgressSubgoal}
+use Rattle.rules.specs.Ends.{ClosesH, ClosesB}
+use Rattle.residuals.specs.Sums.{Summable}
 use Rattle.certificates.specs.Weights.{RoomFor}
-use Rattle.certificates.specs.Sums.{Summable}
 use Rattle.certificates.specs.Multipliers.{FieldM, ProgressM, ClosesM}
 
 -- ## Fields

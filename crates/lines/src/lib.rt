@@ -101,8 +101,8 @@ fn close(
     match letter {
         Letter::P => declarations::close_predicate(o, state, small, names, signatures),
         Letter::C => declarations::close_claim(o, state, row, signatures, claims),
-        Letter::H => atoms::close_head(o, state, many),
-        Letter::B => atoms::close_subgoal(o, state, many, signatures, slots),
+        Letter::H => rules::close_head(o, state, many),
+        Letter::B => rules::close_subgoal(o, state, many, signatures, slots),
         Letter::M => certificates::close_multipliers(state, claims, weights, rows),
         Letter::E => close_end(state),
         Letter::NoLetter => Closing::Misclosed(Fault::Letter),
@@ -255,7 +255,7 @@ pub fn load_lines(
             }
             Closing::Misclosed(fault) => {
                 ending = Ending::Stopped(fault);
-                residual = certificates::residual(&weights, &rows, state.subgoals, state.variables);
+                residual = residuals::residual(&weights, &rows, state.subgoals, state.variables);
                 break 'lines;
             }
         }

@@ -20,7 +20,7 @@ use Rattle.tables.specs.declared.State.{State}
 use Rattle.tables.specs.declared.Fault.{Fault}
 use Rattle.tables.specs.Faults.{numberOf}
 use Rattle.tables.specs.Tables.{Tables, Holds}
-use Rattle.certificates.specs.Sums.{formNumbers}
+use Rattle.residuals.specs.Sums.{formNumbers}
 use Rattle.lines.specs.declared.Ending.the-variants.{AllPass, Stopped}
 use Rattle.lines.specs.declared.LoadedLines.{LoadedLines}
 use Rattle.lines.specs.LineLoading.{faultNumbers, LinesLoadedFor, LoadsLines}

@@ -12,7 +12,7 @@ use Rattle.theory.specs.Answers.{numbersOf}
 use Rattle.forms.specs.declared.Form.{Form}
 use Rattle.tables.specs.declared.State.{State}
 use Rattle.tables.specs.Tables.{Tables}
-use Rattle.certificates.specs.Sums.{formNumbers}
+use Rattle.residuals.specs.Sums.{formNumbers}
 use Rattle.lines.specs.LineLoading.{unruled, HoldsWith}
 use Rattle.packs.specs.declared.Loaded.{Loaded}
 
