@@ -3,7 +3,10 @@
 #[derive(Default, PartialEq, Debug)]
 pub struct Contents {
     pub bytes: usize,
-    /// Of heads and subgoals: symbols with their arities, and variables.
+    /// Facts, and the claims before them.
+    pub facts: usize,
+    pub claims: usize,
+    /// Of facts, heads and subgoals: symbols with their arities, and variables.
     pub symbols: usize,
     pub variables: usize,
     pub variable_bytes: usize,
@@ -21,7 +24,11 @@ pub fn contents(text: &[u8]) -> Contents {
     for line in text.split(|byte| *byte == 10) {
         let fields: Vec<&[u8]> = line.split(|byte| *byte == b',').collect();
         match fields[0] {
-            b"H" | b"B" => fields[2..].iter().for_each(|term| found.add_term(term)),
+            b"C" => found.claims += 1,
+            b"G" | b"H" | b"B" => {
+                found.facts += usize::from(fields[0] == b"G");
+                fields[2..].iter().for_each(|term| found.add_term(term));
+            }
             b"M" => found.add_multipliers(&fields[1..]),
             _ => {}
         }

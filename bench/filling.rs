@@ -1,12 +1,12 @@
-//! Fills a pack with rules up to an exact number of bytes.
+//! Fills a pack with rules or facts up to an exact number of bytes.
 
 use crate::generate::text::{heads_of_size, shortest_head, text_of};
 
 /// The longest pack that document 01 allows.
 pub const FULL_BYTES: usize = 32_768;
 
-/// A pack of exactly so many bytes: the opening lines, then rules as long as `next_rule` has one for the room that is
-/// left, then heads of a predicate `pad` without claims for the rest.
+/// A pack of exactly so many bytes: the opening lines, then rules, or facts, as long as `next_rule` has one for the room
+/// that is left, then heads of a predicate `pad` without claims for the rest.
 pub fn text_of_rules(
     opening: &[String],
     bytes: usize,

@@ -1,6 +1,7 @@
 //! The kinds of packs that are timed. Every pack is made from a fixed seed, so all runs have the same ones.
 
 use crate::contents::{contents, Contents};
+use crate::facts::pack_of_facts;
 use crate::filling::FULL_BYTES;
 use crate::multipliers::pack_of_multipliers;
 use crate::rules::{pack_of_size, small_packs};
@@ -63,6 +64,7 @@ pub fn kinds() -> Vec<Kind> {
             "walk,3,1,2,-",
             is_sparse,
         ),
+        Kind::one("facts, with four claims on their predicate", pack_of_facts(), "link,1,-,2,2", is_of_facts),
         Kind {
             name: "1,000 different packs of 400 to 500 bytes".to_string(),
             unit: Unit::Pack,
@@ -130,6 +132,12 @@ fn is_dense(samples: &[Sample]) -> bool {
 fn is_sparse(samples: &[Sample]) -> bool {
     let made_of = of_full_pack(samples);
     has_long_lines(&made_of) && made_of.zeros + made_of.multiplier_lines == made_of.multipliers
+}
+
+/// Facts nearly all of it: at most 80 bytes to each.
+fn is_of_facts(samples: &[Sample]) -> bool {
+    let made_of = of_full_pack(samples);
+    made_of.facts * 80 > FULL_BYTES && made_of.claims == 4 && made_of.variables == 0
 }
 
 fn are_small(samples: &[Sample]) -> bool {

@@ -11,6 +11,7 @@ mod calls;
 mod clock;
 mod compare;
 mod contents;
+mod facts;
 mod filling;
 #[path = "../fuzz/generate.rs"]
 mod generate;

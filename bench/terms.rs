@@ -66,7 +66,7 @@ fn atom(random: &mut Random, words: &Words, start: &str, room: usize) -> Option<
 
 /// A term of at most so many bytes and not many less: symbols and leaves as they come while there is room for what the
 /// symbols open, then leaves.
-fn term(random: &mut Random, words: &Words, bytes: usize) -> String {
+pub fn term(random: &mut Random, words: &Words, bytes: usize) -> String {
     let longest_leaf = words.leaves.iter().map(|leaf| leaf.len() + 1).max().unwrap_or(0);
     let mut tokens: Vec<String> = Vec::new();
     let (mut open, mut taken) = (1, 0);

@@ -16,6 +16,15 @@ pub fn inequality(numbers: &[i64]) -> String {
     format!("{} >= {}", left.written(), right.written())
 }
 
+/// Both sides of the inequality with these sizes put in, none of them below 0.
+pub fn sides(numbers: &[i64], sizes: &[i64]) -> (i64, i64) {
+    let arguments = numbers[1..].iter().zip(sizes).map(|(number, size)| number * size);
+    arguments.chain([numbers[0]]).fold((0, 0), |(left, right), part| match part {
+        1.. => (left + part, right),
+        _ => (left, right - part),
+    })
+}
+
 /// The size of an argument, counted from 1.
 pub fn argument_name(argument: usize) -> String {
     format!("s{argument}")
@@ -44,6 +53,13 @@ mod tests {
         assert_eq!(inequality(&[-1, 1]), "s1 >= 1");
         assert_eq!(inequality(&[3, 1, -1]), "s1 + 3 >= s2");
         assert_eq!(inequality(&[-3, 1, -1]), "s1 >= s2 + 3");
+    }
+
+    #[test]
+    fn the_sides_of_a_claim_take_the_sizes_put_in() {
+        assert_eq!(sides(&[-1, 1, -1], &[1, 1]), (1, 2));
+        assert_eq!(sides(&[3, 2, 0, -1], &[4, 9, 5]), (11, 5));
+        assert_eq!(sides(&[-1], &[]), (0, 1));
     }
 
     #[test]

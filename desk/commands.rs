@@ -23,10 +23,11 @@ pub const COMMANDS: [Command; 3] = [
         most: 1,
         about: "check a pack; show its claims, or what is wrong and what to mend",
         help: "\
-Checks the pack in the file PACK (- reads standard input). Accepted: its counts, and each
-claim as an inequality of argument sizes s1, s2, .. Refused: the number, the line with a mark
-under what is at fault, what is wrong and what to mend; for a claim that is not justified, the
-rule as a clause and the working that leads to the residual.",
+Checks the pack in the file PACK (- reads standard input). Accepted: its counts, how many facts
+come with it, and each claim as an inequality of argument sizes s1, s2, .. Refused: the number,
+the line with a mark under what is at fault, what is wrong and what to mend; for a claim that is
+not justified, the rule as a clause and the working that leads to the residual; for a fact that
+fails a claim, its sizes and the claim with them put in.",
         run: check::run,
     },
     Command {

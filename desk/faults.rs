@@ -3,6 +3,7 @@
 
 mod bytes;
 mod counts;
+mod facts;
 mod fields;
 mod names;
 mod numbers;
@@ -10,6 +11,7 @@ mod order;
 mod terms;
 mod text;
 
+use crate::facts::FactJudgement;
 use crate::pack::{fields_of, Pack};
 use std::ops::Range;
 pub use text::{of_text, LastLine, Length};
@@ -19,11 +21,13 @@ pub struct Fault {
     pub mark: Range<usize>,
     pub wrong: String,
     pub mend: String,
+    /// How a fact that fails a claim is judged.
+    pub judgement: Option<FactJudgement>,
 }
 
 impl Fault {
     fn at(mark: Range<usize>, wrong: impl Into<String>, mend: impl Into<String>) -> Option<Fault> {
-        Some(Fault { mark, wrong: wrong.into(), mend: mend.into() })
+        Some(Fault { mark, wrong: wrong.into(), mend: mend.into(), judgement: None })
     }
 }
 
@@ -38,6 +42,9 @@ pub fn of_line(number: u8, seen: &Pack, line: &[u8]) -> Option<Fault> {
         10 => numbers::of_line(line),
         11 => terms::of_line(line),
         12 => counts::of_line(seen, line),
+        20 => facts::of_ruled_predicate(seen, line),
+        21 => facts::of_variables(seen, line),
+        22 => facts::of_claims(seen, line),
         _ => None,
     }
 }

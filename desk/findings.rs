@@ -1,6 +1,7 @@
 //! What a text says under its verdict: the pack as it is read, or the fault that the refusal names. What the desk finds
 //! is compared with the verdict; where it finds something else, that is a disagreement.
 
+use crate::facts::{self, FactJudgement};
 use crate::faults::{self, Fault, LastLine};
 use crate::input::Source;
 use crate::pack::{lines_of, Pack};
@@ -20,7 +21,13 @@ pub struct Refusal<'t> {
     pub quote: Option<Quote<'t>>,
     pub wrong: String,
     pub mend: String,
-    pub judgement: Option<Judgement<'t>>,
+    pub working: Option<Working<'t>>,
+}
+
+/// How a claim is judged that a rule does not justify (13), or those that a fact fails (22).
+pub enum Working<'t> {
+    Rule(Judgement<'t>),
+    Fact(FactJudgement),
 }
 
 /// A line with its number, none for a query or a term, and the bytes at fault.
@@ -34,7 +41,8 @@ impl<'t> Refusal<'t> {
     /// A line with its number, or a query or a term, which have none, refused for this fault.
     pub fn of(number: u8, line: Option<usize>, text: &'t [u8], fault: Fault) -> Refusal<'t> {
         let quote = Quote { number: line, text, mark: Some(fault.mark) };
-        Refusal { number, quote: Some(quote), wrong: fault.wrong, mend: fault.mend, judgement: None }
+        let working = fault.judgement.map(Working::Fact);
+        Refusal { number, quote: Some(quote), wrong: fault.wrong, mend: fault.mend, working }
     }
 }
 
@@ -67,13 +75,15 @@ pub fn examine<'t>(source: &'t Source, verdict: &Verdict) -> Result<Finding<'t>,
     }
 }
 
-/// Reads the first so many lines, which the library has passed.
+/// Reads the first so many lines, which the library has passed, and sees that their facts meet the claims.
 fn read_passed<'t>(lines: &[&'t [u8]], number: usize) -> Result<Pack<'t>, Disagreement> {
     let Some(passed) = lines.get(..number) else {
         return Disagreement::that(format!("The library speaks of line {number}; there are {}.", lines.len()));
     };
-    Pack::read(passed)
-        .or_else(|line| Disagreement::that(format!("The library passes line {line}; the desk cannot read it.")))
+    let pack = Pack::read(passed)
+        .or_else(|line| Disagreement::that(format!("The library passes line {line}; the desk cannot read it.")))?;
+    facts::compare(&pack)?;
+    Ok(pack)
 }
 
 /// The counts of lines, rules and `M` lines, and that the `E` line is the last.
@@ -97,7 +107,7 @@ fn unjustified<'t>(lines: &[&'t [u8]], line: usize, judgement: Judgement<'t>) ->
         quote: Some(Quote { number: Some(line), text, mark: Some(0..text.len()) }),
         wrong: judgement.wrong(),
         mend: judgement.mend(),
-        judgement: Some(judgement),
+        working: Some(Working::Rule(judgement)),
     }
 }
 
@@ -124,13 +134,13 @@ fn refused_text(source: &Source, number: u8) -> Result<Refusal<'_>, Disagreement
         let mark = (last_line == LastLine::EndMissing).then_some(text.len()..text.len() + 1);
         Quote { number: Some(lines.len()), text, mark }
     });
-    Ok(Refusal { number, quote, wrong: fault.wrong, mend: fault.mend, judgement: None })
+    Ok(Refusal { number, quote, wrong: fault.wrong, mend: fault.mend, working: None })
 }
 
 #[cfg(test)]
 mod tests {
     use super::*;
-    use crate::pack::tests::JOIN;
+    use crate::pack::tests::{JOIN, SORTER};
 
     const ACCEPTED: Verdict = Verdict::Accepted { lines: 11, rules: 2, multiplier_lines: 4 };
 
@@ -164,11 +174,20 @@ mod tests {
     }
 
     #[test]
+    fn a_fact_that_is_passed_and_fails_a_claim_is_a_disagreement() {
+        let text = b"P,k,1,G\nC,k,1,-1\nG,k,f/2 a/0 a/0\nH,k,a/0\n";
+        assert_eq!(status_of(text, Verdict::Refused { number: 22, line: 3 }), Status::Refused);
+        assert_eq!(status_of(text, Verdict::Refused { number: 8, line: 4 }), Status::Disagreement);
+    }
+
+    #[test]
     fn a_refusal_without_its_fault_is_a_disagreement() {
         for number in (0..=40).filter(|number| *number != 13) {
-            for line in 0..=12 {
-                let verdict = Verdict::Refused { number, line };
-                assert_eq!(status_of(JOIN, verdict), Status::Disagreement, "number {number}, line {line}");
+            for line in 0..=18 {
+                for text in [JOIN, SORTER] {
+                    let verdict = Verdict::Refused { number, line };
+                    assert_eq!(status_of(text, verdict), Status::Disagreement, "number {number}, line {line}");
+                }
             }
         }
     }

@@ -1,11 +1,12 @@
 //! A finding as JSON; docs/packdesk.1 says what the keys mean.
 
 use crate::claims::inequality;
-use crate::findings::Refusal;
+use crate::facts::{judge, FactJudgement, FailedClaim};
+use crate::findings::{Refusal, Working};
 use crate::forms::Form;
 use crate::input::Source;
 use crate::json::Json;
-use crate::pack::{Pack, Predicate};
+use crate::pack::{Fact, Pack, Predicate};
 use crate::residuals::Judgement;
 use crate::words::shown;
 use cerrundix::Verdict;
@@ -48,6 +49,19 @@ pub fn claims_json(pack: &Pack) -> Json {
     Json::List(pack.predicates.iter().flat_map(of_predicate).collect())
 }
 
+pub fn facts_json(pack: &Pack) -> Json {
+    let fact_json = |fact: &Fact| {
+        let sizes = judge(pack, &fact.atom).map(|judgement| judgement.sizes);
+        Json::object([
+            ("predicate", Json::text(pack.predicate_of(&fact.atom).indicator())),
+            ("line", Json::number(fact.line)),
+            ("fact", Json::text(fact.atom.usual())),
+            ("sizes", sizes.map_or(Json::Null, |sizes| Json::numbers(&sizes))),
+        ])
+    };
+    Json::List(pack.facts.iter().map(fact_json).collect())
+}
+
 pub fn refusal_json(refusal: &Refusal) -> Json {
     let quote = refusal.quote.as_ref();
     let mark = quote.and_then(|quote| quote.mark.as_ref());
@@ -60,8 +74,9 @@ pub fn refusal_json(refusal: &Refusal) -> Json {
         ("wrong", Json::text(&refusal.wrong)),
         ("mend", Json::text(&refusal.mend)),
     ]);
-    match &refusal.judgement {
-        Some(judgement) => json.with("judgement", judgement_json(judgement)),
+    match &refusal.working {
+        Some(Working::Rule(judgement)) => json.with("judgement", judgement_json(judgement)),
+        Some(Working::Fact(judgement)) => json.with("judgement", fact_judgement_json(judgement)),
         None => json,
     }
 }
@@ -87,6 +102,24 @@ fn judgement_json(judgement: &Judgement) -> Json {
         ("head_form", form(&judgement.head_form)),
         ("subgoal_claims", Json::List(subgoal_claims.collect())),
         ("residual", form(&judgement.residual)),
+    ])
+}
+
+fn fact_judgement_json(judgement: &FactJudgement) -> Json {
+    let failed_json = |failed: &FailedClaim| {
+        Json::object([
+            ("claim", Json::number(failed.claim)),
+            ("line", Json::number(failed.line)),
+            ("reads", Json::text(&failed.inequality)),
+            ("left", Json::number(failed.left)),
+            ("right", Json::number(failed.right)),
+        ])
+    };
+    Json::object([
+        ("predicate", Json::text(&judgement.predicate)),
+        ("fact", Json::text(&judgement.fact)),
+        ("sizes", Json::numbers(&judgement.sizes)),
+        ("failed_claims", Json::List(judgement.failed.iter().map(failed_json).collect())),
     ])
 }
 

@@ -1,13 +1,14 @@
-//! A finding on the page: the verdict, the claims of an accepted pack, or what is wrong and what to mend.
+//! A finding on the page: the verdict, the claims and facts of an accepted pack, or what is wrong and what to mend.
 
-use crate::claims::{inequality, remark};
-use crate::findings::Refusal;
+use crate::claims::{argument_name, inequality, remark};
+use crate::facts::FactJudgement;
+use crate::findings::{Refusal, Working};
 use crate::forms::Form;
 use crate::input::Source;
 use crate::pack::{Pack, Predicate};
 use crate::page::{Page, Style};
 use crate::residuals::Judgement;
-use crate::words::count;
+use crate::words::{count, listed};
 use cerrundix::Verdict;
 
 /// The heading that every answer on a pack begins with.
@@ -38,7 +39,7 @@ pub fn show_claims(page: &mut Page, pack: &Pack) {
         page.sentence(0, "The pack makes no claims, so there is nothing to reserve by.");
     }
     show_claims_of(page, "Every fact that the rules derive meets:", ruled);
-    show_claims_of(page, "Given facts are taken to meet (whoever gives them answers for it):", given);
+    show_claims_of(page, "Facts given from outside are taken to meet (whoever gives them answers for it):", given);
 }
 
 fn show_claims_of<'p, 't: 'p>(page: &mut Page, heading: &str, predicates: impl Iterator<Item = &'p Predicate<'t>>) {
@@ -64,16 +65,43 @@ fn claims_written(predicate: &Predicate) -> Vec<String> {
         .collect()
 }
 
-/// The line quoted, what is wrong, the working for an unjustified claim, and what to mend.
+/// How many facts of each predicate come with the pack; nothing if there are none.
+pub fn show_facts(page: &mut Page, pack: &Pack) {
+    let (verb, each) = match pack.facts.len() {
+        0 => return,
+        1 => ("comes", "It"),
+        _ => ("come", "Each"),
+    };
+    let of_predicate = |(place, predicate): (usize, &Predicate)| {
+        let number = pack.facts.iter().filter(|fact| fact.atom.predicate == place).count();
+        (number > 0).then(|| (number, predicate.indicator()))
+    };
+    let counts: Vec<(usize, String)> = pack.predicates.iter().enumerate().filter_map(of_predicate).collect();
+    let facts = count(pack.facts.len(), "fact");
+    let come = match &counts[..] {
+        [(_, predicate)] => format!("{facts} of {predicate} {verb} with the pack"),
+        _ => {
+            let parts: Vec<String> = counts.iter().map(|(number, of)| format!("{number} of {of}")).collect();
+            format!("{facts} {verb} with the pack: {}", listed(&parts, "and"))
+        }
+    };
+    page.blank();
+    page.sentence(0, &format!("{come}. {each} meets every claim on its predicate."));
+}
+
+/// The line quoted, what is wrong, the working for claims that are not justified or not met, and what to mend.
 pub fn show_refusal(page: &mut Page, refusal: &Refusal) {
     match &refusal.quote {
         Some(quote) => page.quote(quote.number, quote.text, quote.mark.as_ref()),
         None => page.blank(),
     }
     page.sentence(0, &refusal.wrong);
-    if let Some(judgement) = &refusal.judgement {
+    if let Some(working) = &refusal.working {
         page.blank();
-        show_judgement(page, judgement);
+        match working {
+            Working::Rule(judgement) => show_judgement(page, judgement),
+            Working::Fact(judgement) => show_fact_judgement(page, judgement),
+        }
         page.blank();
     }
     page.mend(0, &refusal.mend);
@@ -83,10 +111,7 @@ fn show_judgement(page: &mut Page, judgement: &Judgement) {
     let written = |form: &Form| form.written(&judgement.variables);
     page.row(&format!("rule {}", judgement.rule), Style::Plain, &judgement.clause);
     page.row(&format!("claim {}", judgement.claim), Style::Plain, &judgement.inequality);
-    for (place, size) in judgement.head_sizes.iter().enumerate() {
-        let label = if place == 0 { "head sizes" } else { "" };
-        page.row(label, Style::Plain, &format!("s{} = {}", place + 1, written(size)));
-    }
+    show_sizes(page, "head sizes", judgement.head_sizes.iter().map(written));
     page.row("head form", Style::Plain, &written(&judgement.head_form));
     let forms: Vec<String> = judgement.subgoal_claims.iter().map(|used| written(&used.form)).collect();
     let width = forms.iter().map(String::len).max().unwrap_or(0);
@@ -98,5 +123,21 @@ fn show_judgement(page: &mut Page, judgement: &Judgement) {
     page.row("residual", Style::Strong, &written(&judgement.residual));
     for (place, (what, number)) in judgement.below_zero().iter().enumerate() {
         page.row(if place == 0 { "below 0" } else { "" }, Style::Bad, &format!("{what}: {number}"));
+    }
+}
+
+fn show_fact_judgement(page: &mut Page, judgement: &FactJudgement) {
+    page.row("fact", Style::Plain, &judgement.fact);
+    show_sizes(page, "sizes", judgement.sizes.iter().map(i64::to_string));
+    for failed in &judgement.failed {
+        let said = format!("{}: {} does not hold", failed.inequality, failed.at_sizes());
+        page.row(&format!("claim {}", failed.claim), Style::Bad, &said);
+    }
+}
+
+/// The sizes of an atom's arguments, each in a row.
+fn show_sizes(page: &mut Page, label: &str, sizes: impl Iterator<Item = String>) {
+    for (place, size) in sizes.enumerate() {
+        page.row(if place == 0 { label } else { "" }, Style::Plain, &format!("{} = {size}", argument_name(place + 1)));
     }
 }

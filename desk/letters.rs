@@ -7,6 +7,7 @@ use crate::pack::{Pack, Predicate};
 pub enum Letter {
     Predicate,
     Claim,
+    Fact,
     Head,
     Subgoal,
     Multipliers,
@@ -15,13 +16,21 @@ pub enum Letter {
 
 impl Letter {
     /// In the order in which their lines stand.
-    pub const ALL: [Letter; 6] =
-        [Letter::Predicate, Letter::Claim, Letter::Head, Letter::Subgoal, Letter::Multipliers, Letter::End];
+    pub const ALL: [Letter; 7] = [
+        Letter::Predicate,
+        Letter::Claim,
+        Letter::Fact,
+        Letter::Head,
+        Letter::Subgoal,
+        Letter::Multipliers,
+        Letter::End,
+    ];
 
     pub fn written(self) -> &'static str {
         match self {
             Letter::Predicate => "P",
             Letter::Claim => "C",
+            Letter::Fact => "G",
             Letter::Head => "H",
             Letter::Subgoal => "B",
             Letter::Multipliers => "M",
@@ -37,7 +46,7 @@ impl Letter {
     /// A line of it, at the start of a sentence.
     pub fn line_called(self) -> String {
         let article = match self {
-            Letter::Predicate | Letter::Claim | Letter::Subgoal => "A",
+            Letter::Predicate | Letter::Claim | Letter::Fact | Letter::Subgoal => "A",
             Letter::Head | Letter::Multipliers => "An",
             Letter::End => "The",
         };
@@ -50,8 +59,9 @@ impl Letter {
             return false;
         }
         match (self, pack.rules.last()) {
-            (Letter::Predicate, None) => pack.claims() == 0,
-            (Letter::Claim | Letter::Head | Letter::End, None) => true,
+            (Letter::Predicate, None) => pack.claims() == 0 && pack.facts.is_empty(),
+            (Letter::Claim, None) => pack.facts.is_empty(),
+            (Letter::Fact | Letter::Head | Letter::End, None) => true,
             (Letter::Subgoal, Some(rule)) => rule.multipliers.is_empty(),
             (Letter::Multipliers, Some(_)) => pack.multiplier_lines_due() > 0,
             (Letter::Head | Letter::End, Some(_)) => pack.multiplier_lines_due() == 0,
@@ -62,7 +72,7 @@ impl Letter {
     /// Whether the second field of its line is a predicate's name.
     pub fn takes_a_name(self) -> bool {
         match self {
-            Letter::Predicate | Letter::Claim | Letter::Head | Letter::Subgoal => true,
+            Letter::Predicate | Letter::Claim | Letter::Fact | Letter::Head | Letter::Subgoal => true,
             Letter::Multipliers | Letter::End => false,
         }
     }
@@ -74,15 +84,16 @@ impl Letter {
 
     /// Whether the fields after its name are terms.
     pub fn takes_terms(self) -> bool {
-        matches!(self, Letter::Head | Letter::Subgoal)
+        matches!(self, Letter::Fact | Letter::Head | Letter::Subgoal)
     }
 
     /// Where lines of this letter stand, as the end of a sentence.
     pub fn place(self) -> &'static str {
         match self {
-            Letter::Predicate => "P lines stand first, before every C and H line",
-            Letter::Claim => "C lines stand after the P lines and before the first H line",
-            Letter::Head => "an H line begins a rule, after the C lines or after a rule that has all its M lines",
+            Letter::Predicate => "P lines stand first, before every C, G and H line",
+            Letter::Claim => "C lines stand after the P lines and before the first G or H line",
+            Letter::Fact => "G lines stand after the C lines and before the first H line",
+            Letter::Head => "an H line begins a rule, after the C and G lines or after a rule that has all its M lines",
             Letter::Subgoal => "B lines stand after their rule's H line and before its M lines",
             Letter::Multipliers => "M lines stand after their rule's H and B lines, one for each claim on the head",
             Letter::End => "the E line stands last, after a rule's M lines",
@@ -95,7 +106,7 @@ impl Letter {
         match self {
             Letter::Predicate => 4,
             Letter::Claim => 3 + arity,
-            Letter::Head | Letter::Subgoal => 2 + arity,
+            Letter::Fact | Letter::Head | Letter::Subgoal => 2 + arity,
             Letter::Multipliers => 1 + pack.multipliers_due(),
             Letter::End => 1,
         }
@@ -108,7 +119,9 @@ impl Letter {
         match self {
             Letter::Predicate => "P,name,n,kind".to_string(),
             Letter::Claim => format!("C,{name}{}", numbered('c', 0, arity)),
-            Letter::Head | Letter::Subgoal => format!("{},{name}{}", self.written(), numbered('t', 1, arity)),
+            Letter::Fact | Letter::Head | Letter::Subgoal => {
+                format!("{},{name}{}", self.written(), numbered('t', 1, arity))
+            }
             Letter::Multipliers => format!("M{}", numbered('m', 1, pack.multipliers_due())),
             Letter::End => "E".to_string(),
         }

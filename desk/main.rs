@@ -7,6 +7,7 @@ mod bounds;
 mod check;
 mod claims;
 mod commands;
+mod facts;
 mod faults;
 mod findings;
 mod findings_json;

@@ -1,6 +1,7 @@
-//! A pack as people read it: predicates with their claims, and rules with their multipliers. It reads lines that the
-//! library has passed and judges nothing; a line that it cannot read is a disagreement with the library.
+//! A pack as people read it: predicates with their claims, facts, and rules with their multipliers. It reads lines that
+//! the library has passed and judges nothing; a line that it cannot read is a disagreement with the library.
 
+use crate::forms::Form;
 use crate::letters::Letter;
 use crate::limits::{HIGHEST_ARITY, HIGHEST_NUMBER};
 use crate::terms::{applied, read_term, Term, Token};
@@ -21,12 +22,18 @@ pub struct Claim {
     pub numbers: Vec<i64>,
 }
 
-/// A head or a subgoal.
+/// A head, a subgoal or a fact.
 pub struct Atom<'t> {
     /// Its predicate's place among the pack's.
     pub predicate: usize,
     pub name: &'t [u8],
     pub arguments: Vec<Term<'t>>,
+}
+
+/// A fact that comes with the pack.
+pub struct Fact<'t> {
+    pub line: usize,
+    pub atom: Atom<'t>,
 }
 
 pub struct Rule<'t> {
@@ -41,6 +48,7 @@ pub struct Pack<'t> {
     /// How many lines have been read.
     pub lines: usize,
     pub predicates: Vec<Predicate<'t>>,
+    pub facts: Vec<Fact<'t>>,
     pub rules: Vec<Rule<'t>>,
     /// The number of the `E` line.
     pub end_line: Option<usize>,
@@ -71,6 +79,11 @@ impl Atom<'_> {
     /// `join(Xs,Y,Zs)`
     pub fn usual(&self) -> String {
         applied(self.name, &self.arguments)
+    }
+
+    /// The sizes of its arguments, as forms over these variables.
+    pub fn sizes(&self, variables: &[&[u8]]) -> Vec<Form> {
+        self.arguments.iter().map(|argument| Form::of_term(argument, variables)).collect()
     }
 }
 
@@ -122,6 +135,7 @@ impl<'t> Pack<'t> {
         match Letter::of(fields[0])? {
             Letter::Predicate => self.read_predicate(&fields),
             Letter::Claim => self.read_claim(&fields),
+            Letter::Fact => self.read_fact(&fields),
             Letter::Head => self.read_head(&fields),
             Letter::Subgoal => self.read_subgoal(&fields),
             Letter::Multipliers => self.read_multipliers(&fields),
@@ -157,6 +171,12 @@ impl<'t> Pack<'t> {
         Some(())
     }
 
+    fn read_fact(&mut self, fields: &[&'t [u8]]) -> Option<()> {
+        let atom = self.read_atom(fields)?;
+        self.facts.push(Fact { line: self.lines, atom });
+        Some(())
+    }
+
     fn read_head(&mut self, fields: &[&'t [u8]]) -> Option<()> {
         let head = self.read_atom(fields)?;
         self.rules.push(Rule { head, subgoals: Vec::new(), multipliers: Vec::new() });
@@ -169,7 +189,8 @@ impl<'t> Pack<'t> {
         Some(())
     }
 
-    fn read_atom(&self, fields: &[&'t [u8]]) -> Option<Atom<'t>> {
+    /// The head, subgoal or fact that a line states.
+    pub fn read_atom(&self, fields: &[&'t [u8]]) -> Option<Atom<'t>> {
         let name = *fields.get(1)?;
         let predicate = self.place_of(name)?;
         let arguments: Vec<Term> = fields[2..].iter().map(|field| read_term(field).ok()).collect::<Option<_>>()?;
@@ -229,6 +250,7 @@ pub mod tests {
     use super::*;
 
     pub const JOIN: &[u8] = include_bytes!("../packs/join.pack");
+    pub const SORTER: &[u8] = include_bytes!("../packs/sorter.pack");
 
     #[test]
     fn a_pack_is_read_as_it_is_written() {
@@ -242,10 +264,20 @@ pub mod tests {
     }
 
     #[test]
+    fn facts_are_read_with_their_lines() {
+        let pack = Pack::read(&lines_of(SORTER)).ok().unwrap();
+        assert_eq!(pack.facts.iter().map(|fact| fact.line).collect::<Vec<_>>(), [6, 7, 8, 9, 10]);
+        assert_eq!(pack.facts[3].atom.usual(), "next(up(up(tray)),scale,up(tray))");
+        assert_eq!(pack.predicate_of(&pack.facts[3].atom).indicator(), "next/3");
+    }
+
+    #[test]
     fn a_line_that_cannot_be_read_is_told() {
         for (text, line) in [
             (&b"P,k,9,R\nE\n"[..], 1),
             (b"P,k,1,R\nC,k,0\nE\n", 2),
+            (b"P,k,1,G\nG,k\nE\n", 2),
+            (b"P,k,1,G\nG,l,a/0\nE\n", 2),
             (b"P,k,1,R\nH,k,x\nE\n", 2),
             (b"P,k,1,R\nB,k,X\nE\n", 2),
             (b"M\n", 1),

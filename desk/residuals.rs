@@ -42,7 +42,7 @@ pub fn work_out<'t>(pack: &Pack<'t>) -> Option<Judgement<'t>> {
     let head = pack.predicate_of(&rule.head);
     let numbers = &head.claims.get(claim - 1)?.numbers;
     let variables = rule.variables();
-    let head_sizes = sizes(&rule.head, &variables);
+    let head_sizes = rule.head.sizes(&variables);
     let head_form = Form::of_claim(numbers, &head_sizes, variables.len());
     let subgoal_claims = subgoal_claims(pack, &rule.subgoals, &variables, multipliers);
     let residual = subgoal_claims
@@ -63,16 +63,12 @@ pub fn work_out<'t>(pack: &Pack<'t>) -> Option<Judgement<'t>> {
     })
 }
 
-fn sizes(atom: &Atom, variables: &[&[u8]]) -> Vec<Form> {
-    atom.arguments.iter().map(|argument| Form::of_term(argument, variables)).collect()
-}
-
 /// Each claim on each subgoal with its multiplier, in the order of an `M` line.
 fn subgoal_claims(pack: &Pack, subgoals: &[Atom], variables: &[&[u8]], multipliers: &[i64]) -> Vec<SubgoalClaim> {
     let mut multipliers = multipliers.iter();
     let mut found = Vec::new();
     for (place, subgoal) in subgoals.iter().enumerate() {
-        let sizes = sizes(subgoal, variables);
+        let sizes = subgoal.sizes(variables);
         for (number, claim) in pack.predicate_of(subgoal).claims.iter().enumerate() {
             found.push(SubgoalClaim {
                 subgoal: place + 1,

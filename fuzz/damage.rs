@@ -39,7 +39,7 @@ fn edit_lines(random: &mut Random, lines: &mut Vec<Vec<u8>>) {
         return;
     }
     let (one, other) = (random.below(lines.len()), random.below(lines.len()));
-    match random.below(24) {
+    match random.below(26) {
         0..=3 => edit_number(random, &mut lines[one]),
         4..=6 => edit_multiplier(random, lines),
         7..=8 => lines[one] = edited_fields(random, &lines[one]),
@@ -54,6 +54,7 @@ fn edit_lines(random: &mut Random, lines: &mut Vec<Vec<u8>>) {
         17 => lines.push(lines[one].clone()),
         18 => lines.insert(one, Vec::new()),
         19..=22 => edit_term(random, lines),
+        23..=24 => add_fact(random, lines),
         _ => change_letter(random, &mut lines[one]),
     }
 }
@@ -95,9 +96,39 @@ fn edit_twice(random: &mut Random, line: &mut Vec<u8>) {
     }
 }
 
-/// Changes one token of a head or a subgoal.
+/// Writes a fact, a head or a subgoal once more as a fact, mostly where facts may stand, and perhaps with faults.
+fn add_fact(random: &mut Random, lines: &mut Vec<Vec<u8>>) {
+    let letters: &[u8] = if random.chance(50) { b"G" } else { b"GHB" };
+    let Some(line) = find_line(random, lines, letters) else { return };
+    let mut fact = lines[line].clone();
+    fact[0] = b'G';
+    match random.below(10) {
+        0..=3 => edit_twice(random, &mut fact),
+        4..=7 => put_variable(random, &mut fact),
+        _ => {}
+    }
+    let first_after = lines.iter().position(|line| line.starts_with(b"H") || line.starts_with(b"E"));
+    let place = match first_after {
+        Some(place) if random.chance(85) => place,
+        _ => random.below(lines.len()),
+    };
+    lines.insert(place, fact);
+}
+
+/// Puts a variable in the place of one constant, if the line has one.
+fn put_variable(random: &mut Random, line: &mut Vec<u8>) {
+    let ends: Vec<usize> = (0..=line.len()).filter(|end| line[..*end].ends_with(b"/0")).collect();
+    if ends.is_empty() {
+        return;
+    }
+    let end = random.pick(&ends);
+    let start = line[..end].iter().rposition(|byte| b" ,".contains(byte)).map_or(0, |place| place + 1);
+    line.splice(start..end, *b"X");
+}
+
+/// Changes one token of a fact, a head or a subgoal.
 fn edit_term(random: &mut Random, lines: &mut [Vec<u8>]) {
-    let Some(line) = find_line(random, lines, b"HB") else { return };
+    let Some(line) = find_line(random, lines, b"GHB") else { return };
     let mut tokens: Vec<Vec<u8>> = lines[line].split(|byte| *byte == b' ').map(|token| token.to_vec()).collect();
     let one = random.below(tokens.len());
     match random.below(6) {

@@ -1,14 +1,19 @@
-//! Makes rule packs that document 01 accepts (or nearly does), terms and queries. A pack is made as a model first:
-//! predicates, then rules, then claims that suit the rules, then multipliers that justify the claims. The arithmetic
-//! here only steers the making; what a pack is worth is for the library and the plain implementation to say.
+//! Makes rule packs that the documents accept (or nearly do), terms and queries. A pack is made as a model first:
+//! predicates, then facts and rules, then claims that suit both, then multipliers that justify the claims. The
+//! arithmetic here only steers the making; what a pack is worth is for the library and the plain implementation to say.
 
+#[path = "generate_facts.rs"]
+mod facts;
 #[path = "generate_plan.rs"]
 mod plan;
+#[path = "generate_queries.rs"]
+mod queries;
 #[path = "generate_text.rs"]
 pub mod text;
 
 use crate::random::Random;
 pub use plan::Plan;
+pub use queries::query;
 
 /// A constant and a number for each variable.
 type Numbers = [i64; 17];
@@ -152,6 +157,7 @@ struct Claim {
     numbers: Vec<i64>,
 }
 
+#[derive(Clone)]
 struct Atom {
     predicate: usize,
     arguments: Vec<Term>,
@@ -167,6 +173,8 @@ struct Rule {
 pub struct Model {
     predicates: Vec<Predicate>,
     claims: Vec<Claim>,
+    /// Those that come with the pack.
+    facts: Vec<Atom>,
     rules: Vec<Rule>,
     /// How the variables are called, in an order of this pack's own.
     variables: Vec<&'static str>,
@@ -184,14 +192,16 @@ impl Claim {
 }
 
 impl Model {
-    /// A model of which each claim is justified if `justified`; otherwise some may not be.
+    /// A model of which each claim is justified and met by the facts if `justified`; otherwise some may not be.
     pub fn make(random: &mut Random, plan: &Plan, justified: bool) -> Model {
         let mut variables = VARIABLES.to_vec();
         random.shuffle(&mut variables);
-        let mut model = Model { predicates: Vec::new(), claims: Vec::new(), rules: Vec::new(), variables };
+        let (predicates, claims, facts, rules) = (Vec::new(), Vec::new(), Vec::new(), Vec::new());
+        let mut model = Model { predicates, claims, facts, rules, variables };
         model.add_predicates(random, plan);
+        model.add_facts(random, plan);
         model.add_rules(random, plan);
-        model.add_claims(random, plan, if justified { 10 } else { 1 });
+        model.add_claims(random, plan, justified);
         random.shuffle(&mut model.claims);
         while !model.choose_multipliers(random, plan, justified) {}
         model
@@ -278,12 +288,14 @@ impl Model {
     }
 
     /// Some claims are written twice, so that two give the same bound.
-    fn add_claims(&mut self, random: &mut Random, plan: &Plan, tries: usize) {
+    fn add_claims(&mut self, random: &mut Random, plan: &Plan, justified: bool) {
+        let tries = if justified { 10 } else { 1 };
         for predicate in 0..self.predicates.len() {
             let least = usize::from(random.chance(80)).min(plan.most_claims);
             let count = least + plan.up_to(random, plan.most_claims - least);
             while self.claims_on(predicate).len() < count {
                 let numbers = self.suitable_claim(random, plan, predicate, tries);
+                let numbers = self.claim_for_facts(random, predicate, numbers, justified);
                 if random.chance(10) && self.claims_on(predicate).len() + 2 <= count {
                     self.claims.push(Claim { predicate, numbers: numbers.clone() });
                 }
@@ -384,34 +396,4 @@ fn is_justified(head: &Numbers, forms: &[Numbers], multipliers: &[i64]) -> bool 
         let subtracted: i64 = forms.iter().zip(multipliers).map(|(form, multiplier)| form[place] * multiplier).sum();
         head[place] >= subtracted
     })
-}
-
-// ---------------------------------------------------------------------------------------------------------------
-// Queries.
-
-/// A query as document 01 wants it, on one of the pack's predicates; mostly for an argument that may have a bound.
-pub fn query(random: &mut Random, declared: &[Declared]) -> Vec<u8> {
-    let bounded: Vec<usize> = (0..declared.len()).filter(|index| !declared[*index].bounded.is_empty()).collect();
-    let for_bound = !bounded.is_empty() && random.chance(75);
-    let predicate = &declared[if for_bound { random.pick(&bounded) } else { random.below(declared.len()) }];
-    let asked = if for_bound { random.pick(&predicate.bounded) } else { 1 + random.below(predicate.arity.max(1)) };
-    let (unknown, large) = (random.pick(&[0, 10, 30]), random.chance(20));
-    let mut line = format!("{},{asked}", predicate.name);
-    for argument in 1..=predicate.arity {
-        if argument == asked || random.chance(unknown) {
-            line.push_str(",-");
-        } else {
-            line.push_str(&format!(",{}", known_size(random, large)));
-        }
-    }
-    line.into_bytes()
-}
-
-fn known_size(random: &mut Random, large: bool) -> i64 {
-    match random.below(10) {
-        0 => 0,
-        1 => random.between(0, 65535),
-        _ if large => random.pick(&[65535, 65534, 65535, 10000]),
-        _ => random.between(0, 40),
-    }
 }

@@ -1,4 +1,4 @@
-//! Writes a model of a pack as document 01 wants its lines.
+//! Writes a model of a pack as the documents want its lines.
 
 use super::*;
 
@@ -25,6 +25,7 @@ impl Model {
         for claim in &self.claims {
             lines.push(with_numbers(&format!("C,{}", self.predicates[claim.predicate].name), &claim.numbers));
         }
+        lines.extend(self.facts.iter().map(|fact| self.atom_line("G", fact)));
         lines
     }
 
@@ -79,12 +80,17 @@ pub fn shortest_head(name: &str) -> usize {
 
 /// Heads of a predicate of arity 1 that take exactly so many bytes together, none over 1,000.
 pub fn heads_of_size(name: &str, bytes: usize) -> Vec<String> {
+    atoms_of_size("H", name, bytes, 1_000)
+}
+
+/// Lines with this letter, of a predicate of arity 1, that take exactly so many bytes together, none over `most`.
+pub fn atoms_of_size(letter: &str, name: &str, bytes: usize, most: usize) -> Vec<String> {
     let mut missing = bytes;
     let mut lines = Vec::new();
     while missing > 0 {
         // What is left must have room for another line.
-        let taken = if missing <= 1_000 { missing } else { 1_000.min(missing - shortest_head(name)) };
-        lines.push(format!("H,{name},{}", term_of_length(taken - shortest_head(name) + "a/0".len())));
+        let taken = if missing <= most { missing } else { most.min(missing - shortest_head(name)) };
+        lines.push(format!("{letter},{name},{}", term_of_length(taken - shortest_head(name) + "a/0".len())));
         missing -= taken;
     }
     lines

@@ -1,7 +1,7 @@
-//! Packs at document 01's limits: one below, at and one above.
+//! Packs at the documents' limits: one below, at and one above.
 
 use crate::damage::edited_fields;
-use crate::generate::text::{heads_of_size, text_of};
+use crate::generate::text::{atoms_of_size, heads_of_size, text_of};
 use crate::generate::{term_of_length, Declared, Pack};
 use crate::random::Random;
 
@@ -9,7 +9,7 @@ use crate::random::Random;
 /// limit has other faults too, which have lower numbers.
 pub fn pack_at_a_limit(random: &mut Random) -> Pack {
     let step = random.below(3);
-    let (letter, mut lines) = match random.below(12) {
+    let (letter, mut lines) = match random.below(16) {
         0 => ('P', at_predicates(31 + step)),
         1 => ('C', at_claims(15 + step)),
         2 => ('H', at_rules(63 + step)),
@@ -21,6 +21,10 @@ pub fn pack_at_a_limit(random: &mut Random) -> Pack {
         8 => ('H', at_name_bytes(random, 15 + step)),
         9 => ('H', at_lines(63 + step)),
         10 => ('M', at_residual(random)),
+        11 => ('G', at_fact(random, step as i64 - 1)),
+        12 => ('G', at_fact_variables(random.pick(&[0, 1, 15, 16, 17, 18]))),
+        13 => ('G', at_fact_line_bytes(1_023 + step)),
+        14 => ('G', at_facts(random, 32_767 + step)),
         _ => ('H', at_text_bytes(32_767 + step)),
     };
     if random.chance(40) {
@@ -122,6 +126,55 @@ fn at_claim_number(number: &str) -> Vec<String> {
     lines_from(&["P,k,1,G", "P,k1,1,R", "C,k1,1,1"], [claim].into_iter(), &["H,k1,X", "B,k,X", "M,0", "E"])
 }
 
+/// A fact of eight arguments and up to 16 claims, of which one has mostly the largest numbers: what it says is at least
+/// 0 has this value at the fact's sizes. Numbers come in pairs that cancel each other, but for one size more in one.
+fn at_fact(random: &mut Random, value: i64) -> Vec<String> {
+    let (mut arguments, mut sum) = (Vec::new(), 0);
+    let unequal = random.below(4);
+    for pair in 0..4 {
+        let (number, size) = (random.pick(&[9_999, -9_999, 9_998, -9_998, 1, 0]), random.below(30));
+        let other_size = size + usize::from(pair == unequal);
+        sum += number * (size as i64 - other_size as i64);
+        arguments.extend([(number, size), (-number, other_size)]);
+    }
+    random.shuffle(&mut arguments);
+    let constant = (value - sum).clamp(-9_999, 9_999);
+    let numbers: String = arguments.iter().map(|(number, _)| format!(",{number}")).collect();
+    let terms: String = arguments.iter().map(|(_, size)| format!(",{}a/0", "f/1 ".repeat(*size))).collect();
+    let others = if random.chance(50) { 15 } else { random.below(16) };
+    let place = if random.chance(50) { others } else { random.below(others + 1) };
+    let mut claims = vec!["C,k8,0,1,1,1,1,1,1,1,1".to_string(); others];
+    claims.insert(place, format!("C,k8,{constant}{numbers}"));
+    lines_from(&["P,k,1,G", "P,k1,1,R", "P,k8,8,G"], claims.into_iter(), &[&format!("G,k8{terms}"), "E"])
+}
+
+/// So many variables in a fact, which may have none.
+fn at_fact_variables(count: usize) -> Vec<String> {
+    let names: Vec<String> = (0..count).map(|index| format!("V{index}")).collect();
+    let [first, second] = [(0, 9), (9, 18)].map(|(from, to)| padded(&names, from, to).join(" "));
+    lines_from(&["P,k,2,G", "C,k,18,-1,-1"], [format!("G,k,f/9 {first},f/9 {second}")].into_iter(), &["E"])
+}
+
+fn at_fact_line_bytes(bytes: usize) -> Vec<String> {
+    let fact = format!("G,k,{}", term_of_length(bytes - 4));
+    lines_from(&["P,k,1,G", "C,k,254,-1"], [fact].into_iter(), &["E"])
+}
+
+/// A text of so many bytes, nearly all facts: some with long lines, thousands with short ones. The longest lines mostly
+/// just meet the claim.
+fn at_facts(random: &mut Random, bytes: usize) -> Vec<String> {
+    let longest = random.pick(&[16, 16, 40, 1_000]);
+    let largest_size = (longest - "G,k,a/0\n".len()) / "f/1 ".len();
+    let claim = format!("C,k,{},-1", largest_size as i64 + random.pick(&[0, 0, 0, 1, -1]));
+    let start = ["P,k,1,G", "P,k1,1,R", &claim];
+    lines_from(&start, atoms_of_size("G", "k", bytes - bytes_of(&start), longest).into_iter(), &["E"])
+}
+
+/// How many bytes these lines take with an `E` line.
+fn bytes_of(lines: &[&str]) -> usize {
+    lines.iter().chain(&["E"]).map(|line| line.len() + 1).sum()
+}
+
 /// A name of so many bytes as predicate, as symbol or as variable.
 fn at_name_bytes(random: &mut Random, bytes: usize) -> Vec<String> {
     let (name, variable) = ("k".repeat(bytes), "K".repeat(bytes));
@@ -135,6 +188,5 @@ fn at_name_bytes(random: &mut Random, bytes: usize) -> Vec<String> {
 
 fn at_text_bytes(bytes: usize) -> Vec<String> {
     let start = ["P,k,1,R", "P,k1,1,G", "C,k1,7,-2"];
-    let taken: usize = start.iter().chain(&["E"]).map(|line| line.len() + 1).sum();
-    lines_from(&start, heads_of_size("k", bytes - taken).into_iter(), &["E"])
+    lines_from(&start, heads_of_size("k", bytes - bytes_of(&start)).into_iter(), &["E"])
 }

@@ -1,4 +1,4 @@
-//! The fuzz test: asks the project's static library and the plain implementation of document 01 the same questions
+//! The fuzz test: asks the project's static library and the plain implementation of the documents the same questions
 //! about packs made at random, and fails if two answers differ or if some kind of answer never occurred.
 
 mod damage;
@@ -20,6 +20,9 @@ use std::time::Instant;
 const DEFAULT_PACKS: u64 = 200_000;
 const DEFAULT_SEED: u64 = 20_260_101;
 const SHOWN_DIFFERENCES: u64 = 5;
+
+/// Among the accepted packs, those with facts are counted a second time under this name.
+const ACCEPTED_WITH_FACTS: &str = "check 0 with facts";
 
 /// The pack in work, so that a panic can name it.
 static CURRENT_PACK: AtomicU64 = AtomicU64::new(0);
@@ -100,9 +103,19 @@ fn make_pack(random: &mut Random) -> Pack {
 }
 
 fn made_pack(random: &mut Random, plan: fn(&mut Random) -> Plan) -> Pack {
-    let plan = plan(random);
+    let plan = Plan { facts: number_of_facts(random), ..plan(random) };
     let justified = random.chance(85);
     Model::make(random, &plan, justified).pack()
+}
+
+/// None, few or many; thousands stand in packs at a limit.
+fn number_of_facts(random: &mut Random) -> usize {
+    match random.below(40) {
+        0..=17 => 0,
+        18..=36 => 1 + random.below(5),
+        37..=38 => 6 + random.below(20),
+        _ => 26 + random.below(150),
+    }
 }
 
 /// A large pack with its text at the limit, one byte less or one more.
@@ -160,6 +173,9 @@ fn ask_about_pack(random: &mut Random, number: u64, tally: &mut Tally) {
     tally.count(format!("check {}", answer.word & 255));
 
     let accepted = answer.word & 255 == 0;
+    if accepted && has_facts(&pack.text) {
+        tally.count(ACCEPTED_WITH_FACTS.to_string());
+    }
     for _ in 0..if accepted { 4 } else { 1 } {
         let query = make_query(random, &pack);
         let reserve = Question { call: Call::Reserve, area: Vec::new(), query, ..check.clone() };
@@ -172,6 +188,10 @@ fn ask_about_pack(random: &mut Random, number: u64, tally: &mut Tally) {
         let answer = compare(&measure, number, tally);
         tally.count(format!("measure {}", answer.word & 255));
     }
+}
+
+fn has_facts(text: &[u8]) -> bool {
+    text.split(|byte| *byte == 10).any(|line| line.starts_with(b"G,"))
 }
 
 /// A refusal of an accepted pack's query is named by its number.
@@ -262,7 +282,8 @@ fn hexadecimal(bytes: &[u8]) -> String {
 
 /// All answers that a run must have met.
 fn needed_answers() -> Vec<String> {
-    let check = (0..=13).map(|number| format!("check {number}"));
+    let check = (0..=13).chain(20..=22).map(|number| format!("check {number}"));
+    let check = check.chain([ACCEPTED_WITH_FACTS.to_string()]);
     let letters = ["B", "N", "I"].iter().map(|letter| format!("reserve {letter}"));
     let refusals = [4, 14, 15, 16, 17, 18].iter().map(|number| format!("reserve R {number}"));
     let measure = [0, 4, 11, 19].iter().map(|number| format!("measure {number}"));

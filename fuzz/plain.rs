@@ -1,6 +1,6 @@
-//! Document 01 in plain Rust: `check`, `reserve` and `measure`, written from the document's words and from nothing
-//! under `crates/`. The fuzz test compares the project's library with it, so it aims at being easy to compare with the
-//! document, not at speed. All arithmetic on forms is checked: an overflow stops the test.
+//! Document 01, with 02's 1/14, in plain Rust: `check`, `reserve` and `measure`, written from the documents' words and
+//! not from the code under `crates/`. The fuzz test compares the project's library with it, so it aims at being easy to
+//! compare with the documents, not at speed. All arithmetic on forms is checked: an overflow stops the test.
 
 #[path = "plain_queries.rs"]
 mod queries;
@@ -154,6 +154,7 @@ struct Rule<'a> {
 enum Place {
     Predicates,
     Claims,
+    Facts,
     Rules,
     Ended,
 }
@@ -169,7 +170,7 @@ struct Pack<'a> {
     multiplier_lines: u64,
 }
 
-/// Refusals 2 to 13: the whole text, then its lines from the top, then 6.
+/// Refusals 2 to 13 and 20 to 22: the whole text, then its lines from the top, then 6.
 fn judge(text: &[u8]) -> Result<Pack<'_>, Refusal> {
     refuse_unless(text.len() <= TEXT_BYTES, 2)?;
     refuse_unless(text.last() == Some(&10), 3)?;
@@ -186,7 +187,8 @@ fn judge(text: &[u8]) -> Result<Pack<'_>, Refusal> {
 }
 
 impl<'a> Pack<'a> {
-    /// The tests of a line stand in the order of their numbers, here and in the functions for each letter.
+    /// The tests of a line stand in the order in which they apply, here and in the functions for each letter: that of
+    /// their numbers, and 02's where it puts them.
     fn judge_line(&mut self, line: &'a [u8]) -> Result<(), Refusal> {
         refuse_unless(is_clean(line), 4)?;
         let fields = fields_of(line);
@@ -194,6 +196,7 @@ impl<'a> Pack<'a> {
         match fields[0] {
             b"P" => self.read_predicate(&fields),
             b"C" => self.read_claim(&fields),
+            b"G" => self.read_fact(&fields),
             b"H" => self.read_head(&fields),
             b"B" => self.read_subgoal(&fields),
             b"M" => self.read_multipliers(&fields),
@@ -204,8 +207,9 @@ impl<'a> Pack<'a> {
     /// Is this first field a letter that may stand at this point?
     fn is_allowed(&self, letter: &[u8]) -> bool {
         match (&self.place, letter) {
-            (Place::Predicates, b"P" | b"C" | b"H" | b"E") => true,
-            (Place::Claims, b"C" | b"H" | b"E") => true,
+            (Place::Predicates, b"P" | b"C" | b"G" | b"H" | b"E") => true,
+            (Place::Claims, b"C" | b"G" | b"H" | b"E") => true,
+            (Place::Facts, b"G" | b"H" | b"E") => true,
             (Place::Rules, b"B") => self.last_rule().multiplier_lines == 0,
             (Place::Rules, b"M") => self.claims_left() > 0,
             (Place::Rules, b"H" | b"E") => self.claims_left() == 0,
@@ -261,6 +265,18 @@ impl<'a> Pack<'a> {
         refuse_unless(claims.len() < CLAIMS, 12)?;
         claims.push(claim);
         self.place = Place::Claims;
+        Ok(())
+    }
+
+    /// `G,name,t1,..,tn`: a fact that comes with the pack. Ground, so its sizes are constants.
+    fn read_fact(&mut self, fields: &[&'a [u8]]) -> Result<(), Refusal> {
+        let predicate = &self.predicates[self.find_second(fields)?];
+        refuse_unless(predicate.is_given, 20)?;
+        let terms = read_terms(fields, predicate.arity)?;
+        refuse_unless(terms.iter().all(|term| term.variables.is_empty()), 21)?;
+        let sizes: Vec<Form> = terms.iter().map(|term| Form::constant(term.arities)).collect();
+        refuse_unless(predicate.claims.iter().all(|claim| claim_at(claim, &sizes).is_at_least_zero()), 22)?;
+        self.place = Place::Facts;
         Ok(())
     }
 
@@ -338,7 +354,7 @@ fn read_numbers(fields: &[&[u8]], lowest: i64) -> Result<Vec<i64>, Refusal> {
     }
 }
 
-/// The arguments of an `H` or `B` line: refusals 9 and 11.
+/// The arguments of a `G`, `H` or `B` line: refusals 9 and 11.
 fn read_terms<'a>(fields: &[&'a [u8]], arity: usize) -> Result<Vec<Term<'a>>, Refusal> {
     refuse_unless(fields.len() == arity + 2, 9)?;
     let terms: Option<Vec<Term<'a>>> = fields[2..].iter().map(|field| read_term(field)).collect();

@@ -2,7 +2,7 @@
  *
  * Link with libcerrundix.a (`scripts/prepare library` makes it, for x86-64 Linux). The library keeps no state, so threads
  * may call it at the same time; it takes no memory from the heap, and calls nothing but memset and memcpy. Each call
- * returns, whatever the bytes, given enough stack (check and reserve used 17,312 bytes, measure 1,944: bench/README.md);
+ * returns, whatever the bytes, given enough stack (check and reserve used 17,592 bytes at most, measure 1,944: bench/README.md);
  * no call reads or writes outside the buffers that it is lent. What each word means is proved against document 01
  * (docs/MAP.md).
  *
@@ -30,8 +30,8 @@ extern "C" {
 /* Checks a pack. The area holds at least CERRUNDIX_AREA numbers; it changes only for refusal 13, and then only its first
  * CERRUNDIX_AREA numbers. Take the word apart with cerrundix_number, _line, _rule, _claim:
  *   number 0: accepted; line, rule and claim hold the counts of lines, rules and `M` lines (cerrundix_lines and so on)
- *   number 1 to 13: refused, see cerrundix_reason; line is the line, from 1, or 0; for 13 rule and claim are those of the
- *   claim that is not justified */
+ *   number 1 to 13, 20 to 22: refused, see cerrundix_reason; line is the line, from 1, or 0; for 13 rule and claim are
+ *   those of the claim that is not justified, for all others they are 0 */
 uint64_t check(const uint8_t *text, size_t text_length, int64_t *area, size_t area_length);
 
 /* Reserves by a pack and a query, the query without its byte 10. Writes to no lent memory. Take the word apart with
@@ -39,7 +39,7 @@ uint64_t check(const uint8_t *text, size_t text_length, int64_t *area, size_t ar
  *   'B': the asked size is at most middle, by claim `by`
  *   'N': no claim gives a bound
  *   'I': there is no such fact, by claim `by`
- *   'R': refused; middle is the pack's number (2 to 13) or the query's (4, 14 to 18), see cerrundix_reason */
+ *   'R': refused; middle is the pack's number (2 to 13, 20 to 22) or the query's (4, 14 to 18), see cerrundix_reason */
 uint64_t reserve(const uint8_t *text, size_t text_length, const uint8_t *query, size_t query_length);
 
 /* Measures a ground term. Writes to no lent memory. Take the word apart with cerrundix_refusal and _size: refusal 0 and the
@@ -89,6 +89,9 @@ static inline const char *cerrundix_reason(unsigned number) {
     case 17: return "a size is malformed or over 65535";
     case 18: return "the asked argument's own size is not -";
     case 19: return "the term has a variable";
+    case 20: return "a G line names a ruled predicate: make the predicate G, or the fact a rule without subgoals";
+    case 21: return "a fact on a G line has a variable: a constant starts with a small letter and has its arity";
+    case 22: return "a fact on a G line fails a claim on its predicate: correct the fact or weaken the claim";
     default: return "no refusal of this library";
     }
 }

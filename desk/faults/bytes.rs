@@ -17,7 +17,7 @@ fn too_long(what: &str, bytes: &[u8]) -> Option<Fault> {
     let wrong = format!("The {what} has {}; it may have 1,024 at most.", count(bytes.len(), "byte"));
     let mend = match what {
         "line" => {
-            "Shorten it: give its symbols and variables shorter names, or split the rule with a further predicate."
+            "Shorten it: give its symbols and variables shorter names; a rule can be split with a further predicate."
         }
         _ => "Shorten it.",
     };

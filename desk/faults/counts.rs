@@ -1,7 +1,7 @@
 //! 12: a line that passes a count limit.
 
-use super::terms::tokens_of;
-use super::{place_of_field, Fault};
+use super::terms::argument_tokens;
+use super::Fault;
 use crate::letters::Letter;
 use crate::limits::{CLAIMS, PREDICATES, RULES, SUBGOALS, VARIABLES};
 use crate::pack::{fields_of, Pack, Rule};
@@ -27,7 +27,7 @@ pub fn of_line(seen: &Pack, line: &[u8]) -> Option<Fault> {
             passed(line, rule?.subgoals.len(), SUBGOALS, "subgoals in a rule", mend)
                 .or_else(|| of_variables(&rule.map(Rule::variables).unwrap_or_default(), line))
         }
-        Letter::Multipliers | Letter::End => None,
+        Letter::Fact | Letter::Multipliers | Letter::End => None,
     }
 }
 
@@ -43,26 +43,22 @@ fn passed(line: &[u8], before: usize, most: usize, what: &str, mend: &str) -> Op
 
 /// The line on which the rule's 17th variable first occurs, marked there.
 fn of_variables(before: &[&[u8]], line: &[u8]) -> Option<Fault> {
-    let fields = fields_of(line);
     let mut variables = before.to_vec();
-    for field in 2..fields.len() {
-        let start = place_of_field(line, field).start;
-        for (place, token) in tokens_of(fields[field]) {
-            if !is_variable(token) || variables.contains(&token) {
-                continue;
-            }
-            if variables.len() == VARIABLES {
-                let names: Vec<String> = variables.iter().map(|variable| shown(variable)).collect();
-                let wrong = format!(
-                    "A rule may have {VARIABLES} variables, and {} is one more; the others are {}.",
-                    shown(token),
-                    listed(&names, "and")
-                );
-                let mend = "Put some of the variables into one term, or split the rule with a further predicate.";
-                return Fault::at(start + place..start + place + token.len(), wrong, mend);
-            }
-            variables.push(token);
+    for (place, token) in argument_tokens(line) {
+        if !is_variable(token) || variables.contains(&token) {
+            continue;
         }
+        if variables.len() == VARIABLES {
+            let names: Vec<String> = variables.iter().map(|variable| shown(variable)).collect();
+            let wrong = format!(
+                "A rule may have {VARIABLES} variables, and {} is one more; the others are {}.",
+                shown(token),
+                listed(&names, "and")
+            );
+            let mend = "Put some of the variables into one term, or split the rule with a further predicate.";
+            return Fault::at(place..place + token.len(), wrong, mend);
+        }
+        variables.push(token);
     }
     None
 }

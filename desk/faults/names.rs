@@ -71,15 +71,13 @@ pub fn of_declaration(seen: &Pack, line: &[u8]) -> Option<Fault> {
         }
         (Letter::Head, Some(given)) if given.is_given => {
             let wrong = format!(
-                "{} is given (kind G, line {}): its facts come from outside, and no rule derives them.",
+                "{} is given (kind G, line {}): its facts come from outside or by G lines, and no rule derives them.",
                 given.indicator(),
                 given.line
             );
-            Fault::at(
-                mark,
-                wrong,
-                "Declare it with kind R if rules derive it, or head the rule with another predicate.",
-            )
+            let mend = "Declare it with kind R if rules derive it, head the rule with another predicate, or make a \
+                        fact of it a G line.";
+            Fault::at(mark, wrong, mend)
         }
         (_, None) if letter.takes_a_declared_name() => not_declared(seen, name, mark.start),
         _ => None,
@@ -119,7 +117,7 @@ fn not_declared(seen: &Pack, name: &[u8], start: usize) -> Option<Fault> {
         let declared = listed(&declared, "and");
         wrong += &format!(" {} {} declared: {declared}.", count(number, "predicate"), are(number));
     }
-    let mend = "Write a declared name here, or declare this one with a P line, before the C and H lines.";
+    let mend = "Write a declared name here, or declare this one with a P line, before the C, G and H lines.";
     Fault::at(start..start + name.len(), wrong, mend)
 }
 

@@ -24,7 +24,7 @@ pub fn of_line(line: &[u8]) -> Option<Fault> {
         Letter::Predicate => explain(line, 2, arity()).or_else(|| of_kind(line)),
         Letter::Claim => (2..fields.len()).find_map(|field| explain(line, field, claim_number(field - 2))),
         Letter::Multipliers => (1..fields.len()).find_map(|field| explain(line, field, multiplier(field))),
-        Letter::Head | Letter::Subgoal | Letter::End => None,
+        Letter::Fact | Letter::Head | Letter::Subgoal | Letter::End => None,
     }
 }
 
@@ -57,7 +57,7 @@ fn of_kind(line: &[u8]) -> Option<Fault> {
         b"" => "The kind is empty.".to_string(),
         _ => format!("{} is no kind of predicate.", quoted(kind)),
     };
-    let mend = "Write G where the facts are given, from outside, or R where rules derive them.";
+    let mend = "Write G where the facts are given, from outside or by G lines, or R where rules derive them.";
     Fault::at(place_of_field(line, 3), wrong, mend)
 }
 

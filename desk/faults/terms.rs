@@ -3,12 +3,12 @@
 use super::{place_of_field, Fault};
 use crate::letters::Letter;
 use crate::limits::NAME_BYTES;
-use crate::pack::{add_variables, fields_of};
+use crate::pack::fields_of;
 use crate::terms::{read_term, TermFaultKind};
 use crate::tokens::{is_name, is_variable, symbol};
 use crate::words::{are, count, listed, quoted, shown};
 
-/// 11: the first argument of a head or subgoal that is no term.
+/// 11: the first argument of a head, a subgoal or a fact that is no term.
 pub fn of_line(line: &[u8]) -> Option<Fault> {
     let fields = fields_of(line);
     if !Letter::of(fields[0])?.takes_terms() {
@@ -101,22 +101,37 @@ fn why_no_symbol(token: &[u8]) -> (String, String) {
 
 /// 19: the term has variables.
 pub fn of_variable(term: &[u8]) -> Option<Fault> {
-    let read = read_term(term).ok()?;
-    let mut variables = Vec::new();
-    add_variables(&[read], &mut variables);
-    let first = *variables.first()?;
-    let names: Vec<String> = variables.iter().map(|variable| shown(variable)).collect();
+    read_term(term).ok()?;
+    explain_variables(tokens_of(term), "so the term has no size of its own")
+}
+
+/// Names the variables among the tokens of terms that may have none, and marks the first.
+pub fn explain_variables<'t>(tokens: impl Iterator<Item = (usize, &'t [u8])>, why: &str) -> Option<Fault> {
+    let mut variables: Vec<(usize, &[u8])> = Vec::new();
+    for (place, token) in tokens {
+        if is_variable(token) && variables.iter().all(|(_, known)| *known != token) {
+            variables.push((place, token));
+        }
+    }
+    let (start, first) = *variables.first()?;
+    let names: Vec<String> = variables.iter().map(|(_, variable)| shown(variable)).collect();
     let (verb, mend) = match names.len() {
         1 => ("is a variable", "Put a term without variables in its place."),
         _ => ("are variables", "Put a term without variables in place of each."),
     };
-    let wrong = format!("{} {verb}, so the term has no size of its own.", listed(&names, "and"));
-    let start = tokens_of(term).find(|(_, token)| *token == first).map_or(0, |(start, _)| start);
-    Fault::at(start..start + first.len(), wrong, mend)
+    Fault::at(start..start + first.len(), format!("{} {verb}, {why}.", listed(&names, "and")), mend)
+}
+
+/// The tokens of a line's terms, each with its place in the line.
+pub fn argument_tokens(line: &[u8]) -> impl Iterator<Item = (usize, &[u8])> {
+    fields_of(line).into_iter().enumerate().skip(2).flat_map(|(field, term)| {
+        let start = place_of_field(line, field).start;
+        tokens_of(term).map(move |(place, token)| (start + place, token))
+    })
 }
 
 /// The tokens of a field, each with its place.
-pub fn tokens_of(field: &[u8]) -> impl Iterator<Item = (usize, &[u8])> {
+fn tokens_of(field: &[u8]) -> impl Iterator<Item = (usize, &[u8])> {
     let mut start = 0;
     field.split(|byte| *byte == b' ').map(move |token| {
         let place = start;

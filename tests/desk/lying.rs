@@ -6,7 +6,8 @@ mod truth;
 
 pub use truth::{Reservation, Residual, Verdict};
 
-/// One rule more in an accepted pack; one more at the constant of a residual; another number for any other refusal.
+/// One rule more in an accepted pack; one more at the constant of a residual; a fact that fails a claim is passed; another
+/// number for any other refusal.
 pub fn check(pack: &[u8]) -> Verdict {
     match truth::check(pack) {
         Verdict::Accepted { lines, rules, multiplier_lines } => {
@@ -16,6 +17,7 @@ pub fn check(pack: &[u8]) -> Verdict {
             residual[0] += 1;
             Verdict::Unjustified { line, rule, claim, residual }
         }
+        Verdict::Refused { number: 22, line } => Verdict::Accepted { lines: line, rules: 0, multiplier_lines: 0 },
         Verdict::Refused { number, line } => Verdict::Refused { number: number + 1, line },
     }
 }

@@ -1,5 +1,5 @@
 //! The desk against the library: every text, query and term of the stored vectors, and some thousands of packs made of
-//! them by damage. Whatever the library answers, the desk must find the fault that it names or work out the same numbers:
+//! them, and of packs with facts, by damage. Whatever the library answers, the desk must find the fault that it names or work out the same numbers:
 //! no disagreement and no panic. `tests/desk/run` runs this with the other unit tests, from the project's folder.
 
 use crate::check;
@@ -17,8 +17,16 @@ use std::collections::{BTreeMap, BTreeSet};
 #[allow(dead_code)]
 mod random;
 
-const FILES: [&str; 2] = ["tests/vectors/base.txt", "tests/vectors/edges.txt"];
+const VECTORS: &str = "tests/vectors";
 const DAMAGED_PACKS: usize = 6_000;
+
+/// Packs with facts: one that is accepted, and one for each refusal that only facts can get.
+const PACKS_WITH_FACTS: [&[u8]; 4] = [
+    include_bytes!("../../packs/sorter.pack"),
+    include_bytes!("../../packs/refused/20-fact-of-ruled.pack"),
+    include_bytes!("../../packs/refused/21-variable-in-fact.pack"),
+    include_bytes!("../../packs/refused/22-claim-not-met.pack"),
+];
 
 // ---------------------------------------------------------------------------------------------------------------
 // The vectors (tests/vectors/README.md says how their lines are written).
@@ -95,8 +103,10 @@ impl LineReader<'_> {
 
 fn read_vectors() -> Vectors {
     let mut vectors = Vectors::default();
-    for file in FILES {
-        let text = std::fs::read(file).expect("run this from the project's folder");
+    let entries = std::fs::read_dir(VECTORS).expect("run this from the project's folder");
+    let paths = entries.map(|entry| entry.expect("an entry of the folder").path());
+    for path in paths.filter(|path| path.extension().is_some_and(|extension| extension == "txt")) {
+        let text = std::fs::read(path).expect("a file that can be read");
         let mut named = BTreeMap::new();
         for line in lines_of(&text) {
             read_vector(line, &mut named, &mut vectors);
@@ -179,11 +189,12 @@ fn explain_measure(term: &[u8]) -> u8 {
 // Damage.
 
 #[rustfmt::skip]
-const FIELDS: [&[u8]; 30] = [
+const FIELDS: [&[u8]; 34] = [
     b"", b"0", b"1", b"2", b"-1", b"-2", b"7", b"9", b"01", b"+1", b"-0", b"-", b"10000", b"65536", b"x", b"X", b"Xs", b"_",
     b"nil/0", b"cons/2 X Xs", b"cons/2 X", b"f/1  X", b"a/0 a/0", b"s/1 Y", b"cons(X,Xs)", b"G", b"R", b"E", b"M", b"join",
+    b"next", b"trail", b"tray/0", b"up/1 tray/0",
 ];
-const BYTES: &[u8] = b"PCHBME,, /019-+XYan_.#(\n\n\r\t\x00\x7f\xc3\xa9";
+const BYTES: &[u8] = b"PCGHBME,, /019-+XYan_.#(\n\n\r\t\x00\x7f\xc3\xa9";
 
 fn damage(text: &mut Vec<u8>, random: &mut Random) {
     if text.is_empty() {
@@ -277,14 +288,12 @@ fn every_vector_is_explained() {
     }
 }
 
-#[test]
-fn damaged_packs_are_explained() {
-    let vectors = read_vectors();
-    let packs: Vec<&Vec<u8>> = vectors.packs.iter().chain(vectors.queries.iter().map(|(pack, _)| pack)).collect();
+/// Damages packs and asks queries of them; the verdicts and the answers that have occurred.
+fn explain_damaged(packs: &[&[u8]], seed: u64) -> (BTreeSet<u8>, BTreeSet<(char, u8)>) {
     let (mut verdicts, mut answers) = (BTreeSet::new(), BTreeSet::new());
     for number in 0..DAMAGED_PACKS {
-        let mut random = Random::for_pack(1, number as u64);
-        let mut text = packs[random.below(packs.len())].clone();
+        let mut random = Random::for_pack(seed, number as u64);
+        let mut text = packs[random.below(packs.len())].to_vec();
         for _ in 0..random.below(4) {
             damage(&mut text, &mut random);
         }
@@ -293,8 +302,26 @@ fn damaged_packs_are_explained() {
         answers.insert(explain_reserve(&text, &query));
         answers.insert(explain_reserve(&text, &damaged_bytes(&query, &mut random)));
     }
-    assert_eq!(verdicts, [0, 2, 3, 4, 5, 6, 7, 8, 9, 10, 11, 12, 13].into(), "each verdict has occurred");
+    (verdicts, answers)
+}
+
+#[test]
+fn damaged_packs_are_explained() {
+    let vectors = read_vectors();
+    let packs = vectors.packs.iter().chain(vectors.queries.iter().map(|(pack, _)| pack));
+    let (verdicts, answers) = explain_damaged(&packs.map(Vec::as_slice).collect::<Vec<&[u8]>>(), 1);
+    let wanted = [0, 2, 3, 4, 5, 6, 7, 8, 9, 10, 11, 12, 13];
+    assert!(wanted.iter().all(|number| verdicts.contains(number)), "each verdict has occurred: {verdicts:?}");
     let wanted = [('B', 0), ('N', 0), ('I', 0), ('R', 14), ('R', 15), ('R', 16), ('R', 17), ('R', 18)];
+    assert!(wanted.iter().all(|answer| answers.contains(answer)), "each answer has occurred: {answers:?}");
+}
+
+#[test]
+fn damaged_packs_with_facts_are_explained() {
+    let (verdicts, answers) = explain_damaged(&PACKS_WITH_FACTS, 3);
+    let wanted = [0, 3, 4, 5, 6, 7, 8, 9, 10, 11, 13, 20, 21, 22];
+    assert!(wanted.iter().all(|number| verdicts.contains(number)), "each verdict has occurred: {verdicts:?}");
+    let wanted = [('B', 0), ('N', 0), ('I', 0), ('R', 20), ('R', 21), ('R', 22)];
     assert!(wanted.iter().all(|answer| answers.contains(answer)), "each answer has occurred: {answers:?}");
 }
 

@@ -77,6 +77,9 @@ pub fn refusal_numbers(refusal: Refusal) -> Four
         Refusal::NoTerm(line) => of_line(11, line),
         Refusal::CountLimit(line) => of_line(12, line),
         Refusal::Unjustified(line, rule, claim) => of_claim(line, rule, claim),
+        Refusal::RuledFact(line) => of_line(20, line),
+        Refusal::NotGround(line) => of_line(21, line),
+        Refusal::UnmetClaim(line) => of_line(22, line),
     }
 }
 

@@ -1,8 +1,8 @@
 -- Lines that state an atom: their faults from the terms on, and what their terms leave when all are read.
-use mathlib.Core.Path.{_≡_, sym, _∙_, ap}
-use mathlib.Core.Bool.{Bool, true, cond}
-use mathlib.Core.List.{List, []}
-use Prim.Native.Nat.{ℕ, _≤_, _<_}
+use mathlib.Core.Path.{_≡_, refl, sym, _∙_, ap}
+use mathlib.Core.Bool.{Bool, true, not}
+use mathlib.Core.List.{List, [], _∷_, _++_}
+use Prim.Native.Nat.{ℕ, suc, _≤_, _<_}
 use native.Mathlib.Omega.{arith}
 use lib.Dec.{ltb}
 use lib.ListN.{length, getD, drop, length-drop}
@@ -14,35 +14,46 @@ use Rattle.theory.specs.Terms.{arity, allVariables}
 use Rattle.theory.specs.Packs.{Pack, Key}
 use Rattle.theory.specs.Written.{Written, termsFrom}
 use Rattle.theory.specs.Residuals.{numbered}
-use Rattle.theory.specs.Faults.{isTerm, firstOf, atomTests}
+use Rattle.theory.specs.Faults.{Test, test, isTerm, firstOf, atomTests}
+use Rattle.theory.proofs.Judging.Tests.{first-passed, first-found}
 use Rattle.theory.proofs.Reading.Places.{places-every, not-every}
 use Rattle.theory.proofs.Reading.TermFields.{terms-arity}
 use Rattle.terms.specs.Rows.{Holds as HoldsVariables}
+use Rattle.theory.proofs.Judging.Variables.{once-none}
 use Rattle.tables.specs.declared.State.{State}
 use Rattle.tables.specs.declared.Opened.{Opened}
 use Rattle.tables.specs.declared.Fault.{Fault}
 use Rattle.tables.specs.declared.Fault.the-variants.{NoTerm}
 use Rattle.tables.specs.declared.Fielding.{Fielding}
-use Rattle.tables.specs.declared.Fielding.the-variants.{Misread}
+use Rattle.tables.specs.declared.Fielding.the-variants.{Read, Misread}
 use Rattle.tables.specs.Faults.{numberOf}
 use Rattle.tables.specs.Tables.{Tables, rowPlace, predicateAt, AtomStands, Holds, Safe}
 use Rattle.tables.specs.Lines.{OldPredicate, at}
 use Rattle.tables.proofs.Outcomes.{field-fails}
 use Rattle.atoms.specs.Fields.{FieldTerm, known, ProgressTerms}
+use Rattle.atoms.proofs.TermRows.{terms-begin, term-field}
 
 -- ---- faults
 
-module _ (isRefused isPastLimit : Bool) (fields : List Bytes) (p : Pack) where
-  pub atom-limit : every isTerm (drop 2 fields) ≡ true → firstOf (drop 3 (atomTests isRefused isPastLimit fields p)) ≡ cond isPastLimit 12 0
-  unfolding firstOf atomTests
-  atom-limit good = rw good
+past-seam : (ts : List Test) (t : Test) (us : List Test) → drop (suc (length ts)) (ts ++ (t ∷ us)) ≡ us
+past-seam [] t us = refl
+past-seam (u ∷ ts) t us = past-seam ts t us
+
+module _ (isRefused : Bool) (afterName afterTerms : List Test) (fields : List Bytes) (p : Pack) where
+  -- the tests from 11 on
+  from-terms : firstOf (drop (suc (suc (suc (length afterName)))) (atomTests isRefused afterName afterTerms fields p)) ≡ firstOf (test 11 (not (every isTerm (drop 2 fields))) ∷ afterTerms)
+  unfolding atomTests
+  from-terms = ap firstOf (past-seam afterName _ _)
+
+  -- all are terms: those after 11 decide
+  pub atom-ended : every isTerm (drop 2 fields) ≡ true → firstOf (drop (suc (suc (suc (length afterName)))) (atomTests isRefused afterName afterTerms fields p)) ≡ firstOf afterTerms
+  atom-ended good = from-terms ∙ first-passed 11 _ afterTerms (ap not good)
 
   pub atom-fault : {atom index many : ℕ} {names₀ names rows₀ rows : List ℕ} {r : Fielding} {f : Fault} → index < length (drop 2 fields) → FieldTerm atom index (at (drop 2 fields) index) many names₀ rows₀ r names rows → r ≡ Misread f
-      → firstOf (drop 3 (atomTests isRefused isPastLimit fields p)) ≡ numberOf f
-  unfolding firstOf atomTests
+      → firstOf (drop (suc (suc (suc (length afterName)))) (atomTests isRefused afterName afterTerms fields p)) ≡ numberOf f
   atom-fault {index = index} inside done bad =
       let found = field-fails (done .known) NoTerm (isTerm (at (drop 2 fields) index)) (done .answer) bad in
-      rw (not-every isTerm (drop 2 fields) [] index inside (found .0)) (ap numberOf (found .1))
+      from-terms ∙ first-found 11 _ afterTerms (ap not (not-every isTerm (drop 2 fields) [] index inside (found .0))) ∙ ap numberOf (found .1)
 
 -- ---- as many terms as the predicate has arguments
 
@@ -79,3 +90,12 @@ finished {seen = seen} {fs = fs} {all = all} {many = many} short is done = recor
   where
     same : all ≡ known seen fs (length fs)
     same = is ∙ ap (λ gs. numbered seen (allVariables (termsFrom gs))) (sym (take-length fs))
+
+-- ---- the first atom of its rule, or one with no rule: a head, a fact
+
+pub first-begin : (fs : List Bytes) (variables rows : List ℕ) → length variables ≡ 64 → ProgressTerms 0 [] fs 0 0 variables rows rows
+first-begin fs variables rows size = terms-begin 0 [] fs rows (record { size = size; few = omega arith; words = λ i h. absurd (omega arith); proper = λ i h. absurd (omega arith); once = once-none }) refl
+
+pub first-field : {fs : List Bytes} {index many : ℕ} {variables₀ variables rows₀ rows₁ rows : List ℕ} {r : Fielding} {n : ℕ} → index < 8 → index < length fs → length rows₁ ≡ 1224 → ProgressTerms 0 [] fs index many variables₀ rows₀ rows₁
+    → FieldTerm 0 index (at fs index) many variables₀ rows₁ r variables rows → r ≡ Read n → ProgressTerms 0 [] fs (suc index) n variables rows₀ rows
+first-field = term-field (omega arith)

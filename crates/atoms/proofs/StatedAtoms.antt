@@ -7,7 +7,7 @@ use native.Mathlib.Omega.{arith}
 use lib.Dec.{ltb}
 use Rattle.groundwork.proofs.Truth.{by-truth, ltb-lt, lt-ltb, ge-ltb}
 use Rattle.theory.specs.declared.Letter.{Letter}
-use Rattle.theory.specs.declared.Letter.the-variants.{P, C, H, B, M, E, NoLetter}
+use Rattle.theory.specs.declared.Letter.the-variants.{P, C, G, H, B, M, E, NoLetter}
 use Rattle.atoms.specs.Fields.{subgoalAtom, atomOf}
 
 pub subgoal-next : (subgoals : ℕ) → subgoals < 8 → subgoalAtom subgoals ≡ suc subgoals
@@ -28,6 +28,7 @@ pub atom-high : (letter : Letter) (subgoals : ℕ) → atomOf letter subgoals �
 unfolding subgoalAtom
 atom-high P subgoals = omega arith
 atom-high C subgoals = omega arith
+atom-high G subgoals = omega arith
 atom-high H subgoals = omega arith
 atom-high B subgoals = by-truth (λ (b : Bool). cond b (suc subgoals) 8 ≤ 8) (ltb subgoals 8) (λ less. omega (arith, ltb-lt subgoals 8 less)) (λ more. omega arith)
 atom-high M subgoals = omega arith

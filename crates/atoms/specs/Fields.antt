@@ -6,7 +6,7 @@ use Prim.Native.Nat.{ℕ, suc, _≤_, _<_}
 use lib.Dec.{ltb}
 use lib.ListN.{length, getD, set, take}
 use Rattle.theory.specs.declared.Letter.{Letter}
-use Rattle.theory.specs.declared.Letter.the-variants.{P, C, H, B, M, E, NoLetter}
+use Rattle.theory.specs.declared.Letter.the-variants.{P, C, G, H, B, M, E, NoLetter}
 use Rattle.theory.specs.Text.{Bytes}
 use Rattle.theory.specs.Terms.{allVariables}
 use Rattle.theory.specs.Written.{termsFrom}
@@ -28,6 +28,7 @@ subgoalAtom subgoals = cond (ltb subgoals 8) (suc subgoals) 8
 abbrev pub atomOf : Letter → ℕ → ℕ
 atomOf P subgoals = 0
 atomOf C subgoals = 0
+atomOf G subgoals = 0
 atomOf H subgoals = 0
 atomOf B subgoals = subgoalAtom subgoals
 atomOf M subgoals = 0

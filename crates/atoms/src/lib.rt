@@ -22,13 +22,14 @@ fn subgoal_atom(subgoals: usize) -> usize
     if subgoals < 8 { subgoals + 1 } else { 8 }
 }
 
-/// Which atom of the rule a line states, by its letter: the head is atom 0.
+/// Which atom of the rule a line states, by its letter: the head is atom 0, and so is a fact, which has no rule.
 pub fn atom_of(letter: Letter, subgoals: usize) -> usize
     ensures { λ r. ⌜ r ≡ atomOf letter subgoals ⌝ }
 {
     match letter {
         Letter::P => 0,
         Letter::C => 0,
+        Letter::G => 0,
         Letter::H => 0,
         Letter::B => subgoal_atom(subgoals),
         Letter::M => 0,
@@ -64,8 +65,8 @@ fn field_variable(
     }
 }
 
-/// A field of an `H` or `B` line: a term, whose form goes into the row of the atom's argument. Most are one variable, and
-/// no tokens are read of those.
+/// A field of a line that states an atom: a term, whose form goes into the row of the atom's argument. Most are one
+/// variable, and no tokens are read of those.
 pub fn field_term(
     atom: usize,
     index: usize,

@@ -60,6 +60,7 @@ module _ (t : Tables) (s : State) (w : Written) (line : Bytes) (is : lineLetter 
         declares = holds .declares;
         claims = holds .claims;
         claimed = holds .claimed;
+        shipped = holds .shipped;
         rules = holds .rules ∙ sym (length-onLast (onMultipliers (ending ms)) (w .pack .rules));
         lines = omega (arith, holds .lines, one-line-more ms (w .pack .rules) some);
         last = λ nonempty. rw (last-changed (onMultipliers (ending ms)) noRule (w .pack .rules) some) rule-after;

@@ -10,10 +10,10 @@ use lib.Dec.{leb}
 use lib.IntN.{ℤ, pos, natAbs}
 use lib.ListN.{length, getD, set, drop, length-set, length-map, length-drop}
 use lib.Seq.{getD-set-other}
-use Rattle.groundwork.proofs.Truth.{leb-gt}
+use Rattle.groundwork.proofs.Truth.{and-right, leb-gt}
 use Rattle.groundwork.proofs.Lists.{length-end}
 use Rattle.groundwork.proofs.Stretches.{replaced}
-use Rattle.theory.specs.Lists.{every}
+use Rattle.theory.specs.Lists.{every, isEmpty}
 use Rattle.theory.specs.Text.{Bytes, integer, fieldsOf}
 use Rattle.theory.specs.Packs.{claimKey, claimsOn, claimLimit, numberLimit}
 use Rattle.theory.specs.declared.Letter.the-variants.{C}
@@ -100,9 +100,10 @@ c-holds line t s w o row claims holds safe passed done room laid =
           (claim-laid fields (t .claims) claims _ row _ laid done full)
           (omega (arith, length-map (drop 3 fields) integerFrom, length-drop 3 fields));
       claimed = rw (filled-is (cs ++ (c ∷ [])) (λ e. omega (arith, length-end cs c, ap length e)));
+      shipped = holds .shipped;
       rules = holds .rules;
       lines = holds .lines;
-      last = λ some. absurd (some (is-empty (w .pack .rules) (sym (claims-stand (w .pack)) ∙ passed .stands)));
+      last = λ some. absurd (some (is-empty (w .pack .rules) (and-right (isEmpty (w .pack .facts)) _ (sym (claims-stand (w .pack)) ∙ passed .stands))));
       ended = holds .ended;
     }
 

@@ -35,6 +35,7 @@ use Rattle.tables.specs.Faults.{numberOf}
 use Rattle.tables.specs.Lines.{Passed, ClosedFor, at}
 use Rattle.tables.proofs.Outcomes.{field-passes, field-fails, line-number, line-passes, line-fails}
 use Rattle.tables.proofs.Declared.{withSignature, signature-stays, declares-more, claimless}
+use Rattle.tables.proofs.Shipping.{ships-still}
 use Rattle.declarations.specs.Fields.{FieldP, ProgressP}
 use Rattle.declarations.specs.Ends.{withPredicates, ClosesP}
 
@@ -114,13 +115,16 @@ p-holds line t s w o holds safe passed room =
     let known = s .predicates in
     let declares = holds .declares in
     let neither = sym (predicates-stand (w .pack)) ∙ passed .stands in
-    let noClaims = is-empty (w .pack .claims) (and-left (isEmpty (w .pack .claims)) (isEmpty (w .pack .rules)) neither) in
-    let noRules = is-empty (w .pack .rules) (and-right (isEmpty (w .pack .claims)) (isEmpty (w .pack .rules)) neither) in
+    let noClaims = is-empty (w .pack .claims) (and-left (isEmpty (w .pack .claims)) _ neither) in
+    let others = and-right (isEmpty (w .pack .claims)) _ neither in
+    let noFacts = is-empty (w .pack .facts) (and-left (isEmpty (w .pack .facts)) _ others) in
+    let noRules = is-empty (w .pack .rules) (and-right (isEmpty (w .pack .facts)) _ others) in
     record {
       declares = declares-more (t .names) (t .signatures) known ps x declares (passed .named .isNew) room (safe .sizes .names) (safe .sizes .signatures) (passed .named .named);
       claims = rw noClaims (claimless (t .signatures) (t .claims) ps (rw noClaims at (holds .claims)) _ (ps ++ (x ∷ [])) (omega (arith, length-end ps x, declares .count))
           λ i h. signature-stays (t .signatures) known (x .arguments) (flag (x .kind)) (64 + i) (λ e. omega arith) (λ e. omega arith));
       claimed = holds .claimed;
+      shipped = ships-still (holds .shipped) noFacts _;
       rules = holds .rules;
       lines = holds .lines;
       last = λ some. absurd (some noRules);

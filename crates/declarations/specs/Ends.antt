@@ -15,10 +15,10 @@ use Rattle.tables.specs.declared.Closing.the-variants.{Done, Misclosed}
 use Rattle.tables.specs.Tables.{claimPlace}
 
 abbrev pub withPredicates : ℕ → State → State
-withPredicates n s = record { predicates = n; claimed = s .claimed; rules = s .rules; «multiplier_lines» = s .«multiplier_lines»; head = s .head; subgoals = s .subgoals; variables = s .variables; slots = s .slots; multipliers = s .multipliers; ended = s .ended }
+withPredicates n s = record { predicates = n; claimed = s .claimed; rules = s .rules; «multiplier_lines» = s .«multiplier_lines»; head = s .head; subgoals = s .subgoals; variables = s .variables; slots = s .slots; multipliers = s .multipliers; shipped = s .shipped; ended = s .ended }
 
 abbrev pub withClaim : State → State
-withClaim s = record { predicates = s .predicates; claimed = true; rules = s .rules; «multiplier_lines» = s .«multiplier_lines»; head = s .head; subgoals = s .subgoals; variables = s .variables; slots = s .slots; multipliers = s .multipliers; ended = s .ended }
+withClaim s = record { predicates = s .predicates; claimed = true; rules = s .rules; «multiplier_lines» = s .«multiplier_lines»; head = s .head; subgoals = s .subgoals; variables = s .variables; slots = s .slots; multipliers = s .multipliers; shipped = s .shipped; ended = s .ended }
 
 pub record ClosesP (o : Opened) (s : State) (small names₀ signatures₀ : List ℕ) (r : Closing) (names signatures : List ℕ) : Type 0 where
   pub answer : r ≡ cond (leb predicateLimit (s .predicates)) (Misclosed CountLimit) (Done (withPredicates (s .predicates + 1) s))

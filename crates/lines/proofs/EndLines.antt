@@ -28,6 +28,7 @@ e-holds line t s w holds =
       declares = holds .declares;
       claims = holds .claims;
       claimed = holds .claimed;
+      shipped = holds .shipped;
       rules = holds .rules;
       lines = holds .lines;
       last = λ some. let rule = holds .last some in record {

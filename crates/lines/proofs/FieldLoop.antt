@@ -9,7 +9,7 @@ use lib.ListN.{length, drop, replicate, length-take, length-drop}
 use lib.Seq.{drop-drop, getD-drop}
 use Rattle.groundwork.proofs.Lists.{same-everywhere}
 use Rattle.theory.specs.declared.Letter.{Letter}
-use Rattle.theory.specs.declared.Letter.the-variants.{P, C, H, B, M, E, NoLetter}
+use Rattle.theory.specs.declared.Letter.the-variants.{P, C, G, H, B, M, E, NoLetter}
 use Rattle.theory.specs.Text.{Bytes, fieldsOf}
 use Rattle.theory.specs.Written.{Written}
 use Rattle.theory.specs.Faults.{fault, isClaimNumber, isMultiplier}
@@ -29,7 +29,9 @@ use Rattle.declarations.proofs.PredicateLines.{p-begin, p-field, p-count, p-mis
 use Rattle.declarations.proofs.ClaimLines.{c-begin, c-field, c-count, c-fault}
 use Rattle.atoms.specs.Fields.{FieldTerm}
 use Rattle.atoms.proofs.TermFields.{t-misread, t-high}
-use Rattle.rules.proofs.HeadLines.{h-begin, h-field, h-fault}
+use Rattle.atoms.proofs.AtomLines.{first-begin, first-field}
+use Rattle.facts.proofs.FactLines.{g-fault}
+use Rattle.rules.proofs.HeadLines.{h-fault}
 use Rattle.rules.proofs.SubgoalLines.{b-begin, b-field, b-fault}
 use Rattle.certificates.proofs.MultiplierLines.{m-begin, m-field, m-count, m-room, m-fault}
 use Rattle.lines.specs.Steps.{Stores, stores, FieldNeeds, FieldLeaves, FieldReady, FieldDone, variablesBefore, Progress}
@@ -48,6 +50,7 @@ emptied t weights = stores (replicate 2 0) (replicate 9 (pos 0)) (t .variables) 
 untouched-begin : (letter : Letter) (t : Tables) {weights : List ℤ} → NoWeights weights → Untouched letter t (emptied t weights)
 untouched-begin P t clear = (refl, refl, clear)
 untouched-begin C t clear = (refl, refl, clear)
+untouched-begin G t clear = clear
 untouched-begin H t clear = clear
 untouched-begin B t clear = clear
 untouched-begin M t clear = (refl, refl)
@@ -57,6 +60,7 @@ untouched-begin NoLetter t clear = clear
 weighed-begin : (letter : Letter) (fs : List Bytes) (t : Tables) {weights : List ℤ} → NoWeights weights → Weighed letter fs 0 t (emptied t weights)
 weighed-begin P fs t clear = tt
 weighed-begin C fs t clear = tt
+weighed-begin G fs t clear = tt
 weighed-begin H fs t clear = tt
 weighed-begin B fs t clear = tt
 weighed-begin M fs t {weights} clear = m-begin fs (t .claims) (t .slots) weights clear
@@ -66,6 +70,7 @@ weighed-begin NoLetter fs t clear = tt
 variables-high : (letter : Letter) (s : State) → s .variables ≤ 16 → variablesBefore letter s ≤ 17
 variables-high P s few = omega arith
 variables-high C s few = omega arith
+variables-high G s few = omega arith
 variables-high H s few = omega arith
 variables-high B s few = omega arith
 variables-high M s few = omega arith
@@ -76,7 +81,8 @@ progress-begin : (letter : Letter) {line : Bytes} {t : Tables} {s : State} {o : 
     → Progress letter line w s t 0 (variablesBefore letter s) (emptied t weights)
 progress-begin P {line} safe clear w holds passed = p-begin (drop 2 (fieldsOf line)) (replicate 2 0)
 progress-begin C {line} safe clear w holds passed = c-begin (drop 2 (fieldsOf line)) (replicate 9 (pos 0))
-progress-begin H {line} {t} safe clear w holds passed = h-begin (drop 2 (fieldsOf line)) (t .variables) (t .rows) (safe .sizes .variables)
+progress-begin G {line} {t} safe clear w holds passed = first-begin (drop 2 (fieldsOf line)) (t .variables) (t .rows) (safe .sizes .variables)
+progress-begin H {line} {t} safe clear w holds passed = first-begin (drop 2 (fieldsOf line)) (t .variables) (t .rows) (safe .sizes .variables)
 progress-begin B {line} {t} {s} {o} safe clear w holds passed = b-begin line holds (passed .stands)
 progress-begin M {line} {t} {weights = weights} safe clear w holds passed = m-begin (drop 1 (fieldsOf line)) (t .claims) (t .slots) weights clear
 progress-begin E safe clear w holds passed = tt
@@ -132,6 +138,7 @@ module _ {line : Bytes} {t : Tables} {s : State} {o : Opened} (safe : Safe t s) 
       ready : (letter : Letter) → length (fieldsFrom line o) ≤ most letter s → Weighed letter (fieldsFrom line o) index t x₀ → FieldNeeds letter index (part line from stop) s many (t .claims) (t .slots) x₀
       ready P few weighed = (omega (arith, less), read .stores .smallSize)
       ready C few weighed = (omega (arith, less), read .stores .rowSize)
+      ready G few weighed = (omega (arith, less), short-part, read .high)
       ready H few weighed = (omega (arith, less), short-part, read .high)
       ready B few weighed = (omega (arith, less), short-part, read .high)
       ready M few weighed =
@@ -157,6 +164,7 @@ module _ {line : Bytes} {t : Tables} {s : State} {o : Opened} (safe : Safe t s) 
             → (w : Written) → Holds t s w → Passed letter line s w o → fault w line ≡ numberOf f
         misread P few done f bad w holds passed = p-fault line s w o index many (x₀ .small) (x .small) r f passed (omega (arith, less)) (rw (placed passed) at (done .0)) bad
         misread C few done f bad w holds passed = c-fault line s w o index many (x₀ .row) (x .row) r f passed (within passed) (rw (placed passed) at (done .0)) bad
+        misread G few done f bad w holds passed = g-fault passed (within passed) (rw (placed passed) at (done .0)) bad
         misread H few done f bad w holds passed = h-fault passed (within passed) (rw (placed passed) at (done .0)) bad
         misread B few done f bad w holds passed = b-fault passed (within passed) (rw (placed passed) at (done .0)) bad
         misread M few done f bad w holds passed = m-fault passed (within passed) (rw (placed passed) at (done .0)) bad
@@ -167,6 +175,7 @@ module _ {line : Bytes} {t : Tables} {s : State} {o : Opened} (safe : Safe t s) 
         early : (letter : Letter) → length (fieldsFrom line o) ≤ most letter s → FieldLeaves letter index (part line from stop) s many (t .claims) (t .slots) x₀ r x → (f : Fault) → r ≡ Misread f → numberOf f ≤ 11
         early P few done f bad = omega (arith, ap numberOf (p-misread (done .0) (omega (arith, less)) bad))
         early C few done f bad = omega (arith, ap numberOf (field-fails many Number (isClaimNumber (part line from stop)) (done .0 .answer) bad .1))
+        early G few done f bad = omega (arith, ap numberOf (t-misread (done .0) bad))
         early H few done f bad = omega (arith, ap numberOf (t-misread (done .0) bad))
         early B few done f bad = omega (arith, ap numberOf (t-misread (done .0) bad))
         early M few done f bad = omega (arith, ap numberOf (field-fails many Number (isMultiplier (part line from stop)) (done .0 .answer) bad .1))
@@ -207,6 +216,7 @@ module _ {line : Bytes} {t : Tables} {s : State} {o : Opened} (safe : Safe t s) 
             rowsSize = read .stores .rowsSize;
             rows = read .stores .rows;
           })
+          stores-after G done = subst⁻¹ SafeStores (done .1) (term-stores (done .0))
           stores-after H done = subst⁻¹ SafeStores (done .1) (term-stores (done .0))
           stores-after B done = subst⁻¹ SafeStores (done .1) (term-stores (done .0))
           stores-after M done = subst⁻¹ SafeStores (done .1) (record {
@@ -224,6 +234,7 @@ module _ {line : Bytes} {t : Tables} {s : State} {o : Opened} (safe : Safe t s) 
           high-after : (letter : Letter) → length (fieldsFrom line o) ≤ most letter s → FieldLeaves letter index (part line from stop) s many (t .claims) (t .slots) x₀ r x → n ≤ 17
           high-after P few done = omega (arith, p-count (done .0) (omega (arith, less)) good, read .high)
           high-after C few done = omega (arith, c-count (done .0) good, read .high)
+          high-after G few done = t-high (done .0) good
           high-after H few done = t-high (done .0) good
           high-after B few done = t-high (done .0) good
           high-after M few done = omega (arith, m-count (done .0) good, read .high)
@@ -233,6 +244,7 @@ module _ {line : Bytes} {t : Tables} {s : State} {o : Opened} (safe : Safe t s) 
           untouched-after : (letter : Letter) → FieldLeaves letter index (part line from stop) s many (t .claims) (t .slots) x₀ r x → Untouched letter t x₀ → Untouched letter t x
           untouched-after P done before = subst⁻¹ (Untouched P t) (done .1) before
           untouched-after C done before = subst⁻¹ (Untouched C t) (done .1) before
+          untouched-after G done before = subst⁻¹ (Untouched G t) (done .1) before
           untouched-after H done before = subst⁻¹ (Untouched H t) (done .1) before
           untouched-after B done before = subst⁻¹ (Untouched B t) (done .1) before
           untouched-after M done before = subst⁻¹ (Untouched M t) (done .1) before
@@ -242,6 +254,7 @@ module _ {line : Bytes} {t : Tables} {s : State} {o : Opened} (safe : Safe t s) 
           weighed-after : (letter : Letter) → FieldLeaves letter index (part line from stop) s many (t .claims) (t .slots) x₀ r x → Weighed letter (fieldsFrom line o) index t x₀ → Weighed letter (fieldsFrom line o) (suc index) t x
           weighed-after P done before = tt
           weighed-after C done before = tt
+          weighed-after G done before = tt
           weighed-after H done before = tt
           weighed-after B done before = tt
           weighed-after M done before = m-field before (rw here at (done .0)) good
@@ -253,7 +266,8 @@ module _ {line : Bytes} {t : Tables} {s : State} {o : Opened} (safe : Safe t s) 
               → Progress letter line w s t index many x₀ → Progress letter line w s t (suc index) n x
           progress P few done w passed before = p-field (drop 2 (fieldsOf line)) index many (x₀ .small) (x .small) r n (omega (arith, less)) before (rw (placed passed) at (done .0)) good
           progress C few done w passed before = c-field (drop 2 (fieldsOf line)) index many (x₀ .row) (x .row) r n before (rw (placed passed) at (done .0)) good
-          progress H few done w passed before = h-field (omega (arith, less)) (within passed) (read .stores .rowsSize) before (rw (placed passed) at (done .0)) good
+          progress G few done w passed before = first-field (omega (arith, less)) (within passed) (read .stores .rowsSize) before (rw (placed passed) at (done .0)) good
+          progress H few done w passed before = first-field (omega (arith, less)) (within passed) (read .stores .rowsSize) before (rw (placed passed) at (done .0)) good
           progress B few done w passed before = b-field (omega (arith, less)) (within passed) (read .stores .rowsSize) before (rw (placed passed) at (done .0)) good
           progress M few done w passed before = m-field before (rw (placed passed) at (done .0)) good
           progress E few done w passed before = tt

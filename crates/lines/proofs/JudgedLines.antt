@@ -1,8 +1,6 @@
 -- A line that is judged before it is read whole: refused when it is opened, or at one of its fields.
 use mathlib.Core.Path.{_≡_, sym, ap}
 use mathlib.Core.List.{List}
-use Prim.Native.Nat.{_≤_}
-use native.Mathlib.Omega.{arith}
 use lib.IntN.{ℤ}
 use Rattle.theory.specs.Text.{Bytes}
 use Rattle.theory.specs.Written.{Written}
@@ -22,8 +20,8 @@ use Rattle.opening.specs.Opening.{Opens}
 use Rattle.lines.specs.Between.{LineJudged}
 
 -- nothing is asked of the tables after it
-pub refused-line : {line : Bytes} {t t₁ : Tables} {s : State} {weights : List ℤ} (f : Fault) → numberOf f ≤ 12 → Summable weights (t₁ .rows) → ((w : Written) → Holds t s w → fault w line ≡ numberOf f) → LineJudged line s t (Misclosed f) t₁ weights
-refused-line f low summable tells = record {
+pub refused-line : {line : Bytes} {t t₁ : Tables} {s : State} {weights : List ℤ} (f : Fault) → (numberOf f ≡ 13 → ⊥) → Summable weights (t₁ .rows) → ((w : Written) → Holds t s w → fault w line ≡ numberOf f) → LineJudged line s t (Misclosed f) t₁ weights
+refused-line f other summable tells = record {
   safe = λ next e. absurd (done-misclosed (sym e));
   summable = summable;
   tells = λ w holds. record { answer = tells w holds; holds = λ next e. absurd (done-misclosed (sym e)) };
@@ -31,7 +29,7 @@ refused-line f low summable tells = record {
 }
   where
     last : Misclosed f ≡ Misclosed Unjustified → ⊥
-    last e = omega (arith, ap numberOf (misclosed-fault e))
+    last e = other (ap numberOf (misclosed-fault e))
 
 pub refused-opening : {line : Bytes} {t : Tables} {s : State} {r : Opening} {weights : List ℤ} → Summable weights (t .rows) → Opens line (t .names) (t .signatures) s r → (f : Fault) → r ≡ Misopened f → LineJudged line s t (Misclosed f) t weights
-refused-opening {t = t} {s} summable opens f e = refused-line f (omega (arith, opens .early f e)) summable (λ w holds. opens .tells w (outline t s w holds) .refused f e)
+refused-opening {t = t} {s} summable opens f e = refused-line f (opens .other f e) summable (λ w holds. opens .tells w (outline t s w holds) .refused f e)

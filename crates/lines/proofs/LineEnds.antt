@@ -6,7 +6,7 @@ use native.Mathlib.Omega.{arith}
 use lib.IntN.{ℤ}
 use lib.ListN.{length, drop, length-drop}
 use Rattle.theory.specs.declared.Letter.{Letter}
-use Rattle.theory.specs.declared.Letter.the-variants.{P, C, H, B, M, E, NoLetter}
+use Rattle.theory.specs.declared.Letter.the-variants.{P, C, G, H, B, M, E, NoLetter}
 use Rattle.theory.specs.Text.{Bytes, fieldsOf}
 use Rattle.theory.specs.Written.{Written}
 use Rattle.tables.specs.declared.State.{State}
@@ -15,6 +15,7 @@ use Rattle.tables.specs.declared.Fault.the-variants.{CountLimit, Unjustified}
 use Rattle.tables.specs.declared.Opened.{Opened}
 use Rattle.tables.specs.declared.Closing.{Closing}
 use Rattle.tables.specs.declared.Closing.the-variants.{Done, Misclosed}
+use Rattle.tables.specs.Faults.{numberOf}
 use Rattle.tables.specs.Tables.{Tables, tables, Holds, NoWeights, SafeRows, Safe}
 use Rattle.tables.specs.Lines.{skipped, most, Passed, ClosedFor}
 use Rattle.tables.proofs.Outcomes.{done-misclosed}
@@ -23,6 +24,7 @@ use Rattle.certificates.specs.Multipliers.{ProgressM, ClosesM}
 use Rattle.declarations.specs.Fields.{ProgressP}
 use Rattle.declarations.proofs.PredicateLines.{p-limit, p-close, p-safe}
 use Rattle.declarations.proofs.ClaimLines.{c-limit, c-close, c-safe}
+use Rattle.facts.proofs.FactLines.{g-other, g-close, g-safe}
 use Rattle.rules.proofs.HeadLines.{h-limit, h-close, h-safe}
 use Rattle.rules.proofs.SubgoalLines.{b-limit, b-close, b-safe}
 use Rattle.certificates.proofs.MultiplierLines.{m-summable, m-close, m-left, m-left-summable, m-cleared, m-safe}
@@ -34,27 +36,31 @@ use Rattle.lines.proofs.EndLines.{e-close, e-safe}
 claim-other : C ≡ P → ⊥
 claim-other e = let never : _≡_ {A = ℕ} 0 1 = cc in absurd (omega arith)
 
+fact-other : G ≡ P → ⊥
+fact-other e = let never : _≡_ {A = ℕ} 0 1 = cc in absurd (omega arith)
+
 head-other : H ≡ P → ⊥
 head-other e = let never : _≡_ {A = ℕ} 0 1 = cc in absurd (omega arith)
 
 subgoal-other : B ≡ P → ⊥
 subgoal-other e = let never : _≡_ {A = ℕ} 0 1 = cc in absurd (omega arith)
 
-limit-justified : CountLimit ≡ Unjustified → ⊥
-limit-justified e = let never : _≡_ {A = ℕ} 0 1 = cc in absurd (omega arith)
+-- a limit is not an unjustified claim
+limit-other : {r : Closing} → ((f : Fault) → r ≡ Misclosed f → f ≡ CountLimit) → (f : Fault) → r ≡ Misclosed f → numberOf f ≡ 13 → ⊥
+limit-other limit f bad e = omega (arith, ap numberOf (limit f bad))
 
 -- no weights can be summed
 pub unweighed : {weights : List ℤ} {rows : List ℕ} → NoWeights weights → SafeRows rows → Summable weights rows
 unweighed clear rows = record { size = clear .size; weight = λ i. rw (clear .zero i) (omega arith); row = rows }
 
--- a line whose end only a limit can refuse, with the tables x after it
-limited : {line : Bytes} {s : State} {t t₁ : Tables} {r : Closing} {weights₀ weights : List ℤ} (x : Tables) → t₁ ≡ x → weights ≡ weights₀ → NoWeights weights₀ → SafeRows (t₁ .rows) → ((f : Fault) → r ≡ Misclosed f → f ≡ CountLimit)
+-- a line whose end leaves no residual, with the tables x after it
+leaves-none : {line : Bytes} {s : State} {t t₁ : Tables} {r : Closing} {weights₀ weights : List ℤ} (x : Tables) → t₁ ≡ x → weights ≡ weights₀ → NoWeights weights₀ → SafeRows (t₁ .rows) → ((f : Fault) → r ≡ Misclosed f → numberOf f ≡ 13 → ⊥)
     → ((next : State) → r ≡ Done next → Safe x next) → ((w : Written) → Holds t s w → ClosedFor line w r x) → LineJudged line s t r t₁ weights
-limited {line} {t₁ = t₁} {r = r} x after same clear rows limit safe tells = record {
+leaves-none {line} {t₁ = t₁} {r = r} x after same clear rows other safe tells = record {
   safe = λ next done. (subst⁻¹ (λ (y : Tables). Safe y next) after (safe next done), subst⁻¹ NoWeights same clear);
   summable = subst⁻¹ (λ (ws : List ℤ). Summable ws (t₁ .rows)) same (unweighed clear rows);
   tells = λ w holds. subst⁻¹ (ClosedFor line w r) after (tells w holds);
-  left = λ w holds bad. absurd (limit-justified (sym (limit Unjustified bad)));
+  left = λ w holds bad. absurd (other Unjustified bad refl);
 }
 
 -- the weights after an `M` line: none where it passes, those of its claim where it does not
@@ -74,6 +80,7 @@ module _ {line : Bytes} {t : Tables} {s : State} {o : Opened} (safe : Safe t s) 
       → CloseNeeds letter o s (x .rows) (unclosed t x)
   closable P read few place due past = tt
   closable C read few place due past = (place claim-other, safe .signatures, safe .sizes .claims)
+  closable G read few place due past = (place fact-other, safe .signatures, safe .claims, read .stores .rows)
   closable H read few place due past = safe .state .rules
   closable B read few place due past = (place subgoal-other, safe .signatures, safe .state .slots, safe .sizes .slots)
   closable M read few place due past =
@@ -91,24 +98,28 @@ module _ {line : Bytes} {t : Tables} {s : State} {o : Opened} (safe : Safe t s) 
         → ((w : Written) → Holds t s w → Passed letter line s w o) → CloseLeaves letter o s many (x .small) (x .row) (x .rows) (unclosed t x) r y → LineJudged line s t r (closedTables x y) (y .weights)
     closed P read few place due past passed done =
         let (variables, rows, clear) = read .untouched in
-        limited (tables (y .names) (y .signatures) (t .claims) (t .variables) (t .rows) (t .slots)) (λ i. tables (y .names) (y .signatures) (done .1 i .claims) (variables i) (rows i) (done .1 i .slots))
-        (ap (λ (z : Tabled). z .weights) (done .1)) clear (read .stores .rows) (p-limit (done .0)) (p-safe t s o (x .small) (y .names) (y .signatures) r safe (read .stores .arity) (done .0))
+        leaves-none (tables (y .names) (y .signatures) (t .claims) (t .variables) (t .rows) (t .slots)) (λ i. tables (y .names) (y .signatures) (done .1 i .claims) (variables i) (rows i) (done .1 i .slots))
+        (ap (λ (z : Tabled). z .weights) (done .1)) clear (read .stores .rows) (limit-other (p-limit (done .0))) (p-safe t s o (x .small) (y .names) (y .signatures) r safe (read .stores .arity) (done .0))
         λ w holds.
         let p = passed w holds in
         let two : index ≡ 2 = omega (arith, ap length (p .rest), length-drop 2 (fieldsOf line), p .named .four) in
         p-close line t s w o (x .small) (y .names) (y .signatures) r holds safe p (subst (λ (n : ℕ). ProgressP (drop 2 (fieldsOf line)) n (x .small)) two (read .tells w holds p)) (done .0)
     closed C read few place due past passed done =
         let (variables, rows, clear) = read .untouched in
-        limited (tables (t .names) (y .signatures) (y .claims) (t .variables) (t .rows) (t .slots)) (λ i. tables (done .1 i .names) (y .signatures) (y .claims) (variables i) (rows i) (done .1 i .slots))
-        (ap (λ (z : Tabled). z .weights) (done .1)) clear (read .stores .rows) (c-limit (done .0)) (c-safe t s o (x .row) (y .signatures) (y .claims) r safe (place claim-other) (read .stores .rowSmall) (done .0))
+        leaves-none (tables (t .names) (y .signatures) (y .claims) (t .variables) (t .rows) (t .slots)) (λ i. tables (done .1 i .names) (y .signatures) (y .claims) (variables i) (rows i) (done .1 i .slots))
+        (ap (λ (z : Tabled). z .weights) (done .1)) clear (read .stores .rows) (limit-other (c-limit (done .0))) (c-safe t s o (x .row) (y .signatures) (y .claims) r safe (place claim-other) (read .stores .rowSmall) (done .0))
         λ w holds. let p = passed w holds in c-close line t s w o (x .row) (y .signatures) (y .claims) r holds safe p (whole C read past w holds p) (done .0)
+    closed G read few place due past passed done =
+        leaves-none (tables (t .names) (t .signatures) (t .claims) (x .variables) (x .rows) (t .slots)) (λ i. tables (done .1 i .names) (done .1 i .signatures) (done .1 i .claims) (x .variables) (x .rows) (done .1 i .slots))
+        (ap (λ (z : Tabled). z .weights) (done .1)) (read .untouched) (read .stores .rows) (g-other (done .0)) (g-safe safe (read .stores .variablesSize) (read .stores .rowsSize) (read .stores .rows) (done .0))
+        λ w holds. let p = passed w holds in g-close holds safe p (whole G read past w holds p) (done .0)
     closed H read few place due past passed done =
-        limited (tables (t .names) (t .signatures) (t .claims) (x .variables) (x .rows) (t .slots)) (λ i. tables (done .1 i .names) (done .1 i .signatures) (done .1 i .claims) (x .variables) (x .rows) (done .1 i .slots))
-        (ap (λ (z : Tabled). z .weights) (done .1)) (read .untouched) (read .stores .rows) (h-limit (done .0)) (h-safe safe (place head-other) (read .stores .variablesSize) (read .stores .rowsSize) (read .stores .rows) (done .0))
+        leaves-none (tables (t .names) (t .signatures) (t .claims) (x .variables) (x .rows) (t .slots)) (λ i. tables (done .1 i .names) (done .1 i .signatures) (done .1 i .claims) (x .variables) (x .rows) (done .1 i .slots))
+        (ap (λ (z : Tabled). z .weights) (done .1)) (read .untouched) (read .stores .rows) (limit-other (h-limit (done .0))) (h-safe safe (place head-other) (read .stores .variablesSize) (read .stores .rowsSize) (read .stores .rows) (done .0))
         λ w holds. let p = passed w holds in h-close holds safe p (whole H read past w holds p) (done .0)
     closed B read few place due past passed done =
-        limited (tables (t .names) (t .signatures) (t .claims) (x .variables) (x .rows) (y .slots)) (λ i. tables (done .1 i .names) (done .1 i .signatures) (done .1 i .claims) (x .variables) (x .rows) (y .slots))
-        (ap (λ (z : Tabled). z .weights) (done .1)) (read .untouched) (read .stores .rows) (b-limit (done .0)) (b-safe safe (place subgoal-other) (read .stores .variablesSize) (read .stores .rowsSize) (read .stores .rows) (done .0))
+        leaves-none (tables (t .names) (t .signatures) (t .claims) (x .variables) (x .rows) (y .slots)) (λ i. tables (done .1 i .names) (done .1 i .signatures) (done .1 i .claims) (x .variables) (x .rows) (y .slots))
+        (ap (λ (z : Tabled). z .weights) (done .1)) (read .untouched) (read .stores .rows) (limit-other (b-limit (done .0))) (b-safe safe (place subgoal-other) (read .stores .variablesSize) (read .stores .rowsSize) (read .stores .rows) (done .0))
         λ w holds. let p = passed w holds in b-close holds safe p (whole B read past w holds p) (done .0)
     closed M read few place due past passed done =
         let (variables, rows) = read .untouched in
@@ -126,8 +137,8 @@ module _ {line : Bytes} {t : Tables} {s : State} {o : Opened} (safe : Safe t s) 
         }
     closed E read few place due past passed done =
         let (variables, rows, clear) = read .untouched in
-        limited t (λ i. tables (done .1 i .names) (done .1 i .signatures) (done .1 i .claims) (variables i) (rows i) (done .1 i .slots))
-        (ap (λ (z : Tabled). z .weights) (done .1)) clear (read .stores .rows) (λ f bad. absurd (done-misclosed (sym (done .0) ∙ bad))) (λ next good. e-safe t s next safe (sym (done .0) ∙ good))
+        leaves-none t (λ i. tables (done .1 i .names) (done .1 i .signatures) (done .1 i .claims) (variables i) (rows i) (done .1 i .slots))
+        (ap (λ (z : Tabled). z .weights) (done .1)) clear (read .stores .rows) (λ f bad e. absurd (done-misclosed (sym (done .0) ∙ bad))) (λ next good. e-safe t s next safe (sym (done .0) ∙ good))
         λ w holds. e-close line t s w o r holds (passed w holds) (done .0)
     closed NoLetter read few place due past passed done = record {
       safe = λ next good. absurd (done-misclosed (sym good ∙ done .0));

@@ -17,10 +17,11 @@ use Rattle.text.proofs.Cuts.{lines-done, lines-step}
 use Rattle.forms.specs.declared.Form.{Form}
 use Rattle.tables.specs.declared.State.{State}
 use Rattle.tables.specs.declared.Fault.{Fault}
-use Rattle.tables.specs.declared.Fault.the-variants.{UnfitLine, Letter, Name, Declaration, FieldCount, Number, NoTerm, CountLimit, Unjustified}
+use Rattle.tables.specs.declared.Fault.the-variants.{Unjustified}
 use Rattle.tables.specs.declared.Closing.{Closing}
 use Rattle.tables.specs.declared.Closing.the-variants.{Done, Misclosed}
 use Rattle.tables.specs.Faults.{numberOf, closingNumber}
+use Rattle.tables.proofs.FaultNumbers.{thirteen, number-some}
 use Rattle.tables.specs.Tables.{Tables, NoWeights, Safe}
 use Rattle.residuals.specs.Sums.{width, SumsTo, formNumbers}
 use Rattle.lines.specs.declared.Ending.the-variants.{AllPass, Stopped}
@@ -34,28 +35,6 @@ all-stopped e = let never : _≡_ {A = ℕ} 0 1 = cc in absurd (omega arith)
 
 stopped-fault : {f g : Fault} → Stopped f ≡ Stopped g → f ≡ g
 stopped-fault e = cc
-
-thirteen : (f : Fault) → numberOf f ≡ 13 → f ≡ Unjustified
-thirteen UnfitLine e = absurd (omega arith)
-thirteen Letter e = absurd (omega arith)
-thirteen Name e = absurd (omega arith)
-thirteen Declaration e = absurd (omega arith)
-thirteen FieldCount e = absurd (omega arith)
-thirteen Number e = absurd (omega arith)
-thirteen NoTerm e = absurd (omega arith)
-thirteen CountLimit e = absurd (omega arith)
-thirteen Unjustified e = refl
-
-pub number-some : (f : Fault) → numberOf f ≡ 0 → ⊥
-number-some UnfitLine e = omega arith
-number-some Letter e = omega arith
-number-some Name e = omega arith
-number-some Declaration e = omega arith
-number-some FieldCount e = omega arith
-number-some Number e = omega arith
-number-some NoTerm e = omega arith
-number-some CountLimit e = omega arith
-number-some Unjustified e = omega arith
 
 -- ---- verdicts
 

@@ -1,14 +1,13 @@
 -- A dispatcher's answer, by the letter that it was asked for.
 use mathlib.Core.Path.{_≡_, refl, sym, _∙_, subst}
-use mathlib.Core.Logic.{_⊎_, ⊎-elim}
-use mathlib.Core.List.{List}
+use mathlib.Core.List.{List, [], _∷_}
 use Prim.Native.Nat.{ℕ}
-use native.Mathlib.Omega.{arith}
+use types.Run.{OneOf, miss}
 use lib.IntN.{ℤ}
 use denote.Enum.Declared.{tagOf}
 use Rattle.theory.proofs.Letter.{the-type}
 use Rattle.theory.specs.declared.Letter.{Letter}
-use Rattle.theory.specs.declared.Letter.the-variants.{P, C, H, B, M, E, NoLetter}
+use Rattle.theory.specs.declared.Letter.the-variants.{P, C, G, H, B, M, E, NoLetter}
 use Rattle.theory.specs.Text.{Bytes}
 use Rattle.tables.specs.declared.State.{State}
 use Rattle.tables.specs.declared.Opened.{Opened}
@@ -23,25 +22,26 @@ field-done l {index = index} {field} {s} {many} {claims} {slots} {x₀} {r} {x} 
 
 -- ---- the letters of atoms, by their tags
 
-by-atom : (P : Letter → Type 0) (letter : Letter) → (tagOf the-type letter ≡ 2) ⊎ (tagOf the-type letter ≡ 3) → P H → P B → P letter
-by-atom Q P way head subgoal = absurd (⊎-elim (λ (e : 0 ≡ 2). omega arith) (λ (e : 0 ≡ 3). omega arith) way)
-by-atom Q C way head subgoal = absurd (⊎-elim (λ (e : 1 ≡ 2). omega arith) (λ (e : 1 ≡ 3). omega arith) way)
-by-atom Q H way head subgoal = head
-by-atom Q B way head subgoal = subgoal
-by-atom Q M way head subgoal = absurd (⊎-elim (λ (e : 4 ≡ 2). omega arith) (λ (e : 4 ≡ 3). omega arith) way)
-by-atom Q E way head subgoal = absurd (⊎-elim (λ (e : 5 ≡ 2). omega arith) (λ (e : 5 ≡ 3). omega arith) way)
-by-atom Q NoLetter way head subgoal = absurd (⊎-elim (λ (e : 6 ≡ 2). omega arith) (λ (e : 6 ≡ 3). omega arith) way)
+by-atom : (P : Letter → Type 0) (letter : Letter) → OneOf (2 ∷ 3 ∷ 4 ∷ []) (tagOf the-type letter) → P G → P H → P B → P letter
+by-atom Q P way fact head subgoal = absurd (miss (2 ∷ 3 ∷ 4 ∷ []) 0 tt way)
+by-atom Q C way fact head subgoal = absurd (miss (2 ∷ 3 ∷ 4 ∷ []) 1 tt way)
+by-atom Q G way fact head subgoal = fact
+by-atom Q H way fact head subgoal = head
+by-atom Q B way fact head subgoal = subgoal
+by-atom Q M way fact head subgoal = absurd (miss (2 ∷ 3 ∷ 4 ∷ []) 5 tt way)
+by-atom Q E way fact head subgoal = absurd (miss (2 ∷ 3 ∷ 4 ∷ []) 6 tt way)
+by-atom Q NoLetter way fact head subgoal = absurd (miss (2 ∷ 3 ∷ 4 ∷ []) 7 tt way)
 
-module _ {letter : Letter} (way : (tagOf the-type letter ≡ 2) ⊎ (tagOf the-type letter ≡ 3)) {index : ℕ} {field : Bytes} {s : State} {many : ℕ} {claims : List ℤ} {slots : List ℕ} {x₀ : Stores} where
+module _ {letter : Letter} (way : OneOf (2 ∷ 3 ∷ 4 ∷ []) (tagOf the-type letter)) {index : ℕ} {field : Bytes} {s : State} {many : ℕ} {claims : List ℤ} {slots : List ℕ} {x₀ : Stores} where
   pub atom-ready : FieldReady letter index field s many claims slots x₀ → TermReady index field many
-  atom-ready ready = by-atom (λ (l : Letter). FieldNeeds l index field s many claims slots x₀ → TermReady index field many) letter way (λ needed. needed) (λ needed. needed) (ready .of letter refl)
+  atom-ready ready = by-atom (λ (l : Letter). FieldNeeds l index field s many claims slots x₀ → TermReady index field many) letter way (λ needed. needed) (λ needed. needed) (λ needed. needed) (ready .of letter refl)
 
   pub atom-done : {r : Fielding} {x : Stores} → FieldTerm (atomOf letter (s .subgoals)) index field many (x₀ .variables) (x₀ .rows) r (x .variables) (x .rows)
       → x ≡ stores (x₀ .small) (x₀ .row) (x .variables) (x .rows) (x₀ .weights) → FieldDone letter index field s many claims slots x₀ r x
   atom-done {r} {x} done same =
       field-done letter refl
       (by-atom (λ (l : Letter). FieldTerm (atomOf l (s .subgoals)) index field many (x₀ .variables) (x₀ .rows) r (x .variables) (x .rows) → FieldLeaves l index field s many claims slots x₀ r x) letter way
-      (λ read. (read, same)) (λ read. (read, same)) done)
+      (λ read. (read, same)) (λ read. (read, same)) (λ read. (read, same)) done)
 
 pub close-done : (l : Letter) {letter : Letter} {o : Opened} {s : State} {many : ℕ} {small : List ℕ} {row : List ℤ} {rows : List ℕ} {y₀ : Tabled} {r : Closing} {y : Tabled}
     → letter ≡ l → CloseLeaves l o s many small row rows y₀ r y → CloseDone letter o s many small row rows y₀ r y

@@ -1,7 +1,7 @@
 -- One turn of the loop over lines, by what its calls answer: what the loops' proof cites.
 use mathlib.Core.Path.{_≡_, refl, ap, subst⁻¹}
 use mathlib.Core.List.{List}
-use Prim.Native.Nat.{ℕ, _+_, _-_, _*_, _≤_, _<_}
+use Prim.Native.Nat.{ℕ, _+_, _*_, _≤_, _<_}
 use native.Mathlib.Omega.{arith}
 use lib.IntN.{ℤ}
 use lib.ListN.{length}
@@ -53,7 +53,7 @@ module _ {text : Bytes} {start : State} {t₀ : Tables} {s : State} {t : Tables}
   pub turn-unopened : {f : Fault} → r ≡ Misopened f → {form : Form} {names signatures : List ℕ} {claims : List ℤ} → LoadsLines text start t₀ (record { ending = Stopped f; line = number + 1; state = s; residual = form }) names signatures claims
   turn-unopened {f} e =
       lines-refused (turn .read) (turn .inside) (turn .finds) (refused-opening (unweighed (turn .read .clear) (turn .read .safe .rows)) (turn .opens) f e) refl
-      (λ is. absurd (omega (arith, turn .opens .early f e, ap numberOf is)))
+      (λ is. absurd (turn .opens .other f e (ap numberOf is)))
 
   module _ {o : Opened} (opened : r ≡ Line o) where
     safe-opened : SafeOpened (part text at end) s o
@@ -97,7 +97,7 @@ module _ {text : Bytes} {start : State} {t₀ : Tables} {s : State} {t : Tables}
           turn-misread {f} bad =
               let early = fields-early (turn .read .safe) (safe-opened .short) (o .letter) (safe-opened .few) fields within found x done f bad in
               lines-refused (turn .read) (turn .inside) (turn .finds) {t₁ = t}
-              (refused-line f (omega (arith, early)) (unweighed (turn .read .clear) (turn .read .safe .rows)) (λ w holds. fields-fault (turn .read .safe) (safe-opened .short) (o .letter) (safe-opened .few) fields within found x done f bad w holds (passed w holds)))
+              (refused-line f (λ e. omega (arith, early)) (unweighed (turn .read .clear) (turn .read .safe .rows)) (λ w holds. fields-fault (turn .read .safe) (safe-opened .short) (o .letter) (safe-opened .few) fields within found x done f bad w holds (passed w holds)))
               refl
               (λ is. absurd (omega (arith, early, ap numberOf is)))
 

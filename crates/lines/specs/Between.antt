@@ -5,7 +5,7 @@ use Prim.Native.Nat.{ℕ, _+_, _≤_}
 use lib.IntN.{ℤ, pos, natAbs}
 use lib.ListN.{length, getD, drop}
 use Rattle.theory.specs.declared.Letter.{Letter}
-use Rattle.theory.specs.declared.Letter.the-variants.{P, C, H, B, M, E, NoLetter}
+use Rattle.theory.specs.declared.Letter.the-variants.{P, C, G, H, B, M, E, NoLetter}
 use Rattle.theory.specs.Text.{Bytes, fieldsOf, linesOf}
 use Rattle.theory.specs.Written.{Written, writeAll, multipliersFrom}
 use Rattle.theory.specs.Faults.{residualDue}
@@ -37,6 +37,7 @@ pub record SafeStores (x : Stores) : Type 0 where
 abbrev pub Untouched : Letter → Tables → Stores → Type 0
 Untouched P t x = (x .variables ≡ t .variables) × (x .rows ≡ t .rows) × NoWeights (x .weights)
 Untouched C t x = (x .variables ≡ t .variables) × (x .rows ≡ t .rows) × NoWeights (x .weights)
+Untouched G t x = NoWeights (x .weights)
 Untouched H t x = NoWeights (x .weights)
 Untouched B t x = NoWeights (x .weights)
 Untouched M t x = (x .variables ≡ t .variables) × (x .rows ≡ t .rows)
@@ -47,6 +48,7 @@ Untouched NoLetter t x = NoWeights (x .weights)
 abbrev pub Weighed : Letter → List Bytes → ℕ → Tables → Stores → Type 0
 Weighed P fs index t x = Unit {0}
 Weighed C fs index t x = Unit {0}
+Weighed G fs index t x = Unit {0}
 Weighed H fs index t x = Unit {0}
 Weighed B fs index t x = Unit {0}
 Weighed M fs index t x = ProgressM fs index (t .claims) (t .slots) (x .weights)

@@ -6,7 +6,7 @@ use Prim.Native.Nat.{ℕ, _+_, _*_, _≤_, _<_}
 use lib.IntN.{ℤ}
 use lib.ListN.{length, getD, drop}
 use Rattle.theory.specs.declared.Letter.{Letter}
-use Rattle.theory.specs.declared.Letter.the-variants.{P, C, H, B, M, E, NoLetter}
+use Rattle.theory.specs.declared.Letter.the-variants.{P, C, G, H, B, M, E, NoLetter}
 use Rattle.theory.specs.Text.{Bytes, fieldsOf}
 use Rattle.theory.specs.Written.{Written}
 use Rattle.numbers.specs.Zeros.{Zeros}
@@ -16,11 +16,12 @@ use Rattle.tables.specs.declared.Opened.{Opened}
 use Rattle.tables.specs.declared.Fielding.{Fielding}
 use Rattle.tables.specs.declared.Closing.{Closing}
 use Rattle.tables.specs.declared.Closing.the-variants.{Done, Misclosed}
-use Rattle.tables.specs.Tables.{Tables, SafeSignatures, SafeClaims}
+use Rattle.tables.specs.Tables.{Tables, SafeSignatures, SafeClaims, SafeRows}
 use Rattle.declarations.specs.Fields.{FieldP, FieldC, ProgressP, ProgressC}
 use Rattle.declarations.specs.Ends.{ClosesP, ClosesC}
 use Rattle.atoms.specs.Fields.{FieldTerm, subgoalAtom, ProgressTerms}
 use Rattle.rules.specs.Subgoals.{ProgressSubgoal}
+use Rattle.facts.specs.Ends.{ClosesG}
 use Rattle.rules.specs.Ends.{ClosesH, ClosesB}
 use Rattle.residuals.specs.Sums.{Summable}
 use Rattle.certificates.specs.Weights.{RoomFor}
@@ -46,6 +47,7 @@ TermReady index field many = (index < 8) × (length field ≤ 1024) × (many ≤
 abbrev pub FieldNeeds : Letter → ℕ → Bytes → State → ℕ → List ℤ → List ℕ → Stores → Type 0
 FieldNeeds P index field s many claims slots x = (index < 2) × (length (x .small) ≡ 2)
 FieldNeeds C index field s many claims slots x = (index < 9) × (length (x .row) ≡ 9)
+FieldNeeds G index field s many claims slots x = TermReady index field many
 FieldNeeds H index field s many claims slots x = TermReady index field many
 FieldNeeds B index field s many claims slots x = TermReady index field many
 FieldNeeds M index field s many claims slots x =
@@ -57,6 +59,8 @@ FieldNeeds NoLetter index field s many claims slots x = ⊥
 abbrev pub FieldLeaves : Letter → ℕ → Bytes → State → ℕ → List ℤ → List ℕ → Stores → Fielding → Stores → Type 0
 FieldLeaves P index field s many claims slots x₀ r x = FieldP index field many (x₀ .small) r (x .small) × (x ≡ stores (x .small) (x₀ .row) (x₀ .variables) (x₀ .rows) (x₀ .weights))
 FieldLeaves C index field s many claims slots x₀ r x = FieldC index field many (x₀ .row) r (x .row) × (x ≡ stores (x₀ .small) (x .row) (x₀ .variables) (x₀ .rows) (x₀ .weights))
+FieldLeaves G index field s many claims slots x₀ r x =
+    FieldTerm 0 index field many (x₀ .variables) (x₀ .rows) r (x .variables) (x .rows) × (x ≡ stores (x₀ .small) (x₀ .row) (x .variables) (x .rows) (x₀ .weights))
 FieldLeaves H index field s many claims slots x₀ r x =
     FieldTerm 0 index field many (x₀ .variables) (x₀ .rows) r (x .variables) (x .rows) × (x ≡ stores (x₀ .small) (x₀ .row) (x .variables) (x .rows) (x₀ .weights))
 FieldLeaves B index field s many claims slots x₀ r x =
@@ -81,6 +85,7 @@ pub data Skips (line : Bytes) (from : ℕ) : Letter → ℕ → Type 0 where
 abbrev pub variablesBefore : Letter → State → ℕ
 variablesBefore P s = s .variables
 variablesBefore C s = s .variables
+variablesBefore G s = 0
 variablesBefore H s = 0
 variablesBefore B s = s .variables
 variablesBefore M s = s .variables
@@ -91,6 +96,7 @@ variablesBefore NoLetter s = s .variables
 abbrev pub Progress : Letter → Bytes → Written → State → Tables → ℕ → ℕ → Stores → Type 0
 Progress P line w s t index many x = ProgressP (drop 2 (fieldsOf line)) index (x .small)
 Progress C line w s t index many x = ProgressC (drop 2 (fieldsOf line)) index (x .row)
+Progress G line w s t index many x = ProgressTerms 0 [] (drop 2 (fieldsOf line)) index many (x .variables) (t .rows) (x .rows)
 Progress H line w s t index many x = ProgressTerms 0 [] (drop 2 (fieldsOf line)) index many (x .variables) (t .rows) (x .rows)
 Progress B line w s t index many x = ProgressSubgoal line w s t index many (x .variables) (x .rows)
 Progress M line w s t index many x = ProgressM (drop 1 (fieldsOf line)) index (t .claims) (t .slots) (x .weights)
@@ -111,12 +117,13 @@ abbrev pub tabled : List ℕ → List ℕ → List ℤ → List ℕ → List ℤ
 tabled names signatures claims slots weights = record { names = names; signatures = signatures; claims = claims; slots = slots; weights = weights }
 
 abbrev pub withEnd : State → State
-withEnd s = record { predicates = s .predicates; claimed = s .claimed; rules = s .rules; «multiplier_lines» = s .«multiplier_lines»; head = s .head; subgoals = s .subgoals; variables = s .variables; slots = s .slots; multipliers = s .multipliers; ended = true }
+withEnd s = record { predicates = s .predicates; claimed = s .claimed; rules = s .rules; «multiplier_lines» = s .«multiplier_lines»; head = s .head; subgoals = s .subgoals; variables = s .variables; slots = s .slots; multipliers = s .multipliers; shipped = s .shipped; ended = true }
 
 -- what the end of a line needs
 abbrev pub CloseNeeds : Letter → Opened → State → List ℕ → Tabled → Type 0
 CloseNeeds P o s rows y = Unit {0}
 CloseNeeds C o s rows y = (o .predicate < 32) × SafeSignatures (y .signatures) × (length (y .claims) ≡ 4608)
+CloseNeeds G o s rows y = (o .predicate < 32) × SafeSignatures (y .signatures) × SafeClaims (y .claims) × SafeRows rows
 CloseNeeds H o s rows y = s .rules ≤ 64
 CloseNeeds B o s rows y = (o .predicate < 32) × SafeSignatures (y .signatures) × (s .slots ≤ 16 * s .subgoals) × (length (y .slots) ≡ 256)
 CloseNeeds M o s rows y = (s .head < 32) × (s .multipliers < 16) × (s .subgoals ≤ 8) × SafeClaims (y .claims) × Summable (y .weights) rows × (s .«multiplier_lines» ≤ 1040)
@@ -127,6 +134,7 @@ CloseNeeds NoLetter o s rows y = Unit {0}
 abbrev pub CloseLeaves : Letter → Opened → State → ℕ → List ℕ → List ℤ → List ℕ → Tabled → Closing → Tabled → Type 0
 CloseLeaves P o s many small row rows y₀ r y = ClosesP o s small (y₀ .names) (y₀ .signatures) r (y .names) (y .signatures) × (y ≡ tabled (y .names) (y .signatures) (y₀ .claims) (y₀ .slots) (y₀ .weights))
 CloseLeaves C o s many small row rows y₀ r y = ClosesC o s row (y₀ .signatures) (y₀ .claims) r (y .signatures) (y .claims) × (y ≡ tabled (y₀ .names) (y .signatures) (y .claims) (y₀ .slots) (y₀ .weights))
+CloseLeaves G o s many small row rows y₀ r y = ClosesG o s many (y₀ .signatures) (y₀ .claims) rows r × (y ≡ y₀)
 CloseLeaves H o s many small row rows y₀ r y = ClosesH o s many r × (y ≡ y₀)
 CloseLeaves B o s many small row rows y₀ r y = ClosesB o s many (y₀ .signatures) (y₀ .slots) r (y .slots) × (y ≡ tabled (y₀ .names) (y₀ .signatures) (y₀ .claims) (y .slots) (y₀ .weights))
 CloseLeaves M o s many small row rows y₀ r y = ClosesM s (y₀ .claims) (y₀ .weights) rows r (y .weights) × (y ≡ tabled (y₀ .names) (y₀ .signatures) (y₀ .claims) (y₀ .slots) (y .weights))

@@ -50,7 +50,7 @@ fn field(
     match letter {
         Letter::P => declarations::field_predicate(index, part, small, many),
         Letter::C => declarations::field_claim(index, part, row, many),
-        Letter::H | Letter::B => {
+        Letter::G | Letter::H | Letter::B => {
             let atom = atoms::atom_of(letter, state.subgoals);
             atoms::field_term(
                 atom,
@@ -101,6 +101,7 @@ fn close(
     match letter {
         Letter::P => declarations::close_predicate(o, state, small, names, signatures),
         Letter::C => declarations::close_claim(o, state, row, signatures, claims),
+        Letter::G => facts::close_fact(o, state, many, signatures, claims, rows),
         Letter::H => rules::close_head(o, state, many),
         Letter::B => rules::close_subgoal(o, state, many, signatures, slots),
         Letter::M => certificates::close_multipliers(state, claims, weights, rows),
@@ -116,6 +117,7 @@ fn variables_before(letter: Letter, state: State) -> usize
     match letter {
         Letter::P => state.variables,
         Letter::C => state.variables,
+        Letter::G => 0,
         Letter::H => 0,
         Letter::B => state.variables,
         Letter::M => state.variables,
@@ -132,6 +134,7 @@ fn zeros_ahead(letter: Letter, line: &[u8], from: usize) -> usize
     match letter {
         Letter::P => 0,
         Letter::C => 0,
+        Letter::G => 0,
         Letter::H => 0,
         Letter::B => 0,
         Letter::M => numbers::zeros(line, from),

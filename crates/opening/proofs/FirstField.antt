@@ -9,7 +9,7 @@ use Rattle.groundwork.proofs.Truth.{equal-eqb, eqb-different}
 use Rattle.theory.specs.Lists.{every}
 use Rattle.theory.specs.Text.{Bytes, bytes, same, partsAt, fieldsOf}
 use Rattle.theory.specs.declared.Letter.{Letter}
-use Rattle.theory.specs.declared.Letter.the-variants.{P, C, H, B, M, E, NoLetter}
+use Rattle.theory.specs.declared.Letter.the-variants.{P, C, G, H, B, M, E, NoLetter}
 use Rattle.theory.specs.Written.{letterOf, lineLetter, field}
 use Rattle.theory.proofs.Reading.Letters.{letterField, by-letter}
 use Rattle.theory.proofs.Reading.Separators.{isFree, parts-cons}
@@ -32,19 +32,21 @@ no-letter-length f other = no-letter f lettered
     lettered : (l : Letter) → f ≡ letterField l → l ≡ NoLetter
     lettered P e = absurd (other (ap length e))
     lettered C e = absurd (other (ap length e))
+    lettered G e = absurd (other (ap length e))
     lettered H e = absurd (other (ap length e))
     lettered B e = absurd (other (ap length e))
     lettered M e = absurd (other (ap length e))
     lettered E e = absurd (other (ap length e))
     lettered NoLetter e = refl
 
-pub no-letter-byte : (b : ℕ) → (b ≡ 80 → ⊥) → (b ≡ 67 → ⊥) → (b ≡ 72 → ⊥) → (b ≡ 66 → ⊥) → (b ≡ 77 → ⊥) → (b ≡ 69 → ⊥) → letterOf (b ∷ []) ≡ NoLetter
+pub no-letter-byte : (b : ℕ) → (b ≡ 80 → ⊥) → (b ≡ 67 → ⊥) → (b ≡ 71 → ⊥) → (b ≡ 72 → ⊥) → (b ≡ 66 → ⊥) → (b ≡ 77 → ⊥) → (b ≡ 69 → ⊥) → letterOf (b ∷ []) ≡ NoLetter
 unfolding letterField bytes
-no-letter-byte b p c h s m e = no-letter (b ∷ []) lettered
+no-letter-byte b p c g h s m e = no-letter (b ∷ []) lettered
   where
     lettered : (l : Letter) → b ∷ [] ≡ letterField l → l ≡ NoLetter
     lettered P is = absurd (p (head-eq-of-cons-eq is))
     lettered C is = absurd (c (head-eq-of-cons-eq is))
+    lettered G is = absurd (g (head-eq-of-cons-eq is))
     lettered H is = absurd (h (head-eq-of-cons-eq is))
     lettered B is = absurd (s (head-eq-of-cons-eq is))
     lettered M is = absurd (m (head-eq-of-cons-eq is))
@@ -55,6 +57,7 @@ no-letter-byte b p c h s m e = no-letter (b ∷ []) lettered
 abbrev pub byteOf : Letter → ℕ
 byteOf P = 80
 byteOf C = 67
+byteOf G = 71
 byteOf H = 72
 byteOf B = 66
 byteOf M = 77
@@ -65,6 +68,7 @@ pub letter-of-byte : (l : Letter) {b : ℕ} → b ≡ byteOf l → letterOf (b �
 unfolding letterOf same bytes
 letter-of-byte P is = ap (λ (b : ℕ). letterOf (b ∷ [])) is
 letter-of-byte C is = ap (λ (b : ℕ). letterOf (b ∷ [])) is
+letter-of-byte G is = ap (λ (b : ℕ). letterOf (b ∷ [])) is
 letter-of-byte H is = ap (λ (b : ℕ). letterOf (b ∷ [])) is
 letter-of-byte B is = ap (λ (b : ℕ). letterOf (b ∷ [])) is
 letter-of-byte M is = ap (λ (b : ℕ). letterOf (b ∷ [])) is

@@ -11,14 +11,16 @@ use denote.Enum.Declared.{tagOf}
 use Rattle.theory.proofs.Letter.{the-type}
 use Rattle.groundwork.proofs.Truth.{not-true, never-both}
 use Rattle.theory.specs.declared.Letter.{Letter}
-use Rattle.theory.specs.declared.Letter.the-variants.{P, C, H, B, M, E, NoLetter}
+use Rattle.theory.specs.declared.Letter.the-variants.{P, C, G, H, B, M, E, NoLetter}
 use Rattle.theory.specs.Text.{Bytes, partsAt, fieldsOf}
 use Rattle.theory.specs.Written.{Written}
 use Rattle.theory.specs.Faults.{isComplete, mayStand}
+use Rattle.theory.proofs.Judging.Tests.{Clear}
 use Rattle.theory.proofs.Judging.Completeness.{rule-from-incomplete}
 use Rattle.theory.proofs.Reading.Presence.{some-is, none-is}
 use Rattle.words.specs.declared.Words.{Words}
 use Rattle.tables.specs.declared.State.{State}
+use Rattle.tables.specs.declared.Fault.{Fault}
 use Rattle.tables.specs.declared.Fault.the-variants.{Name, Declaration, FieldCount}
 use Rattle.tables.specs.declared.Opened.{Opened}
 use Rattle.tables.specs.declared.Opening.{Opening}
@@ -28,9 +30,9 @@ use Rattle.tables.specs.Lines.{skipped, openingTests, most, OldPredicate, Named
 use Rattle.opening.specs.declared.Named.{Named}
 use Rattle.opening.specs.declared.Naming.{Naming}
 use Rattle.opening.specs.declared.Naming.the-variants.{Found, NoName}
-use Rattle.opening.specs.Opening.{besides, bars, HasName, Refers, Nameless, Begins, NameStands, NameRead, OpensLetter, OpensDeclaration, OpensBare}
+use Rattle.opening.specs.Opening.{besides, bars, barredBy, HasName, Refers, Nameless, Begins, NameStands, NameRead, OpensLetter, OpensDeclaration, OpensBare}
 use Rattle.opening.proofs.Standing.{other-than-m}
-use Rattle.opening.proofs.LetterTests.{refers-names, keyIn, foundIn, findsEight, fieldsDue, undeclared-found, declared-eight, declared-fields, fault-seven, fault-eight, fault-nine, past-nine, fault-nine-alone, past-nine-alone}
+use Rattle.opening.proofs.LetterTests.{refers-names, keyIn, foundIn, isBarred, findsEight, afterEight, fieldsDue, undeclared-found, admitted, declared-fields, fault-barred, barred-other, fault-seven, fault-eight, fault-nine, past-nine, fault-nine-alone, past-nine-alone}
 use Rattle.opening.proofs.NamedPredicate.{looked-up, looked-up-is, looked-up-none, barred-mark}
 use Rattle.opening.proofs.Outcomes.{opened, refuses, passes}
 
@@ -38,7 +40,7 @@ use Rattle.opening.proofs.Outcomes.{opened, refuses, passes}
 
 module _ (names : List ℕ) (s : State) (line : Bytes) (naming : Naming) (read : NameRead line names (s .predicates) naming) (other : naming ≡ NoName) where
   unnamed : {l : Letter} → HasName l → (signatures : List ℕ) → OpensLetter l line names signatures s (Misopened Name)
-  unnamed {l} names-it signatures = refuses l Name (omega arith) λ w outline stands. fault-seven (fieldsOf line) (w .pack) l names-it (read .none other)
+  unnamed {l} names-it signatures = refuses l Name (λ e. omega arith) λ w outline stands. fault-seven (fieldsOf line) (w .pack) l names-it (read .none other)
 
   pub declares-unnamed : OpensDeclaration line names s (Misopened Name)
   declares-unnamed = record { opens = unnamed HasName.predicate }
@@ -50,15 +52,15 @@ module _ (names : List ℕ) (s : State) (line : Bytes) (naming : Naming) (read :
 
 record Shape (l : Letter) : Type 0 where
   skips : skipped l ≡ 2
-  opens : openingTests l ≡ 3
   fits : (s : State) → 8 + besides l < skipped l + most l s
   other : l ≡ M → ⊥
   named : (line : Bytes) (s : State) (w : Written) (o : Opened) → OldPredicate (keyIn l (fieldsOf line)) (besides l + 1) line w o → NamedFor l line s w o
 
 shape : {l : Letter} → Refers l → Shape l
-shape Refers.claim = record { skips = refl; opens = refl; fits = λ s. omega arith; other = other-than-m; named = λ line s w o old. old }
-shape Refers.head = record { skips = refl; opens = refl; fits = λ s. omega arith; other = other-than-m; named = λ line s w o old. old }
-shape Refers.subgoal = record { skips = refl; opens = refl; fits = λ s. omega arith; other = other-than-m; named = λ line s w o old. old }
+shape Refers.claim = record { skips = refl; fits = λ s. omega arith; other = other-than-m; named = λ line s w o old. old }
+shape Refers.fact = record { skips = refl; fits = λ s. omega arith; other = other-than-m; named = λ line s w o old. old }
+shape Refers.head = record { skips = refl; fits = λ s. omega arith; other = other-than-m; named = λ line s w o old. old }
+shape Refers.subgoal = record { skips = refl; fits = λ s. omega arith; other = other-than-m; named = λ line s w o old. old }
 
 module _ (l : Letter) (refers : Refers l) (names signatures : List ℕ) (s : State) (line : Bytes) (naming : Naming) (read : NameRead line names (s .predicates) naming) (name : Named) (is : naming ≡ Found name) where
   named : NameStands line names (s .predicates) name
@@ -66,7 +68,7 @@ module _ (l : Letter) (refers : Refers l) (names signatures : List ℕ) (s : Sta
 
   pub refers-undeclared : s .predicates ≤ name .place → OpensLetter l line names signatures s (Misopened Declaration)
   refers-undeclared h =
-      refuses l Declaration (omega arith) λ w outline stands.
+      refuses l Declaration (λ e. omega arith) λ w outline stands.
       fault-eight (fieldsOf line) (w .pack) l (refers-names refers) (named .named) (undeclared-found (fieldsOf line) (w .pack) refers (looked-up-none (refers-names refers) outline named h))
 
   module _ (below : name .place < s .predicates) where
@@ -74,25 +76,28 @@ module _ (l : Letter) (refers : Refers l) (names signatures : List ℕ) (s : Sta
       is-meant : foundIn l (fieldsOf line) (w .pack) ≡ some (predicateAt (w .pack .predicates) (name .place))
       is-meant = looked-up (refers-names refers) outline named below
 
-      eight-found : findsEight l (fieldsOf line) (w .pack) ≡ bars l (getD signatures (32 + name .place) 0)
-      eight-found = declared-eight (fieldsOf line) (w .pack) _ refers is-meant ∙ barred-mark l _ (outline .declares .kind (name .place) below)
+      barred-told : isBarred l (some (predicateAt (w .pack .predicates) (name .place))) ≡ bars l (getD signatures (32 + name .place) 0)
+      barred-told = barred-mark l _ (outline .declares .kind (name .place) below)
 
       fields-due : fieldsDue l (fieldsOf line) (w .pack) ≡ getD signatures (name .place) 0 + (besides l + 1)
       fields-due = declared-fields (fieldsOf line) (w .pack) _ refers is-meant ∙ ap (λ (n : ℕ). n + (besides l + 1)) (sym (outline .declares .arity (name .place) below))
 
     -- what `is_barred` answers
     module _ (barred : Bool) (told : barred ≡ bars l (getD signatures (32 + name .place) 0)) where
-      pub refers-barred : barred ≡ true → OpensLetter l line names signatures s (Misopened Declaration)
-      refers-barred e =
-          refuses l Declaration (omega arith) λ w outline stands.
-          fault-eight (fieldsOf line) (w .pack) l (refers-names refers) (named .named) (eight-found w outline ∙ sym told ∙ e)
+      pub refers-barred : barred ≡ true → {f : Fault} → f ≡ barredBy l → OpensLetter l line names signatures s (Misopened f)
+      refers-barred e {f} is =
+          subst⁻¹ (λ (g : Fault). OpensLetter l line names signatures s (Misopened g)) is
+          (refuses l (barredBy l) (barred-other l) λ w outline stands. fault-barred (fieldsOf line) (w .pack) _ refers (named .named) (is-meant w outline) (barred-told w outline ∙ sym told ∙ e))
 
       -- n commas, the arity a, and the commas besides
-      module _ (admitted : barred ≡ false) (n a more : ℕ) (count : n + 1 ≡ length (partsAt 44 line)) (arity : a ≡ getD signatures (name .place) 0) (rest : more ≡ besides l) where
+      module _ (unbarred : barred ≡ false) (n a more : ℕ) (count : n + 1 ≡ length (partsAt 44 line)) (arity : a ≡ getD signatures (name .place) 0) (rest : more ≡ besides l) where
+        clear : (w : Written) → Outline names signatures s w → (findsEight l (fieldsOf line) (w .pack) ≡ false) × Clear (afterEight l (fieldsOf line) (w .pack))
+        clear w outline = admitted (fieldsOf line) (w .pack) _ refers (is-meant w outline) (barred-told w outline ∙ sym told ∙ unbarred)
+
         pub refers-miscounted : (n ≡ a + more → ⊥) → OpensLetter l line names signatures s (Misopened FieldCount)
         refers-miscounted other =
-            refuses l FieldCount (omega arith) λ w outline stands.
-            fault-nine (fieldsOf line) (w .pack) l (refers-names refers) (named .named) (eight-found w outline ∙ sym told ∙ admitted) (λ e. other (omega (arith, fields-due w outline)))
+            refuses l FieldCount (λ e. omega arith) λ w outline stands.
+            fault-nine (fieldsOf line) (w .pack) l (refers-names refers) (named .named) (clear w outline .0) (clear w outline .1) (λ e. other (omega (arith, fields-due w outline)))
 
         pub refers-passed : SafeState s → SafeSignatures signatures → length line ≤ 1024 → n ≡ a + more
             → OpensLetter l line names signatures s (Line (record { letter = l; predicate = name .place; words = name .words; from = name .stop + 1 }))
@@ -106,7 +111,7 @@ module _ (l : Letter) (refers : Refers l) (names signatures : List ℕ) (s : Sta
             })
             λ w outline stands.
             record {
-              left = rw (shape refers .opens) (past-nine (fieldsOf line) (w .pack) l (refers-names refers) (named .named) (eight-found w outline ∙ sym told ∙ admitted) (omega (arith, fields-due w outline)));
+              left = past-nine (fieldsOf line) (w .pack) l (refers-names refers) (named .named) (clear w outline .0) (clear w outline .1) (omega (arith, fields-due w outline));
               named = shape refers .named line s w (opened l (name .place) (name .words) (name .stop + 1)) (record {
                 named = named .named;
                 below = omega (arith, outline .declares .count);
@@ -122,7 +127,7 @@ module _ (names : List ℕ) (s : State) (line : Bytes) (naming : Naming) (read :
   pub declares-again : name .place < s .predicates → OpensDeclaration line names s (Misopened Declaration)
   declares-again below = record {
     opens = λ signatures.
-        refuses P Declaration (omega arith) λ w outline stands.
+        refuses P Declaration (λ e. omega arith) λ w outline stands.
         fault-eight (fieldsOf line) (w .pack) P HasName.predicate (read .found name is .named) (some-is _ _ (looked-up HasName.predicate outline (read .found name is) below));
   }
 
@@ -133,8 +138,8 @@ module _ (names : List ℕ) (s : State) (line : Bytes) (naming : Naming) (read :
     pub declares-miscounted : (n ≡ 3 → ⊥) → OpensDeclaration line names s (Misopened FieldCount)
     declares-miscounted other = record {
       opens = λ signatures.
-          refuses P FieldCount (omega arith) λ w outline stands.
-          fault-nine (fieldsOf line) (w .pack) P HasName.predicate (read .found name is .named) (none-is _ (is-undeclared signatures w outline)) (λ e. other (omega arith));
+          refuses P FieldCount (λ e. omega arith) λ w outline stands.
+          fault-nine (fieldsOf line) (w .pack) P HasName.predicate (read .found name is .named) (none-is _ (is-undeclared signatures w outline)) tt (λ e. other (omega arith));
     }
 
     pub declares-passed : length line ≤ 1024 → n ≡ 3 → OpensDeclaration line names s (Line (record { letter = P; predicate = s .predicates; words = name .words; from = name .stop + 1 }))
@@ -149,7 +154,7 @@ module _ (names : List ℕ) (s : State) (line : Bytes) (naming : Naming) (read :
           })
           λ w outline stands.
           record {
-            left = past-nine (fieldsOf line) (w .pack) P HasName.predicate (read .found name is .named) (none-is _ (is-undeclared signatures w outline)) (omega arith);
+            left = past-nine (fieldsOf line) (w .pack) P HasName.predicate (read .found name is .named) (none-is _ (is-undeclared signatures w outline)) tt (omega arith);
             named = record {
               named = read .found name is .named;
               isNew = is-undeclared signatures w outline;
@@ -183,7 +188,7 @@ module _ (l : Letter) (nameless : Nameless l) (s : State) (line : Bytes) (commas
   pub bare-miscounted : (n ≡ commas → ⊥) → OpensBare l line s (Misopened FieldCount)
   bare-miscounted other = record {
     opens = λ names signatures.
-        refuses l FieldCount (omega arith) λ w outline stands.
+        refuses l FieldCount (λ e. omega arith) λ w outline stands.
         fault-nine-alone (fieldsOf line) (w .pack) l nameless (λ e. other (omega (arith, bare nameless .due names signatures s (fieldsOf line) w outline stands)));
   }
 
@@ -210,6 +215,9 @@ module _ (l : Letter) (nameless : Nameless l) (s : State) (line : Bytes) (commas
 pub refers-claim : {l : Letter} → l ≡ C → Refers l
 refers-claim is = subst⁻¹ Refers is Refers.claim
 
+pub refers-fact : {l : Letter} → l ≡ G → Refers l
+refers-fact is = subst⁻¹ Refers is Refers.fact
+
 pub refers-head : {l : Letter} → l ≡ H → Refers l
 refers-head is = subst⁻¹ Refers is Refers.head
 
@@ -218,18 +226,20 @@ refers-subgoal is = subst⁻¹ Refers is Refers.subgoal
 
 -- ---- a letter by its tag
 
-pub named-letter : (l : Letter) → OneOf (0 ∷ 1 ∷ 2 ∷ 3 ∷ []) (tagOf the-type l) → HasName l
+pub named-letter : (l : Letter) → OneOf (0 ∷ 1 ∷ 2 ∷ 3 ∷ 4 ∷ []) (tagOf the-type l) → HasName l
 named-letter P tag = HasName.predicate
 named-letter C tag = HasName.claim
+named-letter G tag = HasName.fact
 named-letter H tag = HasName.head
 named-letter B tag = HasName.subgoal
-named-letter M tag = absurd (miss (0 ∷ 1 ∷ 2 ∷ 3 ∷ []) 4 tt tag)
-named-letter E tag = absurd (miss (0 ∷ 1 ∷ 2 ∷ 3 ∷ []) 5 tt tag)
-named-letter NoLetter tag = absurd (miss (0 ∷ 1 ∷ 2 ∷ 3 ∷ []) 6 tt tag)
+named-letter M tag = absurd (miss (0 ∷ 1 ∷ 2 ∷ 3 ∷ 4 ∷ []) 5 tt tag)
+named-letter E tag = absurd (miss (0 ∷ 1 ∷ 2 ∷ 3 ∷ 4 ∷ []) 6 tt tag)
+named-letter NoLetter tag = absurd (miss (0 ∷ 1 ∷ 2 ∷ 3 ∷ 4 ∷ []) 7 tt tag)
 
 abbrev hasName : Letter → Bool
 hasName P = true
 hasName C = true
+hasName G = true
 hasName H = true
 hasName B = true
 hasName M = false
@@ -239,6 +249,7 @@ hasName NoLetter = false
 has-name : {l : Letter} → HasName l → hasName l ≡ true
 has-name HasName.predicate = refl
 has-name HasName.claim = refl
+has-name HasName.fact = refl
 has-name HasName.head = refl
 has-name HasName.subgoal = refl
 

@@ -1,4 +1,3 @@
--- The predicate that a name means.
 -- A line's first field and its letter, and the letters that may stand here.
 pub mod FirstField
 pub mod Standing

@@ -6,11 +6,11 @@ use mathlib.Core.Option.{some, none}
 use Prim.Native.Nat.{ℕ, _≤_, _<_}
 use lib.Dec.{eqb}
 use Rattle.theory.specs.declared.Letter.{Letter}
-use Rattle.theory.specs.declared.Letter.the-variants.{P, C, H, B, M, E, NoLetter}
+use Rattle.theory.specs.declared.Letter.the-variants.{P, C, G, H, B, M, E, NoLetter}
 use Rattle.theory.specs.Text.{Bytes, fieldsOf}
 use Rattle.theory.specs.Packs.{Kind, given, ruled, Predicate, keyOf}
 use Rattle.theory.specs.Written.{field, Written}
-use Rattle.theory.specs.Faults.{isGiven, givenIn}
+use Rattle.theory.specs.Faults.{isGiven, givenIn, ruledIn}
 use Rattle.tables.specs.declared.State.{State}
 use Rattle.tables.specs.Tables.{predicateAt, flag, Outline}
 use Rattle.tables.proofs.Lookup.{name-is, name-declared, name-absent}
@@ -43,16 +43,25 @@ unfolding isGiven
 given-mark given = refl
 given-mark ruled = refl
 
--- what test 8 asks besides of a declared predicate is told by its mark
+ruled-mark : (k : Kind) → not (isGiven k) ≡ eqb (flag k) 0
+unfolding isGiven
+ruled-mark given = refl
+ruled-mark ruled = refl
+
+-- whom a letter bars is told by the mark
 pub barred-mark : (l : Letter) (q : Predicate) {mark : ℕ} → mark ≡ flag (q .kind) → isBarred l (some q) ≡ bars l mark
-unfolding givenIn
+unfolding givenIn ruledIn
 barred-mark P q is = refl
 barred-mark C q is = refl
+barred-mark G q is = ruled-mark (q .kind) ∙ ap (λ (n : ℕ). eqb n 0) (sym is)
 barred-mark H q is = given-mark (q .kind) ∙ ap (λ (n : ℕ). not (eqb n 0)) (sym is)
 barred-mark B q is = refl
 barred-mark M q is = refl
 barred-mark E q is = refl
 barred-mark NoLetter q is = refl
+
+pub fact-barred : {l : Letter} (mark : ℕ) → l ≡ G → eqb mark 0 ≡ bars l mark
+fact-barred mark is = ap (λ (k : Letter). bars k mark) (sym is)
 
 pub head-barred : {l : Letter} (mark : ℕ) → l ≡ H → not (eqb mark 0) ≡ bars l mark
 head-barred mark is = ap (λ (k : Letter). bars k mark) (sym is)

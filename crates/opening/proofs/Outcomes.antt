@@ -25,8 +25,8 @@ use Rattle.opening.proofs.LineTests.{past-five}
 
 -- ---- refused
 
-refused-early : (f : Fault) → numberOf f ≤ 9 → (g : Fault) → Misopened f ≡ Misopened g → numberOf g ≤ 9
-refused-early f low g e = subst (λ (h : Fault). numberOf h ≤ 9) (misopened-fault e) low
+refused-other : (f : Fault) → (numberOf f ≡ 13 → ⊥) → (g : Fault) → Misopened f ≡ Misopened g → numberOf g ≡ 13 → ⊥
+refused-other f other g e = subst (λ (h : Fault). numberOf h ≡ 13 → ⊥) (misopened-fault e) other
 
 module _ (f : Fault) {line : Bytes} {s : State} where
   refused-safe : (o : Opened) → Misopened f ≡ Line o → SafeOpened line s o
@@ -35,8 +35,8 @@ module _ (f : Fault) {line : Bytes} {s : State} where
   refused-for : (w : Written) → fault w line ≡ numberOf f → OpenedFor line s w (Misopened f)
   refused-for w found = record { refused = λ g e. found ∙ ap numberOf (misopened-fault e); passed = λ o e. absurd (line-misopened (sym e)) }
 
-  pub refuses-line : numberOf f ≤ 9 → {names signatures : List ℕ} → ((w : Written) → Outline names signatures s w → fault w line ≡ numberOf f) → Opens line names signatures s (Misopened f)
-  refuses-line low finds = record { safe = refused-safe; early = refused-early f low; tells = λ w outline. refused-for w (finds w outline) }
+  pub refuses-line : (numberOf f ≡ 13 → ⊥) → {names signatures : List ℕ} → ((w : Written) → Outline names signatures s w → fault w line ≡ numberOf f) → Opens line names signatures s (Misopened f)
+  refuses-line other finds = record { safe = refused-safe; other = refused-other f other; tells = λ w outline. refused-for w (finds w outline) }
 
 -- ---- passed
 
@@ -61,11 +61,11 @@ own-tests l line w fit unended stands is =
     past-five w line fit unended (ap (mayStand (w .pack)) is ∙ stands) ∙ ap (λ (m : Letter). firstOf (tests m (fieldsOf line) (w .pack))) is
 
 module _ (l : Letter) {line : Bytes} {names signatures : List ℕ} {s : State} where
-  pub refuses : (f : Fault) → numberOf f ≤ 9 → ((w : Written) → Outline names signatures s w → mayStand (w .pack) l ≡ true → firstOf (tests l (fieldsOf line) (w .pack)) ≡ numberOf f)
+  pub refuses : (f : Fault) → (numberOf f ≡ 13 → ⊥) → ((w : Written) → Outline names signatures s w → mayStand (w .pack) l ≡ true → firstOf (tests l (fieldsOf line) (w .pack)) ≡ numberOf f)
       → OpensLetter l line names signatures s (Misopened f)
-  refuses f low finds = record {
+  refuses f other finds = record {
     safe = refused-safe f;
-    early = refused-early f low;
+    other = refused-other f other;
     tells = λ w outline fit unended stands is. refused-for f w (own-tests l line w fit unended stands is ∙ finds w outline stands);
   }
 
@@ -77,7 +77,7 @@ module _ (l : Letter) {line : Bytes} {names signatures : List ℕ} {s : State} w
       place = k .place;
       due = k .due;
     });
-    early = λ f e. absurd (line-misopened e);
+    other = λ f e. absurd (line-misopened e);
     tells = λ w outline fit unended stands is.
         let clear = clears w outline stands in
         record {

@@ -1,20 +1,20 @@
 -- Whether the rules so far have all their `M` lines, and which letters may stand here, told by the state.
 use mathlib.Core.Path.{_≡_, refl, sym, _∙_, ap, subst}
-use mathlib.Core.Bool.{Bool, true, false, not, false≢true}
+use mathlib.Core.Bool.{Bool, true, false, not, Bool·not-not, _&&_, false≢true}
 use mathlib.Core.List.{List, [], _∷_}
 use Prim.Native.Nat.{ℕ, suc, _+_, _<_}
 use native.Mathlib.Omega.{arith}
 use lib.Dec.{eqb, leb}
 use lib.ListN.{length, getD}
-use Rattle.groundwork.proofs.Truth.{never-both, or-left, not-true, not-false, leb-gt, equal-eqb, eqb-different}
+use Rattle.groundwork.proofs.Truth.{never-both, or-left, not-true, leb-gt, equal-eqb, eqb-different}
 use Rattle.theory.specs.Lists.{isEmpty}
 use Rattle.theory.specs.Packs.{claimsOn}
 use Rattle.theory.specs.declared.Letter.{Letter}
-use Rattle.theory.specs.declared.Letter.the-variants.{P, C, H, B, M, E, NoLetter}
+use Rattle.theory.specs.declared.Letter.the-variants.{P, C, G, H, B, M, E, NoLetter}
 use Rattle.theory.specs.Written.{Written}
 use Rattle.theory.specs.Faults.{lastRule, headClaims, isComplete, mayStand}
 use Rattle.theory.proofs.Reading.Presence.{is-filled}
-use Rattle.theory.proofs.Judging.Sections.{predicates-stand, claims-stand}
+use Rattle.theory.proofs.Judging.Sections.{predicates-stand, claims-stand, facts-stand}
 use Rattle.tables.specs.declared.State.{State}
 use Rattle.tables.specs.Tables.{SafeSignatures, Outline}
 use Rattle.opening.specs.Opening.{Completes, Stands}
@@ -43,6 +43,7 @@ module _ {A : Type 0} where
 abbrev pub isM : Letter → Type 0
 isM P = ⊥
 isM C = ⊥
+isM G = ⊥
 isM H = ⊥
 isM B = ⊥
 isM M = Unit {0}
@@ -55,6 +56,7 @@ other-than-m e = subst isM (sym e) tt
 abbrev pub isNone : Letter → Type 0
 isNone P = ⊥
 isNone C = ⊥
+isNone G = ⊥
 isNone H = ⊥
 isNone B = ⊥
 isNone M = ⊥
@@ -106,20 +108,20 @@ module _ (signatures : List ℕ) (s : State) where
     unfolding mayStand
     stands-none is = stands-as NoLetter is false (λ f. absurd (false≢true f)) (λ e f. absurd (false≢true f)) λ names w o. refl
 
-    pub stands-predicate : l ≡ P → s .claimed ≡ false → Stands l signatures s (eqb (s .rules) 0)
-    stands-predicate is h =
-        stands-as P is (eqb (s .rules) 0) (λ f. other-than-none) (λ e f. absurd (other-than-m e)) λ names w o.
-        rw (predicates-stand (w .pack), not-false (isEmpty (w .pack .claims)) (sym (o .claimed) ∙ h)) (sym (empty-as (w .pack .rules) (s .rules) (o .rules)))
+    pub stands-fact : l ≡ G → Stands l signatures s (eqb (s .rules) 0)
+    stands-fact is =
+        stands-as G is (eqb (s .rules) 0) (λ f. other-than-none) (λ e f. absurd (other-than-m e)) λ names w o.
+        rw (facts-stand (w .pack)) (sym (empty-as (w .pack .rules) (s .rules) (o .rules)))
 
-    pub stands-late-predicate : l ≡ P → s .claimed ≡ true → Stands l signatures s false
-    stands-late-predicate is h =
-        stands-as P is false (λ f. other-than-none) (λ e f. absurd (false≢true f)) λ names w o.
-        rw (predicates-stand (w .pack), not-true (isEmpty (w .pack .claims)) (sym (o .claimed) ∙ h))
-
-    pub stands-claim : l ≡ C → Stands l signatures s (eqb (s .rules) 0)
+    pub stands-claim : l ≡ C → Stands l signatures s (eqb (s .shipped) 0 && eqb (s .rules) 0)
     stands-claim is =
-        stands-as C is (eqb (s .rules) 0) (λ f. other-than-none) (λ e f. absurd (other-than-m e)) λ names w o.
-        rw (claims-stand (w .pack)) (sym (empty-as (w .pack .rules) (s .rules) (o .rules)))
+        stands-as C is (eqb (s .shipped) 0 && eqb (s .rules) 0) (λ f. other-than-none) (λ e f. absurd (other-than-m e)) λ names w o.
+        rw (claims-stand (w .pack), ← o .shipped, empty-as (w .pack .rules) (s .rules) (o .rules))
+
+    pub stands-predicate : l ≡ P → Stands l signatures s (not (s .claimed) && (eqb (s .shipped) 0 && eqb (s .rules) 0))
+    stands-predicate is =
+        stands-as P is (not (s .claimed) && (eqb (s .shipped) 0 && eqb (s .rules) 0)) (λ f. other-than-none) (λ e f. absurd (other-than-m e)) λ names w o.
+        rw (predicates-stand (w .pack), ← o .shipped, empty-as (w .pack .rules) (s .rules) (o .rules), o .claimed, Bool·not-not (isEmpty (w .pack .claims)))
 
     pub stands-early-subgoal : l ≡ B → s .rules ≡ 0 → Stands l signatures s false
     unfolding mayStand

@@ -17,6 +17,7 @@ use Rattle.opening.specs.Opening.{besides, Refers, NameRead}
 
 few-besides : {l : Letter} → Refers l → besides l ≤ 2
 few-besides Refers.claim = omega arith
+few-besides Refers.fact = omega arith
 few-besides Refers.head = omega arith
 few-besides Refers.subgoal = omega arith
 

@@ -6,7 +6,7 @@ use Prim.Native.Nat.{ℕ, _+_, _≤_, _<_}
 use lib.Dec.{eqb}
 use lib.ListN.{length, drop}
 use Rattle.theory.specs.declared.Letter.{Letter}
-use Rattle.theory.specs.declared.Letter.the-variants.{P, C, H, B, M, E, NoLetter}
+use Rattle.theory.specs.declared.Letter.the-variants.{P, C, G, H, B, M, E, NoLetter}
 use Rattle.theory.specs.Text.{Bytes, isName, fieldsOf}
 use Rattle.theory.specs.Written.{lineLetter, field, Written}
 use Rattle.theory.specs.Faults.{isUnfit, isComplete, mayStand, fault}
@@ -14,6 +14,7 @@ use Rattle.text.specs.Scans.{partsFrom}
 use Rattle.words.specs.Words.{wordsOf, StandsAt}
 use Rattle.tables.specs.declared.State.{State}
 use Rattle.tables.specs.declared.Fault.{Fault}
+use Rattle.tables.specs.declared.Fault.the-variants.{Declaration, RuledFact}
 use Rattle.tables.specs.declared.Opened.{Opened}
 use Rattle.tables.specs.declared.Opening.{Opening}
 use Rattle.tables.specs.declared.Opening.the-variants.{Line, Misopened}
@@ -30,12 +31,14 @@ use Rattle.opening.specs.declared.Naming.the-variants.{Found, NoName}
 pub data HasName : Letter → Type 0 where
   predicate : HasName P
   claim : HasName C
+  fact : HasName G
   head : HasName H
   subgoal : HasName B
 
 -- lines whose predicate is declared before
 pub data Refers : Letter → Type 0 where
   claim : Refers C
+  fact : Refers G
   head : Refers H
   subgoal : Refers B
 
@@ -48,21 +51,34 @@ pub data Nameless : Letter → Type 0 where
 abbrev pub besides : Letter → ℕ
 besides P = 0
 besides C = 2
+besides G = 1
 besides H = 1
 besides B = 1
 besides M = 0
 besides E = 0
 besides NoLetter = 0
 
--- whether a declared predicate with this mark is refused: a given one as a head
+-- whether a declared predicate with this mark, 1 if it is given, is refused: a ruled one in a fact, a given one as a head
 abbrev pub bars : Letter → ℕ → Bool
 bars P mark = false
 bars C mark = false
+bars G mark = eqb mark 0
 bars H mark = not (eqb mark 0)
 bars B mark = false
 bars M mark = false
 bars E mark = false
 bars NoLetter mark = false
+
+-- the fault that such a line has
+abbrev pub barredBy : Letter → Fault
+barredBy P = Declaration
+barredBy C = Declaration
+barredBy G = RuledFact
+barredBy H = Declaration
+barredBy B = Declaration
+barredBy M = Declaration
+barredBy E = Declaration
+barredBy NoLetter = Declaration
 
 -- ## Steps
 
@@ -92,13 +108,13 @@ pub record OpenedFor (line : Bytes) (s : State) (w : Written) (r : Opening) : Ty
 
 pub record Opens (line : Bytes) (names signatures : List ℕ) (s : State) (r : Opening) : Type 0 where
   pub safe : (o : Opened) → r ≡ Line o → SafeOpened line s o
-  pub early : (f : Fault) → r ≡ Misopened f → numberOf f ≤ 9
+  pub other : (f : Fault) → r ≡ Misopened f → numberOf f ≡ 13 → ⊥
   pub tells : (w : Written) → Outline names signatures s w → OpenedFor line s w r
 
 -- the same for a fit line of a letter that may stand here
 pub record OpensLetter (letter : Letter) (line : Bytes) (names signatures : List ℕ) (s : State) (r : Opening) : Type 0 where
   pub safe : (o : Opened) → r ≡ Line o → SafeOpened line s o
-  pub early : (f : Fault) → r ≡ Misopened f → numberOf f ≤ 9
+  pub other : (f : Fault) → r ≡ Misopened f → numberOf f ≡ 13 → ⊥
   pub tells : (w : Written) → Outline names signatures s w → isUnfit line ≡ false → w .ended ≡ false → mayStand (w .pack) letter ≡ true → lineLetter line ≡ letter → OpenedFor line s w r
 
 pub record Completes (signatures : List ℕ) (s : State) (r : Bool) : Type 0 where

@@ -10,7 +10,7 @@ ghost use Rattle.theory.specs.Text.{between};
 ghost use Rattle.words.specs.Classes.{Classes};
 ghost use Rattle.tables.specs.Tables.{SafeState, SafeSignatures};
 ghost use Rattle.tables.specs.Lines.{most};
-ghost use Rattle.opening.specs.Opening.{besides, bars, HasName, Refers, Nameless, Begins, LetterRead, NameRead, Completes, Stands, OpensLetter, OpensDeclaration, OpensBare, Opens};
+ghost use Rattle.opening.specs.Opening.{besides, bars, barredBy, HasName, Refers, Nameless, Begins, LetterRead, NameRead, Completes, Stands, OpensLetter, OpensDeclaration, OpensBare, Opens};
 use tables::Fault;
 use tables::Hints;
 use tables::Names;
@@ -39,6 +39,7 @@ fn letter_of(line: &[u8]) -> Letter
     match first {
         b'P' => Letter::P,
         b'C' => Letter::C,
+        b'G' => Letter::G,
         b'H' => Letter::H,
         b'B' => Letter::B,
         b'M' => Letter::M,
@@ -68,14 +69,9 @@ fn may_stand(letter: Letter, state: State, signatures: &Signatures) -> bool
         return false;
     }
     match letter {
-        Letter::P => {
-            if state.claimed {
-                false
-            } else {
-                state.rules == 0
-            }
-        }
-        Letter::C => state.rules == 0,
+        Letter::P => !state.claimed & ((state.shipped == 0) & (state.rules == 0)),
+        Letter::C => (state.shipped == 0) & (state.rules == 0),
+        Letter::G => state.rules == 0,
         Letter::H => is_complete(state, signatures),
         Letter::B => {
             if state.rules == 0 {
@@ -159,6 +155,7 @@ fn commas_besides(letter: Letter) -> usize
     match letter {
         Letter::P => 0,
         Letter::C => 2,
+        Letter::G => 1,
         Letter::H => 1,
         Letter::B => 1,
         Letter::M => 0,
@@ -174,11 +171,28 @@ fn is_barred(letter: Letter, mark: u8) -> bool
     match letter {
         Letter::P => false,
         Letter::C => false,
+        Letter::G => mark == 0,
         Letter::H => mark != 0,
         Letter::B => false,
         Letter::M => false,
         Letter::E => false,
         Letter::NoLetter => false,
+    }
+}
+
+/// What is wrong with a line of this letter that names a predicate which it may not name.
+fn barred_fault(letter: Letter) -> Fault
+    ensures { λ r. ⌜ r ≡ barredBy letter ⌝ }
+{
+    match letter {
+        Letter::P => Fault::Declaration,
+        Letter::C => Fault::Declaration,
+        Letter::G => Fault::RuledFact,
+        Letter::H => Fault::Declaration,
+        Letter::B => Fault::Declaration,
+        Letter::M => Fault::Declaration,
+        Letter::E => Fault::Declaration,
+        Letter::NoLetter => Fault::Declaration,
     }
 }
 
@@ -203,7 +217,7 @@ fn open_reference(
         return Opening::Misopened(Fault::Declaration);
     }
     if is_barred(letter, signatures[32 + place]) {
-        return Opening::Misopened(Fault::Declaration);
+        return Opening::Misopened(barred_fault(letter));
     }
     if text::count(line, b',') != widths::u8_to_usize(signatures[place]) + commas_besides(letter) {
         return Opening::Misopened(Fault::FieldCount);
@@ -232,6 +246,7 @@ fn open_named(
     match letter {
         Letter::P => open_declaration(line, state, names, naming),
         Letter::C => open_reference(letter, line, state, names, signatures, naming),
+        Letter::G => open_reference(letter, line, state, names, signatures, naming),
         Letter::H => open_reference(letter, line, state, names, signatures, naming),
         Letter::B => open_reference(letter, line, state, names, signatures, naming),
         Letter::M => Opening::Misopened(Fault::Letter),
@@ -274,7 +289,7 @@ fn open_letter(
     ensures { λ r. ⌜ OpensLetter letter (now (line .entry)) (now (names .entry)) (now (signatures .entry)) state r ⌝ }
 {
     match letter {
-        Letter::P | Letter::C | Letter::H | Letter::B => {
+        Letter::P | Letter::C | Letter::G | Letter::H | Letter::B => {
             let naming = name_of(line, names, state.predicates, hints, classes);
             open_named(letter, line, state, names, signatures, naming)
         }

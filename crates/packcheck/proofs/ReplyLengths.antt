@@ -30,7 +30,8 @@ answered-long text query x a =
     let k = asks p (accepted-pack text (a .accepted) .fits .formed .predicates) query (a .faultless) in
     omega (arith, k .full, k .within, sizes-count query, parts-count 44 query)
 
-refused-short : (n : ℕ) → n ≤ 18 → length (textOf (printedFields (fields 82 n 0) ∷ [])) ≤ 7
+-- (no refusal has a number of three digits)
+refused-short : (n : ℕ) → n ≤ 99 → length (textOf (printedFields (fields 82 n 0) ∷ [])) ≤ 7
 refused-short n h = omega (arith, fields-length 82 n 0, digits-few 1 n (omega arith), digits-one 0 (omega arith))
 
 pub line-fits : (text query : Bytes) (answer : Reservation) (q : ℕ) → reservedFields answer ≡ reserveOf text query → q ≡ length (textOf (printedFields (reservedFields answer) ∷ [])) → q ≤ 27 → q ≤ 9 * (length query + 1)
@@ -38,4 +39,4 @@ line-fits text query (Bounded b) q is many few = omega (arith, answered-long tex
 line-fits text query NoBound q is many few = omega (arith, fields-length 78 0 0, digits-one 0 (omega arith))
 line-fits text query (Impossible c) q is many few = omega (arith, answered-long text query _ (answered text query (reservedFields (Impossible c)) refl (sym is)))
 line-fits text query (PackRefused r) q is many few = omega (arith, refused-short (refusalNumbers r .number) (omega (arith, refusal-number r)))
-line-fits text query (QueryRefused r) q is many few = omega (arith, refused-short (queryNumber r) (query-number r .1))
+line-fits text query (QueryRefused r) q is many few = omega (arith, refused-short (queryNumber r) (omega (arith, query-number r)))

@@ -1,5 +1,6 @@
 -- Tables of zeros, and the state before any line: they stand for a pack of nothing.
 use mathlib.Core.Path.{_≡_, refl, subst⁻¹}
+use mathlib.Core.List.{[]}
 use Prim.Native.Nat.{ℕ, _+_}
 use native.Mathlib.Omega.{arith}
 use lib.IntN.{pos}
@@ -9,6 +10,7 @@ use Rattle.theory.specs.Lists.{isEmpty}
 use Rattle.theory.specs.Written.{nothing}
 use Rattle.theory.specs.Check.{multiplierLines}
 use Rattle.tables.specs.declared.State.{State}
+use Rattle.tables.proofs.Shipping.{ships-nothing}
 use Rattle.tables.specs.Tables.{Tables, Holds, slotsOf, Safe}
 use Rattle.packs.specs.Loading.{begun, fresh}
 
@@ -31,6 +33,7 @@ fresh-holds =
       declares = record { count = refl; words = λ i below. absurd (omega arith); named = λ i below. absurd (omega arith); arity = λ i below. absurd (omega arith); kind = λ i below. absurd (omega arith); distinct = λ i j below other same. absurd (omega arith) };
       claims = record { count = λ i below. absurd (omega arith); none = λ i above below. same-everywhere {A = ℕ} 0 96 (64 + i); at = λ i j below other. absurd (omega arith); full = λ i j below other. absurd (omega arith) };
       claimed = refl;
+      shipped = ships-nothing [];
       rules = refl;
       lines = refl;
       last = λ some. absurd (some refl);

@@ -24,7 +24,7 @@ use Rattle.residuals.specs.Sums.{formNumbers}
 use Rattle.lines.specs.declared.Ending.the-variants.{AllPass, Stopped}
 use Rattle.lines.specs.declared.LoadedLines.{LoadedLines}
 use Rattle.lines.specs.LineLoading.{faultNumbers, LinesLoadedFor, LoadsLines}
-use Rattle.lines.proofs.LineLoop.{number-some}
+use Rattle.tables.proofs.FaultNumbers.{number-some}
 use Rattle.packs.specs.declared.Loaded.{Loaded}
 use Rattle.packs.specs.Loading.{begun, fresh, Laid, Loads}
 use Rattle.packs.proofs.FreshTables.{fresh-holds}

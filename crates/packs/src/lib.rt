@@ -34,6 +34,7 @@ fn start() -> State
         variables: 0,
         slots: 0,
         multipliers: 0,
+        shipped: 0,
         ended: false,
     }
 }
@@ -52,6 +53,9 @@ fn refusal(fault: Fault, line: u16, rule: u8, claim: u8) -> Refusal
         Fault::NoTerm => Refusal::NoTerm(line),
         Fault::CountLimit => Refusal::CountLimit(line),
         Fault::Unjustified => Refusal::Unjustified(line, rule, claim),
+        Fault::RuledFact => Refusal::RuledFact(line),
+        Fault::NotGround => Refusal::NotGround(line),
+        Fault::UnmetClaim => Refusal::UnmetClaim(line),
     }
 }
 
@@ -103,6 +107,9 @@ fn is_unjustified(fault: Fault) -> bool
         Fault::NoTerm => false,
         Fault::CountLimit => false,
         Fault::Unjustified => true,
+        Fault::RuledFact => false,
+        Fault::NotGround => false,
+        Fault::UnmetClaim => false,
     }
 }
 

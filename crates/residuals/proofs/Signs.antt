@@ -1,37 +1,19 @@
--- Whether a number is below 0, and whether one of a form's is.
-use mathlib.Core.Path.{_≡_, refl, sym, _∙_}
-use mathlib.Core.Bool.{Bool, true, false, not}
+-- Whether a number of a form is below 0.
+use mathlib.Core.Path.{_≡_, refl}
+use mathlib.Core.Bool.{Bool, true, false}
 use Prim.Native.Nat.{ℕ, suc, _<_}
 use native.Mathlib.Omega.{arith}
-use lib.IntN.{ℤ, pos, negsuc}
+use lib.IntN.{pos}
 use lib.Signed.{ltZ, nonNeg}
-use mir.Facts.{toZ-ofZ}
 use mir.Syntax.{w64}
 use mir.Val.{SFits}
-use Rattle.groundwork.proofs.Truth.{ge-ltb, not-true, not-false, never-both}
+use Rattle.groundwork.proofs.Truth.{never-both}
 use Rattle.forms.specs.Sums.{at}
 use Rattle.forms.specs.declared.Form.{Form}
 use Rattle.forms.proofs.Results.{kept}
+use Rattle.forms.proofs.Signs.{negative}
 use Rattle.residuals.specs.Sums.{numberAt, Judged}
 use Rattle.residuals.proofs.Rows.{each-number}
-
-below-zero : (z : ℤ) → ltZ z (pos 0) ≡ not (nonNeg z)
-below-zero (pos n) = ge-ltb n 0 (omega arith)
-below-zero (negsuc n) = refl
-
--- ---- what the flag tells
-
-module _ (z : ℤ) (flag : Bool) (fits : SFits w64 z) (e : flag ≡ ltZ (kept z) (pos 0)) where
-  flag-is : not (nonNeg z) ≡ flag
-  flag-is = sym (e ∙ rw (toZ-ofZ fits) (below-zero z))
-
-  negative : flag ≡ true → nonNeg z ≡ false
-  negative h = not-true (nonNeg z) (flag-is ∙ h)
-
-  pub not-negative : flag ≡ false → nonNeg z ≡ true
-  not-negative h = not-false (nonNeg z) (flag-is ∙ h)
-
--- ---- forms
 
 module _ (f : Form) where
   judged-no : (i : ℕ) → i < 17 → nonNeg (numberAt f i) ≡ false → Judged f false

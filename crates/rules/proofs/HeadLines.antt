@@ -1,7 +1,7 @@
 -- `H` lines: their terms, and the rule that they begin.
 use mathlib.Core.Path.{_≡_, refl, sym, _∙_, ap}
 use mathlib.Core.List.{List, [], append-nil}
-use Prim.Native.Nat.{ℕ, suc, _≤_, _<_}
+use Prim.Native.Nat.{ℕ, _≤_, _<_}
 use native.Mathlib.Omega.{arith}
 use lib.ListN.{length, drop}
 use Rattle.groundwork.proofs.Lists.{length-end}
@@ -12,17 +12,16 @@ use Rattle.theory.specs.Packs.{Rule, headAlone, onRules, atomKey, ruleLimit}
 use Rattle.theory.specs.declared.Letter.the-variants.{H}
 use Rattle.theory.specs.Written.{Written, atomFrom, termsFrom, add}
 use Rattle.theory.specs.Residuals.{numbered, atomsVariables, ruleVariables}
-use Rattle.theory.specs.Faults.{noRule, headTests, tests, fault}
+use Rattle.theory.specs.Faults.{noRule, firstOf, headTests, tests, fault}
 use Rattle.theory.proofs.Judging.LastRule.{lastOf-end}
 use Rattle.theory.proofs.Judging.LineWriting.{writes-letter}
 use Rattle.theory.proofs.Judging.RuleCounts.{multiplierLines-end}
-use Rattle.theory.proofs.Judging.Variables.{once-none}
 use Rattle.tables.specs.declared.State.{State}
 use Rattle.tables.specs.declared.Opened.{Opened}
 use Rattle.tables.specs.declared.Fault.{Fault}
 use Rattle.tables.specs.declared.Fault.the-variants.{CountLimit}
 use Rattle.tables.specs.declared.Fielding.{Fielding}
-use Rattle.tables.specs.declared.Fielding.the-variants.{Read, Misread}
+use Rattle.tables.specs.declared.Fielding.the-variants.{Misread}
 use Rattle.tables.specs.declared.Closing.{Closing}
 use Rattle.tables.specs.declared.Closing.the-variants.{Done, Misclosed}
 use Rattle.tables.specs.Faults.{numberOf}
@@ -30,22 +29,14 @@ use Rattle.tables.specs.Tables.{Tables, tables, slotsOf, SafeRows, RuleStands, 
 use Rattle.tables.specs.Lines.{OldPredicate, Passed, at, ClosedFor}
 use Rattle.tables.proofs.Outcomes.{line-number}
 use Rattle.atoms.specs.Fields.{FieldTerm, ProgressTerms}
-use Rattle.atoms.proofs.TermRows.{terms-begin, term-field}
-use Rattle.atoms.proofs.AtomLines.{atom-limit, atom-fault, count-terms, few-terms, Finished, finished}
+use Rattle.atoms.proofs.AtomLines.{atom-ended, atom-fault, count-terms, few-terms, Finished, finished}
 use Rattle.rules.specs.Ends.{withHead, isPast, ClosesH}
 use Rattle.rules.proofs.Ends.{limits-kept, limit-broken}
-
-pub h-begin : (fs : List Bytes) (variables rows : List ℕ) → length variables ≡ 64 → ProgressTerms 0 [] fs 0 0 variables rows rows
-h-begin fs variables rows size = terms-begin 0 [] fs rows (record { size = size; few = omega arith; words = λ i h. absurd (omega arith); proper = λ i h. absurd (omega arith); once = once-none }) refl
-
-pub h-field : {fs : List Bytes} {index many : ℕ} {variables₀ variables rows₀ rows₁ rows : List ℕ} {r : Fielding} {n : ℕ} → index < 8 → index < length fs → length rows₁ ≡ 1224 → ProgressTerms 0 [] fs index many variables₀ rows₀ rows₁
-    → FieldTerm 0 index (at fs index) many variables₀ rows₁ r variables rows → r ≡ Read n → ProgressTerms 0 [] fs (suc index) n variables rows₀ rows
-h-field = term-field (omega arith)
 
 pub h-fault : {line : Bytes} {s : State} {w : Written} {o : Opened} {atom index many : ℕ} {variables₀ variables rows₀ rows : List ℕ} {r : Fielding} {f : Fault} → Passed H line s w o → index < length (drop 2 (fieldsOf line))
     → FieldTerm atom index (at (drop 2 (fieldsOf line)) index) many variables₀ rows₀ r variables rows → r ≡ Misread f → fault w line ≡ numberOf f
 unfolding tests headTests
-h-fault {line = line} {w = w} passed inside done bad = passed .left ∙ atom-fault _ _ (fieldsOf line) (w .pack) inside done bad
+h-fault {line = line} {w = w} passed inside done bad = passed .left ∙ atom-fault _ [] _ (fieldsOf line) (w .pack) inside done bad
 
 -- ---- the line's end
 
@@ -87,6 +78,7 @@ module _ {line : Bytes} {t : Tables} {s : State} {w : Written} {o : Opened} {man
     declares = holds .declares;
     claims = holds .claims;
     claimed = holds .claimed;
+    shipped = holds .shipped;
     rules = omega (arith, holds .rules, length-end (w .pack .rules) (ruleBegun (fieldsOf line)));
     lines = omega (arith, holds .lines, multiplierLines-end (w .pack .rules) (ruleBegun (fieldsOf line)));
     last = λ unempty. rw (lastOf-end noRule (w .pack .rules) (ruleBegun (fieldsOf line))) head-stands;
@@ -95,11 +87,11 @@ module _ {line : Bytes} {t : Tables} {s : State} {w : Written} {o : Opened} {man
 
 pub h-close : {line : Bytes} {t : Tables} {s : State} {w : Written} {o : Opened} {many : ℕ} {variables rows : List ℕ} {r : Closing} → Holds t s w → Safe t s → Passed H line s w o
     → ProgressTerms 0 [] (drop 2 (fieldsOf line)) (length (drop 2 (fieldsOf line))) many variables (t .rows) rows → ClosesH o s many r → ClosedFor line w r (tables (t .names) (t .signatures) (t .claims) variables rows (t .slots))
-unfolding tests headTests
+unfolding tests headTests firstOf
 h-close {line = line} {s = s} {w = w} {many = many} holds safe passed done closes =
     let terms = finished (few-terms (passed .named) holds safe) (variables-of-head (fieldsOf line)) done in
     record {
-      answer = passed .left ∙ atom-limit _ _ (fieldsOf line) (w .pack) (terms .good) ∙ rw (← holds .rules, ← terms .past) (sym (line-number CountLimit _ (isPast ruleLimit (s .rules) many) (closes .answer)));
+      answer = passed .left ∙ atom-ended _ [] _ (fieldsOf line) (w .pack) (terms .good) ∙ rw (← holds .rules, ← terms .past) (sym (line-number CountLimit _ (isPast ruleLimit (s .rules) many) (closes .answer)));
       holds = λ next fine.
           let kept = limits-kept ruleLimit (s .rules) many _ (closes .answer) fine in
           rw (← kept .1, writes-letter H w line (passed .first) refl) (head-holds holds (passed .named) (kept .0 .few) terms);

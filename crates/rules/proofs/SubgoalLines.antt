@@ -16,7 +16,7 @@ use Rattle.theory.specs.Packs.{Atom, Rule, Pack, onSubgoals, onRules, atomKey, 
 use Rattle.theory.specs.declared.Letter.the-variants.{B}
 use Rattle.theory.specs.Written.{Written, onLast, atomFrom, termsFrom, add}
 use Rattle.theory.specs.Residuals.{numbered, atomsVariables, ruleVariables}
-use Rattle.theory.specs.Faults.{noRule, isTerm, lastRule, mayStand, subgoalTests, tests, fault}
+use Rattle.theory.specs.Faults.{noRule, firstOf, isTerm, lastRule, mayStand, subgoalTests, tests, fault}
 use Rattle.theory.proofs.Judging.LastRule.{last-changed}
 use Rattle.theory.proofs.Judging.LineWriting.{writes-letter}
 use Rattle.theory.proofs.Judging.RuleCounts.{length-onLast, multiplierLines-subgoal}
@@ -40,7 +40,7 @@ use Rattle.atoms.specs.Fields.{subgoalAtom, FieldTerm}
 use Rattle.atoms.proofs.StatedAtoms.{subgoal-next}
 use Rattle.atoms.proofs.TermFields.{t-read}
 use Rattle.atoms.proofs.TermRows.{atom-over-more, terms-begin, term-field}
-use Rattle.atoms.proofs.AtomLines.{atom-limit, atom-fault, count-terms, few-terms, Finished, finished}
+use Rattle.atoms.proofs.AtomLines.{atom-ended, atom-fault, count-terms, few-terms, Finished, finished}
 use Rattle.rules.specs.Subgoals.{ProgressSubgoal}
 use Rattle.rules.specs.Ends.{withSubgoal, isPast, SlotsAdded, ClosesB}
 use Rattle.rules.proofs.Ends.{limits-kept, limit-broken}
@@ -70,7 +70,7 @@ b-field {line = line} {s = s} {index = index} place inside size before done fine
 pub b-fault : {line : Bytes} {s : State} {w : Written} {o : Opened} {atom index many : ℕ} {variables₀ variables rows₀ rows : List ℕ} {r : Fielding} {f : Fault} → Passed B line s w o → index < length (drop 2 (fieldsOf line))
     → FieldTerm atom index (at (drop 2 (fieldsOf line)) index) many variables₀ rows₀ r variables rows → r ≡ Misread f → fault w line ≡ numberOf f
 unfolding tests subgoalTests
-b-fault {line = line} {w = w} passed inside done bad = passed .left ∙ atom-fault _ _ (fieldsOf line) (w .pack) inside done bad
+b-fault {line = line} {w = w} passed inside done bad = passed .left ∙ atom-fault _ [] _ (fieldsOf line) (w .pack) inside done bad
 
 -- ---- the line's end
 
@@ -167,6 +167,7 @@ module _ (line : Bytes) (w : Written) where
       declares = holds .declares;
       claims = holds .claims;
       claimed = holds .claimed;
+      shipped = holds .shipped;
       rules = holds .rules ∙ sym (length-onLast (onSubgoals (ending added)) (w .pack .rules));
       lines = holds .lines ∙ sym (multiplierLines-subgoal added (w .pack .rules));
       last = λ h. rw (last-changed (onSubgoals (ending added)) noRule (w .pack .rules) unempty) subgoal-stands;
@@ -175,14 +176,14 @@ module _ (line : Bytes) (w : Written) where
 
 pub b-close : {line : Bytes} {t : Tables} {s : State} {w : Written} {o : Opened} {many : ℕ} {variables rows slots : List ℕ} {r : Closing} → Holds t s w → Safe t s → Passed B line s w o
     → ProgressSubgoal line w s t (length (drop 2 (fieldsOf line))) many variables rows → ClosesB o s many (t .signatures) (t .slots) r slots → ClosedFor line w r (tables (t .names) (t .signatures) (t .claims) variables rows slots)
-unfolding tests subgoalTests
+unfolding tests subgoalTests firstOf
 b-close {line} {t} {s} {w} {o} {many} {variables} {rows} {slots} {r} holds safe passed done closes =
     let unempty = ruleful (w .pack) (passed .stands) in
     let stands = holds .last unempty in
     record {
       answer =
           passed .left
-          ∙ atom-limit _ _ (fieldsOf line) (w .pack) (places-every isTerm (drop 2 (fieldsOf line)) [] (done .good))
+          ∙ atom-ended _ [] _ (fieldsOf line) (w .pack) (places-every isTerm (drop 2 (fieldsOf line)) [] (done .good))
           ∙ subgoal-answer line w (s .subgoals) many _ r (stands .subgoals) (λ room. terms room .past) (closes .answer);
       holds = λ next fine.
           let kept = limits-kept subgoalLimit (s .subgoals) many _ (closes .answer) fine in

@@ -14,10 +14,10 @@ use Rattle.tables.specs.declared.Closing.the-variants.{Done, Misclosed}
 use Rattle.tables.specs.Tables.{claimPlace}
 
 abbrev pub withHead : ℕ → ℕ → State → State
-withHead head variables s = record { predicates = s .predicates; claimed = s .claimed; rules = s .rules + 1; «multiplier_lines» = s .«multiplier_lines»; head = head; subgoals = 0; variables = variables; slots = 0; multipliers = 0; ended = s .ended }
+withHead head variables s = record { predicates = s .predicates; claimed = s .claimed; rules = s .rules + 1; «multiplier_lines» = s .«multiplier_lines»; head = head; subgoals = 0; variables = variables; slots = 0; multipliers = 0; shipped = s .shipped; ended = s .ended }
 
 abbrev pub withSubgoal : ℕ → ℕ → State → State
-withSubgoal slots variables s = record { predicates = s .predicates; claimed = s .claimed; rules = s .rules; «multiplier_lines» = s .«multiplier_lines»; head = s .head; subgoals = s .subgoals + 1; variables = variables; slots = slots; multipliers = s .multipliers; ended = s .ended }
+withSubgoal slots variables s = record { predicates = s .predicates; claimed = s .claimed; rules = s .rules; «multiplier_lines» = s .«multiplier_lines»; head = s .head; subgoals = s .subgoals + 1; variables = variables; slots = slots; multipliers = s .multipliers; shipped = s .shipped; ended = s .ended }
 
 -- past a limit of rules or subgoals, or that of a rule's variables
 abbrev pub isPast : ℕ → ℕ → ℕ → Bool

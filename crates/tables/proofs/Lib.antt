@@ -1,6 +1,8 @@
 -- Laws that callers use.
 pub mod Outcomes
+pub mod FaultNumbers
 pub mod Lookup
 pub mod Declared
+pub mod Shipping
 pub mod Outlines
 pub mod SlotCounts

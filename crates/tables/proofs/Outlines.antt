@@ -9,6 +9,7 @@ outline t s w holds =
       declares = holds .declares;
       counts = holds .claims .count;
       claimed = holds .claimed;
+      shipped = holds .shipped .none;
       rules = holds .rules;
       head = λ some. holds .last some .head;
       headKey = λ some. holds .last some .headKey;

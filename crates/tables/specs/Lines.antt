@@ -6,7 +6,7 @@ use mathlib.Core.Option.{some, none}
 use Prim.Native.Nat.{ℕ, _+_, _≤_, _<_}
 use lib.ListN.{length, getD, drop}
 use Rattle.theory.specs.declared.Letter.{Letter}
-use Rattle.theory.specs.declared.Letter.the-variants.{P, C, H, B, M, E, NoLetter}
+use Rattle.theory.specs.declared.Letter.the-variants.{P, C, G, H, B, M, E, NoLetter}
 use Rattle.theory.specs.Text.{Bytes, isName, fieldsOf}
 use Rattle.theory.specs.Packs.{Key, keyOf, claimKey, atomKey, declaredAs}
 use Rattle.theory.specs.Written.{lineLetter, field, predicateFrom, claimFrom, atomFrom, Written, write}
@@ -26,6 +26,7 @@ use Rattle.tables.specs.Tables.{Tables, predicateAt, Holds}
 abbrev pub skipped : Letter → ℕ
 skipped P = 2
 skipped C = 2
+skipped G = 2
 skipped H = 2
 skipped B = 2
 skipped M = 1
@@ -36,6 +37,7 @@ skipped NoLetter = 1
 abbrev pub openingTests : Letter → ℕ
 openingTests P = 3
 openingTests C = 3
+openingTests G = 4
 openingTests H = 3
 openingTests B = 3
 openingTests M = 1
@@ -46,6 +48,7 @@ openingTests NoLetter = 0
 abbrev pub most : Letter → State → ℕ
 most P s = 2
 most C s = 9
+most G s = 8
 most H s = 8
 most B s = 8
 most M s = s .slots
@@ -70,6 +73,7 @@ pub record OldPredicate (k : Key) (more : ℕ) (line : Bytes) (w : Written) (o :
 abbrev pub NamedFor : Letter → Bytes → State → Written → Opened → Type 0
 NamedFor P line s w o = NewPredicate line w o
 NamedFor C line s w o = OldPredicate (claimKey (claimFrom (fieldsOf line))) 3 line w o
+NamedFor G line s w o = OldPredicate (atomKey (atomFrom (fieldsOf line))) 2 line w o
 NamedFor H line s w o = OldPredicate (atomKey (atomFrom (fieldsOf line))) 2 line w o
 NamedFor B line s w o = OldPredicate (atomKey (atomFrom (fieldsOf line))) 2 line w o
 NamedFor M line s w o = length (fieldsOf line) ≡ s .slots + 1

@@ -1,16 +1,17 @@
 -- The tables and the state, and how they stand for what the lines so far write.
 use mathlib.Core.Path.{_≡_}
-use mathlib.Core.Bool.{true, cond, not}
-use mathlib.Core.List.{List, []}
+use mathlib.Core.Bool.{Bool, true, false, cond, not, _||_}
+use mathlib.Core.List.{List, [], _∷_}
 use Prim.Native.Nat.{ℕ, zero, suc, _+_, _*_, _≤_, _<_}
 use lib.Dec.{eqb}
 use lib.IntN.{ℤ, pos, natAbs}
 use lib.ListN.{length, getD}
+use Rattle.groundwork.proofs.Bits.{bit}
 use Rattle.theory.specs.Lists.{isEmpty}
 use Rattle.theory.specs.Text.{Bytes, isName}
 use Rattle.theory.specs.Terms.{Term, Terms, variable, nil, cons, arity, structural}
 use Rattle.theory.specs.Forms.{zeroForm, formOf}
-use Rattle.theory.specs.Packs.{Kind, given, ruled, Predicate, Claim, Atom, Rule, Pack, keyOf, atomKey, claimsOn, claimsOnAll, noClaim}
+use Rattle.theory.specs.Packs.{Kind, given, ruled, Predicate, Claim, Atom, Rule, Pack, Key, sameKey, keyOf, atomKey, claimsOn, claimsOnAll, noClaim}
 use Rattle.theory.specs.Written.{Written}
 use Rattle.theory.specs.Residuals.{claimForm, subgoalForms, ruleVariables}
 use Rattle.theory.specs.Faults.{lastRule}
@@ -112,6 +113,18 @@ pub record HoldsClaims (signatures : List ℕ) (claims : List ℤ) (ps : List Pr
   pub at : (i j : ℕ) → i < length ps → j < length (claimsOn (keyOf (predicateAt ps i)) cs) → ClaimAt claims (claimPlace i j) (getD (claimsOn (keyOf (predicateAt ps i)) cs) j noClaim)
   pub full : (i j : ℕ) → i < length ps → j < length (claimsOn (keyOf (predicateAt ps i)) cs) → length (getD (claimsOn (keyOf (predicateAt ps i)) cs) j noClaim .coefficients) ≡ predicateAt ps i .arguments
 
+-- ## Facts that come with the pack
+
+-- whether a fact is of the predicate under a key
+unfoldable pub hasFact : Key → List Atom → Bool
+hasFact k [] = false
+hasFact k (f ∷ fs) = sameKey k (atomKey f) || hasFact k fs
+
+-- the set of the predicates that have a fact
+pub record Ships (set : ℕ) (ps : List Predicate) (facts : List Atom) : Type 0 where
+  pub none : eqb set 0 ≡ isEmpty facts
+  pub has : (i : ℕ) → i < length ps → bit set i ≡ hasFact (keyOf (predicateAt ps i)) facts
+
 -- ## The last rule
 
 -- the argument at a place, from 0
@@ -164,6 +177,7 @@ pub record Holds (t : Tables) (s : State) (w : Written) : Type 0 where
   pub declares : Declares (t .names) (t .signatures) (s .predicates) (w .pack .predicates)
   pub claims : HoldsClaims (t .signatures) (t .claims) (w .pack .predicates) (w .pack .claims)
   pub claimed : s .claimed ≡ not (isEmpty (w .pack .claims))
+  pub shipped : Ships (s .shipped) (w .pack .predicates) (w .pack .facts)
   pub rules : s .rules ≡ length (w .pack .rules)
   pub lines : s .«multiplier_lines» ≡ multiplierLines (w .pack .rules)
   pub last : (w .pack .rules ≡ [] → ⊥) → RuleStands t s (w .pack) (lastRule (w .pack))
@@ -174,6 +188,7 @@ pub record Outline (names signatures : List ℕ) (s : State) (w : Written) : Typ
   pub declares : Declares names signatures (s .predicates) (w .pack .predicates)
   pub counts : (i : ℕ) → i < length (w .pack .predicates) → getD signatures (64 + i) 0 ≡ length (claimsOn (keyOf (predicateAt (w .pack .predicates) i)) (w .pack .claims))
   pub claimed : s .claimed ≡ not (isEmpty (w .pack .claims))
+  pub shipped : eqb (s .shipped) 0 ≡ isEmpty (w .pack .facts)
   pub rules : s .rules ≡ length (w .pack .rules)
   pub head : (w .pack .rules ≡ [] → ⊥) → s .head < length (w .pack .predicates)
   pub headKey : (w .pack .rules ≡ [] → ⊥) → keyOf (predicateAt (w .pack .predicates) (s .head)) ≡ atomKey (lastRule (w .pack) .head)

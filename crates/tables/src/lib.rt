@@ -3,7 +3,8 @@
 //
 // The tables are flat arrays that the caller lends.
 ghost use mathlib.Core.Path.{_≡_};
-ghost use Prim.Native.Nat.{_≤_, _<_};
+ghost use Prim.Native.Nat.{_≤_, _<_, _^_};
+ghost use lib.Bits.{bitOr};
 ghost use Rattle.tables.specs.Tables.{claimPlace, rowPlace};
 use theory::Letter;
 use words::Words;
@@ -49,6 +50,18 @@ pub fn row_place(atom: usize, argument: usize) -> usize
     (atom * 8 + argument) * 17
 }
 
+/// A set of predicates: bit i is that of the predicate at place i. It has the width of the state's other numbers, since a
+/// narrower one among them makes copies of the state slow.
+pub type PredicateSet = u64;
+
+/// A set with one predicate more, or the same where that is in it.
+pub fn with_predicate(set: PredicateSet, place: usize) -> PredicateSet
+    requires { ⌜ place < 32 ⌝ }
+    ensures { λ r. ⌜ r ≡ bitOr set (2 ^ place) ⌝ }
+{
+    set | (1u64 << place)
+}
+
 /// The scalars that go with the tables. The flags stand last: gaps after them, between the numbers, make copies slow.
 pub struct State {
     pub predicates: usize,
@@ -60,12 +73,14 @@ pub struct State {
     pub variables: usize,
     pub slots: usize,
     pub multipliers: usize,
+    /// The predicates that have a fact.
+    pub shipped: PredicateSet,
     /// Whether there is a claim.
     pub claimed: bool,
     pub ended: bool,
 }
 
-/// What is wrong with a line: one case for each number of document 01's table that a line may have.
+/// What is wrong with a line: one case for each number that a line may have, of document 01's table and of later requests.
 pub enum Fault {
     UnfitLine,
     Letter,
@@ -76,6 +91,9 @@ pub enum Fault {
     NoTerm,
     CountLimit,
     Unjustified,
+    RuledFact,
+    NotGround,
+    UnmetClaim,
 }
 
 /// A line whose tests up to the count of fields are done: what the fields and the line's end need.

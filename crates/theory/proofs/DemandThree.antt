@@ -8,9 +8,9 @@ use Rattle.theory.specs.Packs.{Pack, Atom}
 use Rattle.theory.specs.Written.{packOf}
 use Rattle.theory.specs.Check.{Numbers, checkOf}
 use Rattle.theory.specs.Reserve.{queryOf, fields}
-use Rattle.theory.specs.Derivations.{GivenFact, Derivable}
+use Rattle.theory.specs.Derivations.{GivenFact, ShippedFact, Derivable}
 use Rattle.theory.specs.Answers.{numbersOf, reservedFields}
-use Rattle.theory.specs.Promises.{GivenMeet, ClaimsKept, AnswersKept, DemandThree}
+use Rattle.theory.specs.Promises.{GivenMeet, ClaimsKept, AnswersKept, Kept, DemandThree}
 use Rattle.theory.proofs.Judging.Acceptance.{AcceptedPack, accepted-pack, accepted-written, check-accepts}
 use Rattle.theory.proofs.Soundness.Derivable.{derivable-meets, derivable-is-fact}
 use Rattle.theory.proofs.Reserving.Reservations.{bound-exactly, impossible-exactly}
@@ -21,17 +21,18 @@ use Rattle.theory.proofs.Words.{words-kept}
 from-check : (text : Bytes) (area : List ℤ) → checkOf text area .returned .number ≡ 0 → AcceptedPack text
 from-check text area e = let a = check-accepts text area e in accepted-written text (a .pack) (a .isWritten) (a .fits) (a .justified)
 
-claims-kept : (text : Bytes) (Given : Atom → Type 0) → GivenMeet text Given → ClaimsKept text Given
+-- (the premise on given facts is asked only of a pack that is accepted)
+claims-kept : (text : Bytes) (Given : Atom → Type 0) → (AcceptedPack text → GivenMeet text Given) → ClaimsKept text Given
 claims-kept text Given given = record {
-  claimsMet = λ area e. derivable-meets p Given given (from-check text area e .justified);
+  claimsMet = λ area e. let s = from-check text area e in derivable-meets p Given (given s) (s .justified);
   boundKept = λ query bound claim e.
       let a = answered text query (fields (code "B") bound claim) refl e in
       let s = accepted-pack text (a .accepted) in
-      bound-kept p (Derivable p Given) (derivable-is-fact p Given given (s .fits .formed)) (derivable-meets p Given given (s .justified)) (s .fits .formed .claims) (queryOf query) (asks p (s .fits .formed .predicates) query (a .faultless)) bound claim (bound-exactly p (queryOf query) bound claim .0 (a .says));
+      bound-kept p (Derivable p Given) (derivable-is-fact p Given (given s) (s .fits .formed)) (derivable-meets p Given (given s) (s .justified)) (s .fits .formed .claims) (queryOf query) (asks p (s .fits .formed .predicates) query (a .faultless)) bound claim (bound-exactly p (queryOf query) bound claim .0 (a .says));
   noneSuch = λ query claim e.
       let a = answered text query (fields (code "I") 0 claim) refl e in
       let s = accepted-pack text (a .accepted) in
-      none-such p (Derivable p Given) (derivable-is-fact p Given given (s .fits .formed)) (derivable-meets p Given given (s .justified)) (s .fits .formed .claims) (queryOf query) (asks p (s .fits .formed .predicates) query (a .faultless)) claim (impossible-exactly p (queryOf query) claim .0 (a .says));
+      none-such p (Derivable p Given) (derivable-is-fact p Given (given s) (s .fits .formed)) (derivable-meets p Given (given s) (s .justified)) (s .fits .formed .claims) (queryOf query) (asks p (s .fits .formed .predicates) query (a .faultless)) claim (impossible-exactly p (queryOf query) claim .0 (a .says));
 }
   where
     p : Pack
@@ -44,10 +45,24 @@ answers-kept text Given kept = record {
   impossible = λ query answer promised claim is. kept .noneSuch query claim (sym promised ∙ ap reservedFields is);
 }
 
+all-kept : (text : Bytes) (Given : Atom → Type 0) → (AcceptedPack text → GivenMeet text Given) → Kept text Given
+all-kept text Given given =
+    let claims = claims-kept text Given given in
+    record { claims = claims; answers = answers-kept text Given claims; words = words-kept text Given claims }
+
+-- the facts on the `G` lines of an accepted pack keep to the premise
+shipped-meet : (text : Bytes) → AcceptedPack text → GivenMeet text (ShippedFact (packOf text))
+shipped-meet text s f shipped =
+    let fits = s .fits .formed .facts f (shipped .stands) in
+    record {
+      fact = record { predicate = fits .atom .predicate; declared = fits .atom .declared; full = fits .atom .full; ground = fits .ground };
+      isGiven = fits .isGiven;
+      meets = s .justified .facts f (shipped .stands);
+    }
+
 pub demand-three : (text : Bytes) → DemandThree text
 demand-three text = record {
-  general = claims-kept text;
-  all = claims-kept text (GivenFact (packOf text)) (λ f g. g);
-  answers = λ Given given. answers-kept text Given (claims-kept text Given given);
-  words = λ Given given. words-kept text Given (claims-kept text Given given);
+  general = λ Given given. all-kept text Given (λ s. given);
+  all = all-kept text (GivenFact (packOf text)) (λ s f g. g);
+  shipped = all-kept text (ShippedFact (packOf text)) (shipped-meet text);
 }

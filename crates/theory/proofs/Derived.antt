@@ -10,7 +10,8 @@ use Rattle.theory.specs.Terms.{arity, symbolFrom, symbolIn, tokenOf, fir
 use Rattle.theory.specs.Packs.{key, sameKey, declaredAs, claimsOn, Claim, Atom, ruled}
 use Rattle.theory.specs.Written.{letterOf, termsFrom, kindFrom, predicateFrom, claimFrom, atomFrom, multipliersFrom, nothing, onLast, add, write, writeAll, packOf}
 use Rattle.theory.specs.Faults.{isGiven, noRule}
-use Rattle.theory.specs.Derivations.{Meets, weightedSizes, GivenFact, Derivable, byRule, atomUnder}
+use Rattle.theory.specs.Facts.{Meets, weightedSizes}
+use Rattle.theory.specs.Derivations.{GivenFact, Derivable, byRule, atomUnder}
 
 abbrev join : Bytes
 join = bytes "P,join,3,R\nC,join,0,1,1,-1\nC,join,0,-1,-1,1\nH,join,nil/0,Y,Y\nM\nM\nH,join,cons/2 X Xs,Y,cons/2 X Zs\nB,join,Xs,Y,Zs\nM,1,0\nM,0,1\nE\n"

@@ -1,4 +1,4 @@
--- The starred examples of document 01 as one table: the definitions compute every answer in it.
+-- The starred examples of document 01 as one table, and those of 02's 1/14 as another: the definitions compute every answer.
 use mathlib.Core.Path.{_≡_, refl, sym, ap, subst}
 use mathlib.Core.List.{List, [], _∷_, _++_, map, flatMap, flatten, List·Memᴰ·head, List·Memᴰ·eq-of-singleton}
 use Prim.Native.Nat.{ℕ}
@@ -11,10 +11,11 @@ use Rattle.theory.specs.Lists.{_∈_, total, every, isSome, isEmpty}
 use Rattle.theory.specs.Text.{bytes, same, among, partsAt, joined, linesOf, isNameByte, isWord, valueAfter, isDecimal, natural, negated, integer}
 use Rattle.theory.specs.Terms.{variable, nil, cons, arity, symbolFrom, symbolIn, tokenOf, firstTerms, after, afterAll, termsOf, theOnly, readTerm, structural, flagged, size, counted, variables, occurrences}
 use Rattle.theory.specs.Forms.{zeroForm, plus, times, minus, constantForm, formOf}
-use Rattle.theory.specs.Packs.{given, Predicate, Atom, Rule, fromRules, fromClaims, ruleLines, claimLine, headLine, key, sameKey, declaredAs, claimsOn, noClaim}
+use Rattle.theory.specs.Packs.{given, Predicate, Atom, Rule, fromRules, fromFacts, fromClaims, factLine, ruleLines, claimLine, headLine, key, sameKey, declaredAs, claimsOn, noClaim}
 use Rattle.theory.specs.Written.{letterOf, termsFrom, kindFrom, predicateFrom, claimFrom, atomFrom, multipliersFrom, nothing, onLast, add, write, writeAll, packOf}
 use Rattle.theory.specs.Residuals.{weighted, claimForm, subgoalForms, combined, residual, numbered, atomsVariables, ruleVariables, residualNumbers, isJustified}
-use Rattle.theory.specs.Faults.{firstOf, isUnfit, arityIn, isGiven, givenIn, noRule, lastOf, mayStand, residualDue, predicateTests, claimTests, atomTests, headTests, subgoalTests, multiplierTests, tests, fault}
+use Rattle.theory.specs.Facts.{weightedSizes, isMet}
+use Rattle.theory.specs.Faults.{firstOf, isUnfit, arityIn, isGiven, givenIn, ruledIn, noRule, lastOf, mayStand, residualDue, predicateTests, claimTests, atomTests, factTests, headTests, subgoalTests, multiplierTests, tests, fault}
 use Rattle.theory.specs.Check.{numbers, Checked, multiplierLines, refused, judge, isFinished, verdictOf, checkOf}
 use Rattle.theory.specs.Measure.{Measured, measured, measureTerm, measureOf}
 use Rattle.theory.specs.Derivations.{GivenFact, Derivable, byRule, atomUnder}
@@ -33,7 +34,7 @@ pub data Answer : Type 0 where
   sized : Measured → Answer
 
 unfoldable pub answerTo : Example → Answer
-unfolding bytes same among every partsAt joined linesOf isNameByte isWord valueAfter isDecimal natural negated integer arity symbolFrom symbolIn tokenOf firstTerms after afterAll termsOf theOnly readTerm structural flagged total flatten size counted variables occurrences zeroForm plus times minus constantForm formOf key sameKey declaredAs claimsOn letterOf termsFrom kindFrom predicateFrom claimFrom atomFrom multipliersFrom nothing onLast add write writeAll packOf weighted claimForm subgoalForms combined residual numbered atomsVariables ruleVariables residualNumbers isJustified firstOf isSome isUnfit arityIn isGiven givenIn isEmpty noRule lastOf fromRules fromClaims ruleLines claimLine headLine mayStand noClaim residualDue predicateTests claimTests atomTests headTests subgoalTests multiplierTests tests fault multiplierLines refused judge isFinished verdictOf checkOf measureTerm measureOf sizeFrom queryFrom queryOf queryFault unknownsAtMostZero knownPart isUsable numerator boundBy usableFrom impossibles smallest bounded impossibleOr reservation refusal answerOf reserveOf flatMap
+unfolding bytes same among every partsAt joined linesOf isNameByte isWord valueAfter isDecimal natural negated integer arity symbolFrom symbolIn tokenOf firstTerms after afterAll termsOf theOnly readTerm structural flagged total flatten size counted variables occurrences zeroForm plus times minus constantForm formOf key sameKey declaredAs claimsOn letterOf termsFrom kindFrom predicateFrom claimFrom atomFrom multipliersFrom nothing onLast add write writeAll packOf weighted claimForm subgoalForms combined residual numbered atomsVariables ruleVariables residualNumbers isJustified weightedSizes isMet firstOf isSome isUnfit arityIn isGiven givenIn ruledIn isEmpty noRule lastOf fromRules fromFacts fromClaims ruleLines claimLine factLine headLine mayStand noClaim residualDue predicateTests claimTests atomTests factTests headTests subgoalTests multiplierTests tests fault multiplierLines refused judge isFinished verdictOf checkOf measureTerm measureOf sizeFrom queryFrom queryOf queryFault unknownsAtMostZero knownPart isUsable numerator boundBy usableFrom impossibles smallest bounded impossibleOr reservation refusal answerOf reserveOf flatMap
 answerTo (check pack area) = checked (checkOf (bytes pack) area)
 answerTo (reserve pack query) = reserved (reserveOf (bytes pack) (bytes query))
 answerTo (measure term) = sized (measureOf (bytes term))
@@ -105,11 +106,31 @@ abbrev AllBesides : List Row → Type 0
 AllBesides [] = Unit {0}
 AllBesides (r ∷ rows) = r .besides × AllBesides rows
 
--- The table as a whole: every answer, and what is said besides.
+-- A table as a whole: every answer, and what is said besides.
 pub record TableMet (rows : List Row) : Type 0 where
   pub answers : map (λ (r : Row). answerTo (r .call)) rows ≡ map (λ (r : Row). r .answer) rows
   pub besides : AllBesides rows
 
+-- Document 01's starred examples.
 pub starred-are-met : TableMet starred
 unfolding answerTo
 starred-are-met = record { answers = refl; besides = (tt, (tt, (tt, (tt, (tt, (tt, (tt, (nothing-derivable, (tt, (tt, (tt, tt))))))))))) }
+
+-- ---- 02, 1/14: facts that come with the pack
+
+abbrev pub shipping : String
+shipping = "P,next,2,G\nP,trail,2,R\nC,next,-1,1,-1\nC,trail,-1,1,-1\nG,next,s/1 s/1 o/0,s/1 o/0\nH,trail,X,Y\nB,next,X,Y\nM,1\nE\n"
+
+-- accepted; a ruled predicate, before the variable; a variable, before the claim; a claim that the second fact fails
+abbrev pub withFacts : List Row
+withFacts =
+    (check shipping before gives unchanged 0 9 1 1)
+    ∷ (check "P,k,1,R\nG,k,X\nE\n" before gives unchanged 20 2 0 0)
+    ∷ (check "P,k,1,G\nC,k,-1,0\nG,k,X\nE\n" before gives unchanged 21 3 0 0)
+    ∷ (check "P,k,1,G\nC,k,0,-1\nG,k,a/0\nG,k,f/1 a/0\nE\n" before gives unchanged 22 4 0 0)
+    ∷ (check "P,k,0,G\nG,k\nC,k,0\nE\n" before gives unchanged 5 3 0 0)
+    ∷ []
+
+pub facts-are-met : TableMet withFacts
+unfolding answerTo
+facts-are-met = record { answers = refl; besides = (tt, (tt, (tt, (tt, (tt, tt))))) }

@@ -15,6 +15,7 @@ pub mod DemandTwo
 pub mod Words
 pub mod DemandThree
 pub mod RightCase
--- document 01's starred examples, and facts with derivations
+-- document 01's starred examples, and those of later requests; facts with derivations, and a fact without
 pub mod Examples
 pub mod Derived
+pub mod Shipped

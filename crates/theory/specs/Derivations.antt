@@ -1,40 +1,19 @@
--- Document 01, "Derivations": facts, which facts meet a claim, and derivations.
+-- Document 01, "Derivations", with 02's 1/14: which facts are given, and what has a derivation from them.
 use mathlib.Core.Path.{_≡_}
-use mathlib.Core.List.{List, [], _∷_}
-use mathlib.Core.Option.{some}
-use Prim.Native.Nat.{ℕ}
-use lib.IntN.{ℤ, pos, _+ℤ_, _*ℤ_}
-use lib.Signed.{_≤ℤ_}
 use Rattle.theory.specs.Lists.{_∈_}
-use Rattle.theory.specs.Terms.{arity, Measure, structural, argumentSizes, AllGround, Substitution, allUnder}
-use Rattle.theory.specs.Packs.{given, Predicate, Claim, Atom, Rule, Pack, atomKey, declaredAs, claimsOn}
-
--- What is a fact: an atom of a declared predicate, as many terms as that has arguments, and no variable in them.
-pub record IsFact (p : Pack) (f : Atom) : Type 0 where
-  pub predicate : Predicate
-  pub declared : declaredAs (atomKey f) (p .predicates) ≡ some predicate
-  pub full : arity (f .terms) ≡ predicate .arguments
-  pub ground : AllGround (f .terms)
-
--- each coefficient times the size of its argument, added up
-unfoldable pub weightedSizes : List ℤ → List ℕ → ℤ
-weightedSizes [] sizes = pos 0
-weightedSizes (c ∷ cs) [] = pos 0
-weightedSizes (c ∷ cs) (s ∷ sizes) = c *ℤ pos s +ℤ weightedSizes cs sizes
-
--- The claim holds of a fact: at the sizes of its arguments it is at least 0.
-pub record Meets (m : Measure) (f : Atom) (c : Claim) : Type 0 where
-  pub holds : pos 0 ≤ℤ (c .constant +ℤ weightedSizes (c .coefficients) (argumentSizes m (f .terms)))
-
--- it meets every claim on its predicate
-pub record MeetsAll (p : Pack) (f : Atom) : Type 0 where
-  pub meets : (c : Claim) → c ∈ claimsOn (atomKey f) (p .claims) → Meets structural f c
+use Rattle.theory.specs.Terms.{Substitution, allUnder}
+use Rattle.theory.specs.Packs.{given, Atom, Rule, Pack}
+use Rattle.theory.specs.Facts.{IsFact, MeetsAll}
 
 -- A fact of a given predicate that meets the claims on it.
 pub record GivenFact (p : Pack) (f : Atom) : Type 0 where
   pub fact : IsFact p f
   pub isGiven : fact .predicate .kind ≡ given
   pub meets : MeetsAll p f
+
+-- A fact that comes with the pack: it stands on a `G` line.
+pub record ShippedFact (p : Pack) (f : Atom) : Type 0 where
+  pub stands : f ∈ p .facts
 
 abbrev pub atomUnder : Substitution → Atom → Atom
 atomUnder σ a = record { name = a .name; terms = allUnder σ (a .terms) }

@@ -1,6 +1,6 @@
--- Document 01, the table of "What check returns": what is wrong with a line, given what the lines before it write.
+-- Document 01, the table of "What check returns", with 02's 1/14: what is wrong with a line, given what the lines before it write.
 use mathlib.Core.Bool.{Bool, true, false, cond, not, _&&_, _||_}
-use mathlib.Core.List.{List, [], _∷_}
+use mathlib.Core.List.{List, [], _∷_, _++_}
 use mathlib.Core.Option.{Option, some, none}
 use Prim.Native.Nat.{ℕ, _+_}
 use lib.Dec.{eqb, leb, ltb}
@@ -8,12 +8,13 @@ use lib.IntN.{ℤ}
 use lib.ListN.{length, getD, drop}
 use Rattle.theory.specs.Lists.{every, isEmpty, isSome, ending}
 use Rattle.theory.specs.Text.{Bytes, bytes, same, between, isName, natural, integer, fieldsOf}
-use Rattle.theory.specs.Terms.{nil, readTerm, structural}
-use Rattle.theory.specs.Packs.{Kind, given, ruled, Predicate, Claim, Atom, Rule, Pack, noClaim, headAlone, lineLimit, predicateLimit, claimLimit, ruleLimit, subgoalLimit, variableLimit, numberLimit, keyOf, claimKey, atomKey, declaredAs, claimsOn, claimsOnAll, fromRules, fromClaims}
+use Rattle.theory.specs.Terms.{nil, readTerm, allVariables, structural}
+use Rattle.theory.specs.Packs.{Kind, given, ruled, Predicate, Claim, Atom, Rule, Pack, noClaim, headAlone, lineLimit, predicateLimit, claimLimit, ruleLimit, subgoalLimit, variableLimit, numberLimit, keyOf, claimKey, atomKey, declaredAs, claimsOn, claimsOnAll, fromRules, fromFacts, fromClaims}
 use Rattle.theory.specs.declared.Letter.{Letter}
-use Rattle.theory.specs.declared.Letter.the-variants.{P, C, H, B, M, E, NoLetter}
+use Rattle.theory.specs.declared.Letter.the-variants.{P, C, G, H, B, M, E, NoLetter}
 use Rattle.theory.specs.Written.{lineLetter, field, Written, predicateFrom, claimFrom, atomFrom, multipliersFrom}
 use Rattle.theory.specs.Residuals.{residual, ruleVariables, residualNumbers, isJustified}
+use Rattle.theory.specs.Facts.{meetsEvery}
 
 -- ## Tests
 
@@ -25,7 +26,8 @@ pub record Test : Type 0 where
 abbrev pub test : ℕ → Bool → Test
 test n b = record { number = n; finds = b }
 
--- The lowest number applies: tests stand in number order, and the first that finds its fault decides. 0 is no fault.
+-- The tests of a line stand in the order in which they apply: by number, and where a later request puts its own. The first
+-- that finds its fault decides. 0 is no fault.
 unfoldable pub firstOf : List Test → ℕ
 firstOf [] = 0
 firstOf (t ∷ ts) = cond (t .finds) (t .number) (firstOf ts)
@@ -61,6 +63,10 @@ unfoldable pub givenIn : Option Predicate → Bool
 givenIn none = false
 givenIn (some p) = isGiven (p .kind)
 
+unfoldable pub ruledIn : Option Predicate → Bool
+ruledIn none = false
+ruledIn (some p) = not (isGiven (p .kind))
+
 -- a rule of no predicate, which stands for the last rule where there is none
 unfoldable pub noRule : Rule
 noRule = headAlone (record { name = []; terms = nil })
@@ -83,7 +89,8 @@ isComplete p = isEmpty (p .rules) || leb (length (headClaims p)) (length (lastRu
 -- Which letters may come next: those of a section while the sections after it have no line; those of a rule as its lines come.
 unfoldable pub mayStand : Pack → Letter → Bool
 mayStand p P = isEmpty (fromClaims p)
-mayStand p C = isEmpty (fromRules p)
+mayStand p C = isEmpty (fromFacts p)
+mayStand p G = isEmpty (fromRules p)
 mayStand p H = isComplete p
 mayStand p B = not (isEmpty (p .rules)) && isEmpty (lastRule p .multipliers)
 mayStand p M = not (isComplete p)
@@ -122,16 +129,25 @@ claimTests fields p =
     ∷ test 12 (leb claimLimit (length (claimsOn k (p .claims))))
     ∷ []
 
--- for `H` and `B`: what the 8 and the 12 of the letter ask besides
-unfoldable pub atomTests : Bool → Bool → List Bytes → Pack → List Test
-atomTests isRefused isPastLimit fields p =
+-- for `G`, `H` and `B`: what the letter's 8 asks besides, its own tests right after 8, and those after 11
+unfoldable pub atomTests : Bool → List Test → List Test → List Bytes → Pack → List Test
+atomTests isRefused afterName afterTerms fields p =
     let found = declaredAs (atomKey (atomFrom fields)) (p .predicates) in
     test 7 (not (isName (field 1 fields)))
     ∷ test 8 (not (isSome found) || isRefused)
-    ∷ test 9 (not (eqb (length fields) (arityIn found + 2)))
+    ∷ afterName
+    ++ test 9 (not (eqb (length fields) (arityIn found + 2)))
     ∷ test 11 (not (every isTerm (drop 2 fields)))
-    ∷ test 12 isPastLimit
-    ∷ []
+    ∷ afterTerms
+
+-- a fact that comes with the pack is of a given predicate, is ground, and meets the claims on its predicate
+unfoldable pub factTests : List Bytes → Pack → List Test
+factTests fields p =
+    let a = atomFrom fields in
+    atomTests false
+    (test 20 (ruledIn (declaredAs (atomKey a) (p .predicates))) ∷ [])
+    (test 21 (not (isEmpty (allVariables (a .terms)))) ∷ test 22 (not (meetsEvery (p .claims) a)) ∷ [])
+    fields p
 
 abbrev pub manyVariables : Atom → List Atom → Bool
 manyVariables head subgoals = ltb variableLimit (length (ruleVariables head subgoals))
@@ -139,12 +155,12 @@ manyVariables head subgoals = ltb variableLimit (length (ruleVariables head subg
 unfoldable pub headTests : List Bytes → Pack → List Test
 headTests fields p =
     let a = atomFrom fields in
-    atomTests (givenIn (declaredAs (atomKey a) (p .predicates))) (leb ruleLimit (length (p .rules)) || manyVariables a []) fields p
+    atomTests (givenIn (declaredAs (atomKey a) (p .predicates))) [] (test 12 (leb ruleLimit (length (p .rules)) || manyVariables a []) ∷ []) fields p
 
 unfoldable pub subgoalTests : List Bytes → Pack → List Test
 subgoalTests fields p =
     let r = lastRule p in
-    atomTests false (leb subgoalLimit (length (r .subgoals)) || manyVariables (r .head) (ending (atomFrom fields) (r .subgoals))) fields p
+    atomTests false [] (test 12 (leb subgoalLimit (length (r .subgoals)) || manyVariables (r .head) (ending (atomFrom fields) (r .subgoals))) ∷ []) fields p
 
 unfoldable pub multiplierTests : List Bytes → Pack → List Test
 multiplierTests fields p =
@@ -156,6 +172,7 @@ multiplierTests fields p =
 unfoldable pub tests : Letter → List Bytes → Pack → List Test
 tests P fields p = predicateTests fields p
 tests C fields p = claimTests fields p
+tests G fields p = factTests fields p
 tests H fields p = headTests fields p
 tests B fields p = subgoalTests fields p
 tests M fields p = multiplierTests fields p

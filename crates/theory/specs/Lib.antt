@@ -1,4 +1,4 @@
--- The definitions of document 01, in reading order.
+-- The definitions of documents 01 and 02, in reading order.
 pub mod Lists
 pub mod Text
 pub mod Terms
@@ -6,6 +6,7 @@ pub mod Forms
 pub mod Packs
 pub mod Written
 pub mod Residuals
+pub mod Facts
 pub mod Faults
 pub mod Check
 pub mod Measure

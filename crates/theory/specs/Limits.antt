@@ -1,4 +1,5 @@
--- Document 01, "The pack": the packs within the limits; "When a claim is justified"; and demand 2, when a pack is accepted.
+-- Document 01, "The pack", with 02's 1/14: the packs within the limits; "When a claim is justified"; and demand 2, when a pack
+-- is accepted.
 use mathlib.Core.Path.{_≡_}
 use mathlib.Core.Bool.{true}
 use mathlib.Core.List.{List, [], _∷_, _++_}
@@ -9,10 +10,11 @@ use lib.ListN.{length, getD}
 use lib.Signed.{_≤ℤ_}
 use Rattle.theory.specs.Lists.{_∈_, every}
 use Rattle.theory.specs.Text.{Bytes, isName}
-use Rattle.theory.specs.Terms.{arity, AllWellFormed, structural}
+use Rattle.theory.specs.Terms.{arity, AllWellFormed, AllGround, structural}
 use Rattle.theory.specs.Forms.{Form}
-use Rattle.theory.specs.Packs.{ruled, Predicate, Claim, Atom, Rule, Pack, opening, textLimit, lineLimit, predicateLimit, claimLimit, ruleLimit, subgoalLimit, variableLimit, numberLimit, Key, keyOf, claimKey, atomKey, declaredAs, claimsOn, claimsOnAll, packLines, written, noClaim}
+use Rattle.theory.specs.Packs.{given, ruled, Predicate, Claim, Atom, Rule, Pack, opening, textLimit, lineLimit, predicateLimit, claimLimit, ruleLimit, subgoalLimit, variableLimit, numberLimit, Key, keyOf, claimKey, atomKey, declaredAs, claimsOn, claimsOnAll, packLines, written, noClaim}
 use Rattle.theory.specs.Residuals.{residual, ruleVariables, areaNeeded}
+use Rattle.theory.specs.Facts.{MeetsAll}
 
 pub record PredicateFits (x : Predicate) : Type 0 where
   pub named : isName (x .name) ≡ true
@@ -27,13 +29,19 @@ pub record ClaimFits (ps : List Predicate) (c : Claim) : Type 0 where
   pub constant : natAbs (c .constant) ≤ numberLimit
   pub coefficients : (z : ℤ) → z ∈ c .coefficients → natAbs z ≤ numberLimit
 
--- a head or a subgoal: of a declared predicate, with a term for each argument
+-- a head, a subgoal or a fact: of a declared predicate, with a term for each argument
 pub record AtomFits (ps : List Predicate) (a : Atom) : Type 0 where
   pub predicate : Predicate
   pub declared : declaredAs (atomKey a) ps ≡ some predicate
   pub named : isName (a .name) ≡ true
   pub full : arity (a .terms) ≡ predicate .arguments
   pub formed : AllWellFormed (a .terms)
+
+-- a fact that comes with the pack: of a given predicate, with a ground term for each argument
+pub record FactFits (ps : List Predicate) (f : Atom) : Type 0 where
+  pub atom : AtomFits ps f
+  pub isGiven : atom .predicate .kind ≡ given
+  pub ground : AllGround (f .terms)
 
 -- the multipliers of one `M` line: one for each claim on each subgoal's predicate
 pub record MultipliersFit (claims : List Claim) (subgoals : List Atom) (ms : List ℕ) : Type 0 where
@@ -50,12 +58,13 @@ pub record RuleFits (o : Pack) (r : Rule) : Type 0 where
   pub everyClaim : length (r .multipliers) ≡ length (claimsOn (atomKey (r .head)) (o .claims))
   pub multipliers : (ms : List ℕ) → ms ∈ r .multipliers → MultipliersFit (o .claims) (r .subgoals) ms
 
--- each predicate, claim and rule has 01's form, whatever their number
+-- each predicate, claim, fact and rule has its form, whatever their number
 pub record Formed (p : Pack) : Type 0 where
   pub predicates : (x : Predicate) → x ∈ p .predicates → PredicateFits x
   -- none is declared before it under its key
   pub distinct : (before after : List Predicate) (x : Predicate) → p .predicates ≡ before ++ x ∷ after → declaredAs (keyOf x) before ≡ none
   pub claims : (c : Claim) → c ∈ p .claims → ClaimFits (p .predicates) c
+  pub facts : (f : Atom) → f ∈ p .facts → FactFits (p .predicates) f
   pub rules : (r : Rule) → r ∈ p .rules → RuleFits (opening p) r
 
 -- no count of the whole pack passes its limit
@@ -90,7 +99,9 @@ JustifiedBy o r i ms = NonNegative (ruleVariables (r .head) (r .subgoals)) (resi
 pub record RuleJustified (o : Pack) (r : Rule) : Type 0 where
   pub every : (i : ℕ) → i < length (claimsOn (atomKey (r .head)) (o .claims)) → JustifiedBy o r i (getD (r .multipliers) i [])
 
+-- The rules of a pack justify the claims on their heads, and its facts meet the claims on their predicates.
 pub record Justified (p : Pack) : Type 0 where
+  pub facts : (f : Atom) → f ∈ p .facts → MeetsAll p f
   pub rules : (r : Rule) → r ∈ p .rules → RuleJustified (opening p) r
 
 -- Demand 2: what an accepted area and text are. It mentions neither faults nor check.

@@ -1,4 +1,5 @@
--- Document 01, "The pack": predicates, claims, rules with their multipliers; and how a pack is written, line by line.
+-- Document 01, "The pack", with 02's 1/14: predicates, claims, facts that come with the pack, rules with their multipliers; and
+-- how a pack is written, line by line.
 use mathlib.Core.Bool.{Bool, cond}
 use mathlib.Core.List.{List, [], _∷_, _++_, map, flatMap}
 use mathlib.Core.Option.{Option, some, none}
@@ -38,6 +39,8 @@ pub record Rule : Type 0 where
 pub record Pack : Type 0 where
   pub predicates : List Predicate
   pub claims : List Claim
+  -- the facts that come with the pack
+  pub facts : List Atom
   pub rules : List Rule
 
 -- a claim on no predicate, which stands for the claim of a number where there is none
@@ -49,7 +52,7 @@ abbrev pub headAlone : Atom → Rule
 headAlone a = record { head = a; subgoals = []; multipliers = [] }
 
 abbrev pub emptyPack : Pack
-emptyPack = record { predicates = []; claims = []; rules = [] }
+emptyPack = record { predicates = []; claims = []; facts = []; rules = [] }
 
 -- ## One field changed
 
@@ -60,13 +63,16 @@ abbrev pub onMultipliers : (List (List ℕ) → List (List ℕ)) → Rule → Ru
 onMultipliers change r = record { head = r .head; subgoals = r .subgoals; multipliers = change (r .multipliers) }
 
 abbrev pub onPredicates : (List Predicate → List Predicate) → Pack → Pack
-onPredicates change p = record { predicates = change (p .predicates); claims = p .claims; rules = p .rules }
+onPredicates change p = record { predicates = change (p .predicates); claims = p .claims; facts = p .facts; rules = p .rules }
 
 abbrev pub onClaims : (List Claim → List Claim) → Pack → Pack
-onClaims change p = record { predicates = p .predicates; claims = change (p .claims); rules = p .rules }
+onClaims change p = record { predicates = p .predicates; claims = change (p .claims); facts = p .facts; rules = p .rules }
+
+abbrev pub onFacts : (List Atom → List Atom) → Pack → Pack
+onFacts change p = record { predicates = p .predicates; claims = p .claims; facts = change (p .facts); rules = p .rules }
 
 abbrev pub onRules : (List Rule → List Rule) → Pack → Pack
-onRules change p = record { predicates = p .predicates; claims = p .claims; rules = change (p .rules) }
+onRules change p = record { predicates = p .predicates; claims = p .claims; facts = p .facts; rules = change (p .rules) }
 
 -- a pack's opening: the pack without its rules
 abbrev pub opening : Pack → Pack
@@ -153,6 +159,9 @@ predicateLine p = bytes "P" ∷ p .name ∷ decimal (p .arguments) ∷ kindLette
 unfoldable pub claimLine : Claim → List Bytes
 claimLine c = bytes "C" ∷ c .name ∷ signedDecimal (c .constant) ∷ map signedDecimal (c .coefficients)
 
+unfoldable pub factLine : Atom → List Bytes
+factLine a = bytes "G" ∷ a .name ∷ termFields (a .terms)
+
 unfoldable pub headLine : Atom → List Bytes
 headLine a = bytes "H" ∷ a .name ∷ termFields (a .terms)
 
@@ -168,12 +177,15 @@ endLine = bytes "E" ∷ []
 unfoldable pub ruleLines : Rule → List (List Bytes)
 ruleLines r = headLine (r .head) ∷ map subgoalLine (r .subgoals) ++ map multiplierLine (r .multipliers)
 
--- Sections follow one another: predicates, claims, rules. The lines from each section on:
+-- Sections follow one another: predicates, claims, facts, rules. The lines from each section on:
 unfoldable pub fromRules : Pack → List (List Bytes)
 fromRules p = flatMap ruleLines (p .rules)
 
+unfoldable pub fromFacts : Pack → List (List Bytes)
+fromFacts p = map factLine (p .facts) ++ fromRules p
+
 unfoldable pub fromClaims : Pack → List (List Bytes)
-fromClaims p = map claimLine (p .claims) ++ fromRules p
+fromClaims p = map claimLine (p .claims) ++ fromFacts p
 
 unfoldable pub fromPredicates : Pack → List (List Bytes)
 fromPredicates p = map predicateLine (p .predicates) ++ fromClaims p

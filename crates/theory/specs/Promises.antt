@@ -28,7 +28,8 @@ use Rattle.theory.specs.declared.Bound.{Bound}
 use Rattle.theory.specs.declared.QueryRefusal.{QueryRefusal}
 use Rattle.theory.specs.declared.Reservation.{Reservation}
 use Rattle.theory.specs.declared.Reservation.the-variants.{Bounded, Impossible, PackRefused, QueryRefused}
-use Rattle.theory.specs.Derivations.{GivenFact, MeetsAll, Derivable}
+use Rattle.theory.specs.Facts.{MeetsAll}
+use Rattle.theory.specs.Derivations.{GivenFact, ShippedFact, Derivable}
 
 -- ## Demand 1
 
@@ -89,12 +90,18 @@ pub record WordsKept (text : Bytes) (Given : Atom → Type 0) : Type 0 where
   pub impossible : (query : Bytes) (word : ℕ) → word ≡ reserveWord (reserveOf text query) → wordLetter word ≡ code "I"
       → (f : Atom) → Derivable (packOf text) Given f → HasKnownSizes structural (queryOf query) f → ⊥
 
--- Of any given facts that keep to the premise; and, with no premise left, where all facts that meet their claims are given.
+-- All three of the same given facts.
+pub record Kept (text : Bytes) (Given : Atom → Type 0) : Type 0 where
+  pub claims : ClaimsKept text Given
+  pub answers : AnswersKept text Given
+  pub words : WordsKept text Given
+
+-- Of any given facts that keep to the premise; and, with no premise left, where all facts that meet their claims are given
+-- (01), and where the given facts are just those on the pack's `G` lines (02, 1/14).
 pub record DemandThree (text : Bytes) : Type 1 where
-  pub general : (Given : Atom → Type 0) → GivenMeet text Given → ClaimsKept text Given
-  pub all : ClaimsKept text (GivenFact (packOf text))
-  pub answers : (Given : Atom → Type 0) → GivenMeet text Given → AnswersKept text Given
-  pub words : (Given : Atom → Type 0) → GivenMeet text Given → WordsKept text Given
+  pub general : (Given : Atom → Type 0) → GivenMeet text Given → Kept text Given
+  pub all : Kept text (GivenFact (packOf text))
+  pub shipped : Kept text (ShippedFact (packOf text))
 
 -- ## The answers themselves
 

@@ -1,4 +1,4 @@
--- Document 01, "The pack": what lines write. It knows no faults: of a line that is no line of a pack it takes what it can.
+-- Document 01, "The pack", with 02's 1/14: what lines write. It knows no faults: of a line that is no line of a pack it takes what it can.
 use mathlib.Core.Bool.{Bool, false, cond, _||_}
 use mathlib.Core.List.{List, [], _∷_, map}
 use mathlib.Core.Option.{Option·getD}
@@ -6,21 +6,22 @@ use Prim.Native.Nat.{ℕ}
 use lib.IntN.{ℤ, pos}
 use lib.ListN.{getD, drop}
 use Rattle.theory.specs.declared.Letter.{Letter}
-use Rattle.theory.specs.declared.Letter.the-variants.{P, C, H, B, M, E, NoLetter}
+use Rattle.theory.specs.declared.Letter.the-variants.{P, C, G, H, B, M, E, NoLetter}
 use Rattle.theory.specs.Lists.{ending}
 use Rattle.theory.specs.Text.{Bytes, bytes, same, fieldsOf, linesOf, natural, integer}
 use Rattle.theory.specs.Terms.{Terms, variable, nil, cons, readTerm}
-use Rattle.theory.specs.Packs.{Kind, given, ruled, Predicate, Claim, Atom, Rule, Pack, headAlone, emptyPack, onSubgoals, onMultipliers, onPredicates, onClaims, onRules, numberLimit}
+use Rattle.theory.specs.Packs.{Kind, given, ruled, Predicate, Claim, Atom, Rule, Pack, headAlone, emptyPack, onSubgoals, onMultipliers, onPredicates, onClaims, onFacts, onRules, numberLimit}
 
 -- what a line is, by its first field
 unfoldable pub letterOf : Bytes → Letter
 letterOf field =
     cond (same field (bytes "P")) P
     (cond (same field (bytes "C")) C
+    (cond (same field (bytes "G")) G
     (cond (same field (bytes "H")) H
     (cond (same field (bytes "B")) B
     (cond (same field (bytes "M")) M
-    (cond (same field (bytes "E")) E NoLetter)))))
+    (cond (same field (bytes "E")) E NoLetter))))))
 
 -- the ith field, from 0
 abbrev pub field : ℕ → List Bytes → Bytes
@@ -73,6 +74,7 @@ onLast change (r ∷ s ∷ rs) = r ∷ onLast change (s ∷ rs)
 unfoldable pub add : Letter → List Bytes → Pack → Pack
 add P fields p = onPredicates (ending (predicateFrom fields)) p
 add C fields p = onClaims (ending (claimFrom fields)) p
+add G fields p = onFacts (ending (atomFrom fields)) p
 add H fields p = onRules (ending (headAlone (atomFrom fields))) p
 add B fields p = onRules (onLast (onSubgoals (ending (atomFrom fields)))) p
 add M fields p = onRules (onLast (onMultipliers (ending (multipliersFrom fields)))) p
@@ -89,6 +91,6 @@ unfoldable pub writeAll : Written → List Bytes → Written
 writeAll w [] = w
 writeAll w (l ∷ ls) = writeAll (write w l) ls
 
--- The predicates, claims and rules that a pack's lines write.
+-- The predicates, claims, facts and rules that a pack's lines write.
 unfoldable pub packOf : Bytes → Pack
 packOf text = writeAll nothing (linesOf text) .pack

@@ -5,6 +5,7 @@
 pub enum Letter {
     P,
     C,
+    G,
     H,
     B,
     M,
@@ -19,7 +20,7 @@ pub struct Counts {
     pub multiplier_lines: u16,
 }
 
-/// Why check refuses a pack, one case for each number of document 01's table; a line comes first.
+/// Why check refuses a pack, one case for each number of document 01's table and of 02's requests; a line comes first.
 pub enum Refusal {
     /// 1: the residual area is shorter than 17 numbers.
     ShortArea,
@@ -47,6 +48,12 @@ pub enum Refusal {
     CountLimit(u16),
     /// 13: the claim is not justified: line, rule, claim.
     Unjustified(u16, u8, u8),
+    /// 20: a `G` line names a ruled predicate.
+    RuledFact(u16),
+    /// 21: a `G` line's terms hold a variable.
+    NotGround(u16),
+    /// 22: a `G` line's sizes fail a claim.
+    UnmetClaim(u16),
 }
 
 /// What check answers.

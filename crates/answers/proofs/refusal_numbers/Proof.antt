@@ -44,6 +44,15 @@ returns-12 c = c .of-line8 .ensures ∙ ap refusalNumbers (sym (c .before .befor
 returns-13 : tie.Need-returns-13
 returns-13 c = c .of-claim .ensures ∙ ap refusalNumbers (sym (c .before .before .refusal9 .given .1))
 
+returns-14 : tie.Need-returns-14
+returns-14 c = c .of-line9 .ensures ∙ ap refusalNumbers (sym (c .before .before .refusal10 .given .1))
+
+returns-15 : tie.Need-returns-15
+returns-15 c = c .of-line10 .ensures ∙ ap refusalNumbers (sym (c .before .before .refusal11 .given .1))
+
+returns-16 : tie.Need-returns-16
+returns-16 c = c .of-line11 .ensures ∙ ap refusalNumbers (sym (c .before .before .refusal12 .given .1))
+
 pub refusal-numbers-spec : {M : Type 1} → statement M
 refusal-numbers-spec =
     tie.close (tie.spec (λ c. search needs) (λ c κs. search needs) (λ c. search needs) (λ c κs. search needs)
@@ -51,5 +60,6 @@ refusal-numbers-spec =
     (λ c κs. search needs) (λ c. search needs) (λ c κs. search needs) (λ c. search needs) (λ c κs. search needs)
     (λ c. search needs) (λ c κs. search needs) (λ c. search needs) (λ c κs. search needs) (λ c. search needs)
     (λ c κs. search needs) (λ c. search needs) (λ c κs. search needs) (λ c. search needs) (λ c κs. search needs)
+    (λ c. search needs) (λ c κs. search needs) (λ c. search needs) (λ c κs. search needs) (λ c. search needs) (λ c κs. search needs)
     (λ c. search needs) (λ c κs. search needs) returns returns-2 returns-3 returns-4 returns-5 returns-6 returns-7
-    returns-8 returns-9 returns-10 returns-11 returns-12 returns-13)
+    returns-8 returns-9 returns-10 returns-11 returns-12 returns-13 returns-14 returns-15 returns-16)

@@ -18,15 +18,18 @@ returns-4 : tie.Need-returns-4
 returns-4 c = none
 
 returns-5 : tie.Need-returns-5
-returns-5 c = search (needs, zeros-skipped)
+returns-5 c = none
 
 returns-6 : tie.Need-returns-6
-returns-6 c = none
+returns-6 c = search (needs, zeros-skipped)
 
 returns-7 : tie.Need-returns-7
 returns-7 c = none
 
+returns-8 : tie.Need-returns-8
+returns-8 c = none
+
 pub zeros-ahead-spec : {M : Type 1} → statement M
 zeros-ahead-spec =
-    tie.close (tie.spec (λ c. search needs) (λ c. search needs) (λ c. search needs) (λ c. search needs)
-    (λ c. search needs) (λ c κs. search needs) (λ c. search needs) (λ c. search needs) returns returns-2 returns-3 returns-4 returns-5 returns-6 returns-7)
+    tie.close (tie.spec (λ c. search needs) (λ c. search needs) (λ c. search needs) (λ c. search needs) (λ c. search needs)
+    (λ c. search needs) (λ c κs. search needs) (λ c. search needs) (λ c. search needs) returns returns-2 returns-3 returns-4 returns-5 returns-6 returns-7 returns-8)

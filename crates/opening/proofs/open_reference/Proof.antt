@@ -1,7 +1,7 @@
 -- `opening::open_reference` meets its contract. Assumes nothing.
 use borrow.Author.Needs.{needs}
-use Rattle.opening.proofs.Sums.{commas-fit, stop-fits}
 use Rattle.opening.proofs.LetterOpening.{refers-unnamed, refers-undeclared, refers-barred, refers-miscounted, refers-passed}
+use Rattle.opening.proofs.Sums.{commas-fit, stop-fits}
 use Rattle.opening.proofs.open_reference.Statement.{statement}
 use Rattle.opening.proofs.open_reference.Tie as tie
 
@@ -27,6 +27,4 @@ returns-5 : tie.Need-returns-5
 returns-5 c = search (needs, refers-passed)
 
 pub open-reference-spec : {M : Type 1} → statement M
-open-reference-spec =
-    tie.close (tie.spec (λ c. search needs) (λ c. search needs) returns returns-2 (λ c. search needs) (λ c. search needs) (λ c κs. search needs) returns-3 (λ c κs. search needs)
-    (λ c. search needs) (λ c κs. search needs) (λ c κs. search needs) add-if3 returns-4 add-t15 returns-5)
+open-reference-spec = tie.close (tie.spec (λ c. search needs) (λ c. search needs) returns returns-2 (λ c. search needs) (λ c. search needs) (λ c κs. search needs) (λ c κs. search needs) returns-3 (λ c κs. search needs) (λ c. search needs) (λ c κs. search needs) (λ c κs. search needs) add-if3 returns-4 add-t15 returns-5)

@@ -9,7 +9,8 @@ use lib.ListN.{length}
 use lib.Signed.{nonNeg}
 use mir.Syntax.{w64}
 use mir.Val.{SFits}
-use Rattle.residuals.proofs.Signs.{not-negative, judged-constant, judged-coefficient, judged-yes}
+use Rattle.forms.proofs.Signs.{not-negative}
+use Rattle.residuals.proofs.Signs.{judged-constant, judged-coefficient, judged-yes}
 use Rattle.groundwork.proofs.Stretches.{elements}
 use Rattle.residuals.proofs.is_justified.Statement.{statement}
 use Rattle.residuals.proofs.is_justified.Tie as tie

@@ -1,4 +1,4 @@
--- `H` and `B` lines: faultless exactly if they state a head or a subgoal that fits.
+-- `G`, `H` and `B` lines: faultless exactly if they state a fact, a head or a subgoal that fits; a fact also meets its claims.
 use mathlib.Core.Path.{_≡_, refl, sym, _∙_, ap, subst}
 use mathlib.Core.Bool.{Bool, true, false, not, _||_}
 use mathlib.Core.List.{List, [], _∷_, _++_}
@@ -10,22 +10,25 @@ use lib.ListN.{length, length-drop, drop}
 use lib.Seq.{drop-cons}
 use Rattle.theory.specs.Lists.{every, isSome, isEmpty, ending}
 use Rattle.theory.specs.Text.{Bytes, isName}
-use Rattle.theory.specs.Terms.{AllWellFormed}
-use Rattle.theory.specs.Packs.{Kind, given, ruled, Predicate, Atom, Pack, ruleLimit, subgoalLimit, variableLimit, atomKey, declaredAs, termFields, headLine, subgoalLine, onSubgoals, onRules, headAlone}
+use Rattle.theory.specs.Terms.{AllWellFormed, allVariables, structural}
+use Rattle.theory.specs.Packs.{Kind, given, ruled, Predicate, Claim, Atom, Pack, ruleLimit, subgoalLimit, variableLimit, atomKey, declaredAs, termFields, factLine, headLine, subgoalLine, onSubgoals, onFacts, onRules, headAlone, fromRules}
 use Rattle.theory.specs.declared.Letter.{Letter}
-use Rattle.theory.specs.declared.Letter.the-variants.{H, B}
+use Rattle.theory.specs.declared.Letter.the-variants.{G, H, B}
 use Rattle.theory.specs.Written.{field, atomFrom, add, onLast}
 use Rattle.theory.specs.Residuals.{ruleVariables}
-use Rattle.theory.specs.Faults.{isTerm, arityIn, isGiven, givenIn, lastRule, isComplete, manyVariables, mayStand, atomTests, headTests, subgoalTests, tests}
-use Rattle.theory.specs.Limits.{AtomFits}
+use Rattle.theory.specs.Faults.{Test, test, isTerm, arityIn, isGiven, givenIn, ruledIn, lastRule, isComplete, manyVariables, mayStand, atomTests, factTests, headTests, subgoalTests, tests}
+use Rattle.theory.specs.Facts.{isMet, meetsEvery}
+use Rattle.theory.specs.Limits.{AtomFits, FactFits}
 use Rattle.groundwork.proofs.Truth.{not-true, not-false, never-both, and-left, and-right, and-both, or-not-left, or-not-right, or-neither, eqb-equal, equal-eqb, leb-gt, gt-leb, ltb-ge, ge-ltb}
+use Rattle.groundwork.proofs.Order.{nonneg-test, test-nonneg}
+use Rattle.theory.proofs.Reading.Every.{every-member, members-every}
 use Rattle.theory.proofs.Judging.Faultless.{Faultless, Adds, Readable}
 use Rattle.theory.proofs.Reading.Letters.{letterField}
 use Rattle.theory.proofs.Reading.PlainFields.{Plain, plain-cons, name-plain, letter-plain}
 use Rattle.theory.proofs.Reading.Presence.{is-some, is-empty, empty-is, is-filled, filled-is, arity-in}
-use Rattle.theory.proofs.Judging.Steps.{Step, headStep, subgoalStep}
+use Rattle.theory.proofs.Judging.Steps.{Step, factStep, headStep, subgoalStep, MeetsEach}
 use Rattle.theory.proofs.Reading.TermFields.{terms-written, terms-formed, terms-arity, written-terms, written-are-terms, written-arity, terms-plain}
-use Rattle.theory.proofs.Judging.Tests.{Clear, _then_}
+use Rattle.theory.proofs.Judging.Tests.{Clear, _then_, clear-parts, both-clear}
 
 -- the fields of an atom's line
 abbrev atomLine : Letter → Atom → List Bytes
@@ -33,12 +36,13 @@ atomLine letter a = letterField letter ∷ a .name ∷ termFields (a .terms)
 
 -- ---- from a line
 
--- what the tests of both letters tell
-record AtomRead (letter : Letter) (isRefused isPastLimit : Bool) (fields : List Bytes) (p : Pack) : Type 0 where
+-- what the tests of the three letters tell
+record AtomRead (letter : Letter) (isRefused : Bool) (afterName afterTerms : List Test) (fields : List Bytes) (p : Pack) : Type 0 where
   fits : AtomFits (p .predicates) (atomFrom fields)
   again : atomLine letter (atomFrom fields) ≡ fields
   allowed : isRefused ≡ false
-  within : isPastLimit ≡ false
+  named : Clear afterName
+  ended : Clear afterTerms
 
 line-again : (letter : Letter) (fields : List Bytes) → 2 ≤ length fields → field 0 fields ≡ letterField letter
     → termFields (atomFrom fields .terms) ≡ drop 2 fields → atomLine letter (atomFrom fields) ≡ fields
@@ -48,14 +52,15 @@ line-again letter fields long first rest =
     let second = drop-cons fields 1 [] (omega arith) in
     cc
 
-atom-read : (letter : Letter) (isRefused isPastLimit : Bool) (fields : List Bytes) (p : Pack) → field 0 fields ≡ letterField letter
-    → Clear (atomTests isRefused isPastLimit fields p) → AtomRead letter isRefused isPastLimit fields p
+atom-read : (letter : Letter) (isRefused : Bool) (afterName afterTerms : List Test) (fields : List Bytes) (p : Pack) → field 0 fields ≡ letterField letter
+    → Clear (atomTests isRefused afterName afterTerms fields p) → AtomRead letter isRefused afterName afterTerms fields p
 unfolding atomTests atomFrom
-atom-read letter isRefused isPastLimit fields p first c =
+atom-read letter isRefused afterName afterTerms fields p first c =
+    let (named, rest) = clear-parts afterName _ (c .1 .1) in
     let looked = declaredAs (atomKey (atomFrom fields)) (p .predicates) in
     let found = is-some looked (not-false (isSome looked) (or-not-left (not (isSome looked)) isRefused (c .1 .0))) in
-    let many : length fields ≡ found .0 .arguments + 2 = eqb-equal (length fields) _ (not-false _ (c .1 .1 .0)) ∙ ap (λ n. n + 2) (arity-in _ (found .0) (found .1)) in
-    let terms = not-false (every isTerm (drop 2 fields)) (c .1 .1 .1 .0) in
+    let many : length fields ≡ found .0 .arguments + 2 = eqb-equal (length fields) _ (not-false _ (rest .0)) ∙ ap (λ n. n + 2) (arity-in _ (found .0) (found .1)) in
+    let terms = not-false (every isTerm (drop 2 fields)) (rest .1 .0) in
     record {
       fits = record {
         predicate = found .0;
@@ -66,7 +71,8 @@ atom-read letter isRefused isPastLimit fields p first c =
       };
       again = line-again letter fields (omega arith) first (terms-written (drop 2 fields) terms);
       allowed = or-not-right (not (isSome looked)) isRefused (c .1 .0);
-      within = c .1 .1 .1 .1 .0;
+      named = named;
+      ended = rest .1 .1;
     }
 
 ruled-kind : (k : Kind) → isGiven k ≡ false → k ≡ ruled
@@ -74,9 +80,40 @@ unfolding isGiven
 ruled-kind given e = never-both refl e
 ruled-kind ruled e = refl
 
+given-kind : (k : Kind) → not (isGiven k) ≡ false → k ≡ given
+unfolding isGiven
+given-kind given e = refl
+given-kind ruled e = never-both refl e
+
 given-in : (o : Option Predicate) (x : Predicate) → o ≡ some x → givenIn o ≡ isGiven (x .kind)
 unfolding givenIn
 given-in o x e = rw e
+
+ruled-in : (o : Option Predicate) (x : Predicate) → o ≡ some x → ruledIn o ≡ not (isGiven (x .kind))
+unfolding ruledIn
+ruled-in o x e = rw e
+
+-- the test of 22, and what it says
+met-each : (claims : List Claim) (f : Atom) → meetsEvery claims f ≡ true → MeetsEach claims f
+unfolding isMet
+met-each claims f e c m = record { holds = nonneg-test _ (every-member (isMet structural f) e m) }
+
+each-met : (claims : List Claim) (f : Atom) → MeetsEach claims f → meetsEvery claims f ≡ true
+unfolding isMet
+each-met claims f meets = members-every (isMet structural f) _ (λ c m. test-nonneg _ (meets c m .holds))
+
+pub fact-step : (p : Pack) (fields : List Bytes) → Faultless G p fields → Step p fields (add G fields p)
+unfolding add tests factTests mayStand letterField factLine
+fact-step p fields h =
+    let a = atomFrom fields in
+    let looked = declaredAs (atomKey a) (p .predicates) in
+    let read = atom-read G false (test 20 (ruledIn looked) ∷ []) (test 21 (not (isEmpty (allVariables (a .terms)))) ∷ test 22 (not (meetsEvery (p .claims) a)) ∷ []) fields p (h .first) (h .clear) in
+    let fits = read .fits in
+    let isGiven = given-kind (fits .predicate .kind) (sym (ruled-in looked (fits .predicate) (fits .declared)) ∙ read .named .0) in
+    let ground = is-empty (allVariables (a .terms)) (not-false _ (read .ended .0)) in
+    let meets = met-each (p .claims) a (not-false _ (read .ended .1 .0)) in
+    subst (λ (fs : List Bytes). Step p fs (onFacts (ending a) p)) (read .again)
+    (factStep a (is-empty (fromRules p) (h .stands)) (record { atom = fits; isGiven = isGiven; ground = ground }) meets)
 
 pub head-step : (p : Pack) (fields : List Bytes) → Faultless H p fields → Step p fields (add H fields p)
 unfolding add tests headTests mayStand letterField headLine
@@ -84,11 +121,11 @@ head-step p fields h =
     let a = atomFrom fields in
     let full = leb ruleLimit (length (p .rules)) in
     let looked = declaredAs (atomKey a) (p .predicates) in
-    let read = atom-read H (givenIn looked) (full || manyVariables a []) fields p (h .first) (h .clear) in
+    let read = atom-read H (givenIn looked) [] (test 12 (full || manyVariables a []) ∷ []) fields p (h .first) (h .clear) in
     let fits = read .fits in
     let isRuled = ruled-kind (fits .predicate .kind) (sym (given-in looked (fits .predicate) (fits .declared)) ∙ read .allowed) in
-    let room = leb-gt ruleLimit (length (p .rules)) (or-not-left full (manyVariables a []) (read .within)) in
-    let few = ltb-ge variableLimit (length (ruleVariables a [])) (or-not-right full (manyVariables a []) (read .within)) in
+    let room = leb-gt ruleLimit (length (p .rules)) (or-not-left full (manyVariables a []) (read .ended .0)) in
+    let few = ltb-ge variableLimit (length (ruleVariables a [])) (or-not-right full (manyVariables a []) (read .ended .0)) in
     subst (λ (fs : List Bytes). Step p fs (onRules (ending (headAlone a)) p)) (read .again) (headStep a (h .stands) fits isRuled room few)
 
 pub subgoal-step : (p : Pack) (fields : List Bytes) → Faultless B p fields → Step p fields (add B fields p)
@@ -98,11 +135,11 @@ subgoal-step p fields h =
     let r = lastRule p in
     let full = leb subgoalLimit (length (r .subgoals)) in
     let many = manyVariables (r .head) (r .subgoals ++ (a ∷ [])) in
-    let read = atom-read B false (full || many) fields p (h .first) (h .clear) in
+    let read = atom-read B false [] (test 12 (full || many) ∷ []) fields p (h .first) (h .clear) in
     let ruleful = is-filled (p .rules) (not-true (isEmpty (p .rules)) (and-left (not (isEmpty (p .rules))) (isEmpty (r .multipliers)) (h .stands))) in
     let unmultiplied = is-empty (r .multipliers) (and-right (not (isEmpty (p .rules))) (isEmpty (r .multipliers)) (h .stands)) in
-    let room = leb-gt subgoalLimit (length (r .subgoals)) (or-not-left full many (read .within)) in
-    let few = ltb-ge variableLimit (length (ruleVariables (r .head) (r .subgoals ++ (a ∷ [])))) (or-not-right full many (read .within)) in
+    let room = leb-gt subgoalLimit (length (r .subgoals)) (or-not-left full many (read .ended .0)) in
+    let few = ltb-ge variableLimit (length (ruleVariables (r .head) (r .subgoals ++ (a ∷ [])))) (or-not-right full many (read .ended .0)) in
     subst (λ (fs : List Bytes). Step p fs (onRules (onLast (onSubgoals (ending a))) p)) (read .again) (subgoalStep a ruleful unmultiplied (read .fits) room few)
 
 -- ---- to a line
@@ -115,6 +152,10 @@ module _ (a : Atom) (formed : AllWellFormed (a .terms)) where
   atom-plain : (letter : Letter) → isName (a .name) ≡ true → Plain (atomLine letter a)
   atom-plain letter named = plain-cons (letter-plain letter) (plain-cons (name-plain (a .name) named) (terms-plain (a .terms) formed))
 
+  pub fact-adds : (p : Pack) → isName (a .name) ≡ true → Adds G p (factLine a) (onFacts (ending a) p)
+  unfolding add factLine letterField
+  fact-adds p named = record { starts = refl; is = ap (λ (b : Atom). onFacts (ending b) p) (atom-again G); plain = atom-plain G named }
+
   pub head-adds : (p : Pack) → isName (a .name) ≡ true → Adds H p (headLine a) (onRules (ending (headAlone a)) p)
   unfolding add headLine letterField
   head-adds p named = record { starts = refl; is = ap (λ (b : Atom). onRules (ending (headAlone b)) p) (atom-again H); plain = atom-plain H named }
@@ -124,16 +165,32 @@ module _ (a : Atom) (formed : AllWellFormed (a .terms)) where
   subgoal-adds p named = record { starts = refl; is = ap (λ (b : Atom). onRules (onLast (onSubgoals (ending b))) p) (atom-again B); plain = atom-plain B named }
 
 module _ (letter : Letter) (p : Pack) (a : Atom) (fits : AtomFits (p .predicates) a) where
-  atom-clear : (isRefused isPastLimit : Bool) → isRefused ≡ false → isPastLimit ≡ false → Clear (atomTests isRefused isPastLimit (atomLine letter a) p)
+  atom-clear : (isRefused : Bool) (afterName afterTerms : List Test) → isRefused ≡ false → Clear afterName → Clear afterTerms → Clear (atomTests isRefused afterName afterTerms (atomLine letter a) p)
   unfolding atomTests isSome arityIn
-  atom-clear isRefused isPastLimit allowed within =
+  atom-clear isRefused afterName afterTerms allowed named ended =
       rw (atom-again a (fits .formed) letter, fits .declared)
       (ap not (fits .named)
       then allowed
-      then ap not (equal-eqb (length (atomLine letter a)) (fits .predicate .arguments + 2) (omega (arith, written-arity (a .terms), fits .full)))
+      then both-clear afterName _ named
+      (ap not (equal-eqb (length (atomLine letter a)) (fits .predicate .arguments + 2) (omega (arith, written-arity (a .terms), fits .full)))
       then ap not (written-are-terms (a .terms) (fits .formed))
-      then within
-      then tt)
+      then ended))
+
+pub fact-readable : (p : Pack) (f : Atom) → fromRules p ≡ [] → FactFits (p .predicates) f → MeetsEach (p .claims) f → Readable G p (factLine f) (onFacts (ending f) p)
+unfolding tests factTests mayStand factLine letterField isGiven
+fact-readable p f later fits meets =
+    let atom = fits .atom in
+    record {
+      faultless = record {
+        first = refl;
+        stands = empty-is (fromRules p) later;
+        clear = rw (atom-again f (atom .formed) G)
+            (atom-clear G p f atom false _ _ refl
+            ((ruled-in _ (atom .predicate) (atom .declared) ∙ rw (fits .isGiven)) then tt)
+            (ap not (empty-is (allVariables (f .terms)) (fits .ground)) then ap not (each-met (p .claims) f meets) then tt));
+      };
+      adds = fact-adds f (atom .formed) p (atom .named);
+    }
 
 pub head-readable : (p : Pack) (a : Atom) → isComplete p ≡ true → (fits : AtomFits (p .predicates) a) → fits .predicate .kind ≡ ruled
     → length (p .rules) < ruleLimit → length (ruleVariables a []) ≤ variableLimit → Readable H p (headLine a) (onRules (ending (headAlone a)) p)
@@ -143,7 +200,7 @@ head-readable p a complete fits isRuled room few =
       faultless = record {
         first = refl;
         stands = complete;
-        clear = rw (atom-again a (fits .formed) H) (atom-clear H p a fits _ _ (given-in _ (fits .predicate) (fits .declared) ∙ rw isRuled) (or-neither _ _ (gt-leb ruleLimit _ room) (ge-ltb variableLimit _ few)));
+        clear = rw (atom-again a (fits .formed) H) (atom-clear H p a fits _ [] _ (given-in _ (fits .predicate) (fits .declared) ∙ rw isRuled) tt (or-neither _ _ (gt-leb ruleLimit _ room) (ge-ltb variableLimit _ few) then tt));
       };
       adds = head-adds a (fits .formed) p (fits .named);
     }
@@ -158,7 +215,7 @@ subgoal-readable p a ruleful unmultiplied fits room few =
       faultless = record {
         first = refl;
         stands = and-both (not (isEmpty (p .rules))) (isEmpty (r .multipliers)) (ap not (filled-is (p .rules) ruleful)) (empty-is (r .multipliers) unmultiplied);
-        clear = rw (atom-again a (fits .formed) B) (atom-clear B p a fits _ _ refl (or-neither _ _ (gt-leb subgoalLimit _ room) (ge-ltb variableLimit _ few)));
+        clear = rw (atom-again a (fits .formed) B) (atom-clear B p a fits _ [] _ refl tt (or-neither _ _ (gt-leb subgoalLimit _ room) (ge-ltb variableLimit _ few) then tt));
       };
       adds = subgoal-adds a (fits .formed) p (fits .named);
     }

@@ -10,7 +10,7 @@ use lib.ListN.{length, length-map, length-drop, drop}
 use lib.Seq.{drop-cons}
 use Rattle.theory.specs.Lists.{every, isSome, _∈_, ending}
 use Rattle.theory.specs.Text.{Bytes, bytes, isName, integer, signedDecimal}
-use Rattle.theory.specs.Packs.{Claim, Pack, claimLimit, numberLimit, claimKey, declaredAs, claimsOn, claimLine, onClaims, fromRules}
+use Rattle.theory.specs.Packs.{Claim, Pack, claimLimit, numberLimit, claimKey, declaredAs, claimsOn, claimLine, onClaims, fromFacts}
 use Rattle.theory.specs.declared.Letter.the-variants.{C}
 use Rattle.theory.specs.Written.{field, claimFrom, integerFrom, add}
 use Rattle.theory.specs.Faults.{isClaimNumber, arityIn, mayStand, claimTests, tests}
@@ -71,7 +71,7 @@ claim-step p fields h =
       constant = numbers .constant;
       coefficients = numbers .coefficients;
     } in
-    subst (λ (fs : List Bytes). Step p fs (onClaims (ending d) p)) (claim-line-again fields (omega arith) (h .first) numbers) (claimStep d (is-empty (fromRules p) (h .stands)) fits room)
+    subst (λ (fs : List Bytes). Step p fs (onClaims (ending d) p)) (claim-line-again fields (omega arith) (h .first) numbers) (claimStep d (is-empty (fromFacts p) (h .stands)) fits room)
 
 module _ (c : Claim) (constant : natAbs (c .constant) ≤ numberLimit) (coefficients : (z : ℤ) → z ∈ c .coefficients → natAbs z ≤ numberLimit) where
   numbers-again : (z : ℤ) → z ∈ c .constant ∷ c .coefficients → integer numberLimit (signedDecimal z) ≡ some z
@@ -102,10 +102,10 @@ module _ (p : Pack) (c : Claim) (fits : ClaimFits (p .predicates) c) where
       then gt-leb claimLimit _ room
       then tt)
 
-  pub claim-readable : fromRules p ≡ [] → length (claimsOn (claimKey c) (p .claims)) < claimLimit → Readable C p (claimLine c) (onClaims (ending c) p)
+  pub claim-readable : fromFacts p ≡ [] → length (claimsOn (claimKey c) (p .claims)) < claimLimit → Readable C p (claimLine c) (onClaims (ending c) p)
   unfolding tests mayStand claimLine letterField
   claim-readable later room =
       record {
-        faultless = record { first = refl; stands = empty-is (fromRules p) later; clear = claim-clear room };
+        faultless = record { first = refl; stands = empty-is (fromFacts p) later; clear = claim-clear room };
         adds = claim-adds c (fits .constant) (fits .coefficients) p (fits .named);
       }

@@ -1,16 +1,17 @@
--- The numbers of faults: none is over 13, and 13 is only that of a line of multipliers that may stand.
+-- The numbers of faults: none is over 22, and 13 is only that of a line of multipliers that may stand.
 use mathlib.Core.Path.{_≡_, refl, sym}
 use mathlib.Core.Bool.{Bool, true, false, cond, not, _||_}
 use mathlib.Core.List.{List, [], _∷_}
 use Prim.Native.Nat.{ℕ, _<_}
 use native.Mathlib.Omega.{arith}
-use Rattle.groundwork.proofs.Truth.{by-truth, not-false, or-not-left, or-not-right}
+use lib.Dec.{eqb}
+use Rattle.groundwork.proofs.Truth.{by-truth, eqb-unequal, not-false, or-not-left, or-not-right}
 use Rattle.theory.specs.Text.{Bytes, fieldsOf}
 use Rattle.theory.specs.Packs.{Pack}
 use Rattle.theory.specs.declared.Letter.{Letter}
-use Rattle.theory.specs.declared.Letter.the-variants.{P, C, H, B, M, E, NoLetter}
+use Rattle.theory.specs.declared.Letter.the-variants.{P, C, G, H, B, M, E, NoLetter}
 use Rattle.theory.specs.Written.{lineLetter, Written}
-use Rattle.theory.specs.Faults.{Test, test, firstOf, isUnfit, mayStand, predicateTests, claimTests, atomTests, headTests, subgoalTests, multiplierTests, tests, fault}
+use Rattle.theory.specs.Faults.{Test, test, firstOf, isUnfit, mayStand, predicateTests, claimTests, atomTests, factTests, headTests, subgoalTests, multiplierTests, tests, fault}
 use Rattle.theory.proofs.Judging.Tests.{_then_}
 
 -- no test has a number as high
@@ -23,19 +24,20 @@ unfolding firstOf
 first-below n [] h b = h
 first-below n (t ∷ ts) h b = by-truth (λ (c : Bool). cond c (t .number) (firstOf ts) < n) (t .finds) (λ e. b .0) (λ e. first-below n ts h (b .1))
 
-tests-below : (letter : Letter) (fields : List Bytes) (p : Pack) → Below 14 (tests letter fields p)
-unfolding tests predicateTests claimTests atomTests headTests subgoalTests multiplierTests
+tests-below : (letter : Letter) (fields : List Bytes) (p : Pack) → Below 23 (tests letter fields p)
+unfolding tests predicateTests claimTests atomTests factTests headTests subgoalTests multiplierTests
 tests-below P fields p = omega arith
 tests-below C fields p = omega arith
+tests-below G fields p = omega arith
 tests-below H fields p = omega arith
 tests-below B fields p = omega arith
 tests-below M fields p = omega arith
 tests-below E fields p = omega arith
 tests-below NoLetter fields p = tt
 
-pub fault-small : (w : Written) (l : Bytes) → fault w l < 14
+pub fault-small : (w : Written) (l : Bytes) → fault w l < 23
 unfolding fault
-fault-small w l = first-below 14 _ (omega arith) (omega arith then omega arith then tests-below (lineLetter l) (fieldsOf l) (w .pack))
+fault-small w l = first-below 23 _ (omega arith) (omega arith then omega arith then tests-below (lineLetter l) (fieldsOf l) (w .pack))
 
 -- ---- 13
 
@@ -62,13 +64,25 @@ past-place w l n e notFour notFive =
       found = found;
     }
 
+-- no test has this number
+abbrev Without : ℕ → List Test → Type 0
+Without n [] = Unit {0}
+Without n (t ∷ ts) = (eqb (t .number) n ≡ false) × Without n ts
+
+first-other : (n : ℕ) (ts : List Test) → 0 < n → Without n ts → firstOf ts ≡ n → ⊥
+unfolding firstOf
+first-other n [] h others e = omega arith
+first-other n (t ∷ ts) h others e =
+    by-truth (λ (c : Bool). cond c (t .number) (firstOf ts) ≡ n → ⊥) (t .finds) (λ found e. eqb-unequal (t .number) n (others .0) e) (λ missed e. first-other n ts h (others .1) e) e
+
 -- lines of other letters have no 13
 pub thirteen-is-m : (letter : Letter) (fields : List Bytes) (p : Pack) → firstOf (tests letter fields p) ≡ 13 → letter ≡ M
-unfolding tests predicateTests claimTests atomTests headTests subgoalTests
-thirteen-is-m P fields p e = absurd (omega (arith, first-below 13 (predicateTests fields p) (omega arith) (omega arith)))
-thirteen-is-m C fields p e = absurd (omega (arith, first-below 13 (claimTests fields p) (omega arith) (omega arith)))
-thirteen-is-m H fields p e = absurd (omega (arith, first-below 13 (headTests fields p) (omega arith) (omega arith)))
-thirteen-is-m B fields p e = absurd (omega (arith, first-below 13 (subgoalTests fields p) (omega arith) (omega arith)))
+unfolding tests predicateTests claimTests atomTests factTests headTests subgoalTests
+thirteen-is-m P fields p e = absurd (first-other 13 (predicateTests fields p) (omega arith) (refl then refl then refl then refl then refl then tt) e)
+thirteen-is-m C fields p e = absurd (first-other 13 (claimTests fields p) (omega arith) (refl then refl then refl then refl then refl then tt) e)
+thirteen-is-m G fields p e = absurd (first-other 13 (factTests fields p) (omega arith) (refl then refl then refl then refl then refl then refl then refl then tt) e)
+thirteen-is-m H fields p e = absurd (first-other 13 (headTests fields p) (omega arith) (refl then refl then refl then refl then refl then tt) e)
+thirteen-is-m B fields p e = absurd (first-other 13 (subgoalTests fields p) (omega arith) (refl then refl then refl then refl then refl then tt) e)
 thirteen-is-m M fields p e = refl
-thirteen-is-m E fields p e = absurd (omega (arith, first-below 13 (tests E fields p) (omega arith) (omega arith)))
-thirteen-is-m NoLetter fields p e = absurd (omega (arith, first-below 13 (tests NoLetter fields p) (omega arith) tt))
+thirteen-is-m E fields p e = absurd (first-other 13 (tests E fields p) (omega arith) (refl then tt) e)
+thirteen-is-m NoLetter fields p e = absurd (first-other 13 (tests NoLetter fields p) (omega arith) tt e)

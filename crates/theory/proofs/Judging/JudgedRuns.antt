@@ -18,8 +18,8 @@ use Rattle.theory.specs.Residuals.{numbered, atomsVariables, ruleVariabl
 use Rattle.theory.specs.Faults.{residualDue, fault, isComplete, lastRule, lastOf, noRule}
 use Rattle.theory.specs.Check.{Judgement, numbers, plain, multiplierLines, refused, judge}
 use Rattle.theory.proofs.Reading.Separators.{joined-of-parts}
-use Rattle.theory.proofs.Judging.Steps.{Step, predicateStep, claimStep, headStep, subgoalStep, multiplierStep, Run, stay, go}
-use Rattle.theory.proofs.Judging.Sections.{no-rules, no-rules-either}
+use Rattle.theory.proofs.Judging.Steps.{Step, predicateStep, claimStep, factStep, headStep, subgoalStep, multiplierStep, Run, stay, go}
+use Rattle.theory.proofs.Judging.Sections.{no-rules, no-facts, no-claims}
 use Rattle.theory.proofs.Judging.LastRule.{lastOf-end, last-changed}
 use Rattle.theory.proofs.Judging.Completeness.{rule-from-incomplete}
 use Rattle.theory.proofs.Judging.LineReading.{before, after, Fine, step, end, fine-from-fault, short-from-fault, fault-after-end, Read, read-fine}
@@ -33,8 +33,9 @@ unfolding lastOf noRule ruleVariables numbered atomsVariables allVariables
 no-rule-few p e = rw e (omega arith)
 
 pub few-after : {p q : Pack} {fields : List Bytes} → Step p fields q → Few p → Few q
-few-after {p} (predicateStep x n f d l) few = no-rule-few (onPredicates (ending x) p) (no-rules-either p n)
-few-after {p} (claimStep c n f l) few = no-rule-few (onClaims (ending c) p) (no-rules p n)
+few-after {p} (predicateStep x n f d l) few = no-rule-few (onPredicates (ending x) p) (no-rules p (no-facts p (no-claims p n .1) .1))
+few-after {p} (claimStep c n f l) few = no-rule-few (onClaims (ending c) p) (no-rules p (no-facts p n .1))
+few-after {p} (factStep f n s m) few = few
 few-after {p} (headStep a c f k l v) few = rw (lastOf-end noRule (p .rules) (headAlone a)) v
 few-after {p} (subgoalStep a s m f l v) few = rw (last-changed (onSubgoals (ending a)) noRule (p .rules) s) v
 few-after {p} (multiplierStep ms c f n) few = rw (last-changed (onMultipliers (ending ms)) noRule (p .rules) (rule-from-incomplete p c)) few

@@ -10,19 +10,19 @@ use Rattle.theory.specs.Lists.{every}
 use Rattle.theory.specs.Text.{Bytes, bytes, same, between, fieldsOf}
 use Rattle.theory.specs.Packs.{Pack, variableLimit, line, endLine, lineLimit}
 use Rattle.theory.specs.declared.Letter.{Letter}
-use Rattle.theory.specs.declared.Letter.the-variants.{P, C, H, B, M, E, NoLetter}
+use Rattle.theory.specs.declared.Letter.the-variants.{P, C, G, H, B, M, E, NoLetter}
 use Rattle.theory.specs.Written.{lineLetter, field, Written, add, write}
 use Rattle.theory.specs.Residuals.{ruleVariables}
-use Rattle.theory.specs.Faults.{test, isUnfit, lastRule, isComplete, mayStand, predicateTests, claimTests, atomTests, headTests, subgoalTests, multiplierTests, tests, fault}
+use Rattle.theory.specs.Faults.{test, isUnfit, lastRule, isComplete, mayStand, predicateTests, claimTests, atomTests, factTests, headTests, subgoalTests, multiplierTests, tests, fault}
 use Rattle.groundwork.proofs.Truth.{not-false, never-both, or-not-left, or-not-right, ltb-ge, eqb-equal}
-use Rattle.theory.proofs.Judging.AtomLines.{head-step, subgoal-step, head-readable, subgoal-readable}
+use Rattle.theory.proofs.Judging.AtomLines.{fact-step, head-step, subgoal-step, fact-readable, head-readable, subgoal-readable}
 use Rattle.theory.proofs.Judging.ClaimLines.{claim-step, claim-readable}
 use Rattle.theory.proofs.Judging.Faultless.{Faultless, Adds, Readable}
 use Rattle.theory.proofs.Reading.Letters.{letterField, letter-of-field, by-letter}
 use Rattle.theory.proofs.Judging.MultiplierLines.{multiplier-step, multiplier-readable}
 use Rattle.theory.proofs.Reading.PlainFields.{plain-nil, plain-cons, letter-plain, fields-of-line, line-fit}
 use Rattle.theory.proofs.Judging.PredicateLines.{predicate-step, predicate-readable}
-use Rattle.theory.proofs.Judging.Steps.{Step, predicateStep, claimStep, headStep, subgoalStep, multiplierStep}
+use Rattle.theory.proofs.Judging.Steps.{Step, predicateStep, claimStep, factStep, headStep, subgoalStep, multiplierStep}
 use Rattle.theory.proofs.Judging.Tests.{Clear, _then_, Numbered, clear-zero, zero-clear}
 
 abbrev pub before : Pack → Written
@@ -39,9 +39,10 @@ pub data Fine (p : Pack) : List Bytes → Written → Type 0 where
 -- ---- a line without fault
 
 tests-numbered : (letter : Letter) (fields : List Bytes) (p : Pack) → Numbered (tests letter fields p)
-unfolding tests predicateTests claimTests atomTests headTests subgoalTests multiplierTests
+unfolding tests predicateTests claimTests atomTests factTests headTests subgoalTests multiplierTests
 tests-numbered P fields p = omega arith
 tests-numbered C fields p = omega arith
+tests-numbered G fields p = omega arith
 tests-numbered H fields p = omega arith
 tests-numbered B fields p = omega arith
 tests-numbered M fields p = omega arith
@@ -83,6 +84,7 @@ fine-letter : (letter : Letter) (p : Pack) (fields : List Bytes) → length (rul
 unfolding add mayStand letterField same bytes
 fine-letter P p fields few h = step (predicate-step p fields h)
 fine-letter C p fields few h = step (claim-step p fields h)
+fine-letter G p fields few h = step (fact-step p fields h)
 fine-letter H p fields few h = step (head-step p fields h)
 fine-letter B p fields few h = step (subgoal-step p fields h)
 fine-letter M p fields few h = step (multiplier-step p fields few h)
@@ -134,6 +136,7 @@ step-lettered : {p q : Pack} {fields : List Bytes} → Step p fields q → Lette
 unfolding letterField same bytes
 step-lettered {p} (predicateStep x later fits new room) = record { letter = P; readable = predicate-readable p x later fits new room; ends = refl }
 step-lettered {p} (claimStep c ruleless fits room) = record { letter = C; readable = claim-readable p c fits ruleless room; ends = refl }
+step-lettered {p} (factStep f later fits meets) = record { letter = G; readable = fact-readable p f later fits meets; ends = refl }
 step-lettered {p} (headStep a complete fits isRuled room few) = record { letter = H; readable = head-readable p a complete fits isRuled room few; ends = refl }
 step-lettered {p} (subgoalStep a ruleful unmultiplied fits room few) = record { letter = B; readable = subgoal-readable p a ruleful unmultiplied fits room few; ends = refl }
 step-lettered {p} (multiplierStep ms due fits left) = record { letter = M; readable = multiplier-readable p ms fits due left; ends = refl }

@@ -3,7 +3,7 @@ use mathlib.Core.Path.{_≡_, refl, sym, _∙_, ap}
 use mathlib.Core.Bool.{Bool, true, false, _||_, or-false}
 use Rattle.groundwork.proofs.Truth.{by-truth}
 use Rattle.theory.specs.declared.Letter.{Letter}
-use Rattle.theory.specs.declared.Letter.the-variants.{P, C, H, B, M, E, NoLetter}
+use Rattle.theory.specs.declared.Letter.the-variants.{P, C, G, H, B, M, E, NoLetter}
 use Rattle.theory.specs.Text.{Bytes, bytes, same, fieldsOf}
 use Rattle.theory.specs.Written.{letterOf, lineLetter, field, Written, add, write}
 use Rattle.theory.proofs.Reading.Bytes.{same-equal, same-unequal}
@@ -13,6 +13,7 @@ use Rattle.theory.proofs.Reading.Letters.{letterField, by-letter}
 abbrev pub isEnd : Letter → Bool
 isEnd P = false
 isEnd C = false
+isEnd G = false
 isEnd H = false
 isEnd B = false
 isEnd M = false
@@ -29,6 +30,7 @@ is-end f =
     other : same f (bytes "E") ≡ false → (letter : Letter) → f ≡ letterField letter → isEnd letter ≡ false
     other e P is = refl
     other e C is = refl
+    other e G is = refl
     other e H is = refl
     other e B is = refl
     other e M is = refl

@@ -5,12 +5,12 @@ use Prim.Native.Nat.{ℕ}
 use Rattle.groundwork.proofs.Lists.{flatMap-end}
 use Rattle.theory.specs.Lists.{ending}
 use Rattle.theory.specs.Text.{Bytes}
-use Rattle.theory.specs.Packs.{Predicate, Claim, Atom, Rule, Pack, predicateLine, claimLine, headLine, subgoalLine, multiplierLine, ruleLines, openLines, onSubgoals, onMultipliers, onPredicates, onClaims, headAlone, onRules, fromRules, fromClaims, fromPredicates}
+use Rattle.theory.specs.Packs.{Predicate, Claim, Atom, Rule, Pack, predicateLine, claimLine, factLine, headLine, subgoalLine, multiplierLine, ruleLines, openLines, onSubgoals, onMultipliers, onPredicates, onClaims, onFacts, headAlone, onRules, fromRules, fromFacts, fromClaims, fromPredicates}
 use Rattle.theory.specs.Written.{onLast}
 use Rattle.theory.specs.Faults.{noRule, lastOf, lastRule}
 use Rattle.theory.proofs.Judging.LastRule.{last-parts, onLast-parts}
 use Rattle.theory.proofs.Judging.Completeness.{rule-from-incomplete}
-use Rattle.theory.proofs.Judging.Steps.{Step, predicateStep, claimStep, headStep, subgoalStep, multiplierStep, Run, stay, go}
+use Rattle.theory.proofs.Judging.Steps.{Step, predicateStep, claimStep, factStep, headStep, subgoalStep, multiplierStep, Run, stay, go}
 
 -- what comes before nothing comes at the end
 before-nothing : {A : Type 0} (l rest more : List A) → rest ≡ [] → l ++ more ++ rest ≡ l ++ rest ++ more
@@ -48,29 +48,42 @@ last-lines change rs more h e =
 -- ---- the lines of packs
 
 predicate-lines : (x : Predicate) (p : Pack) → fromClaims p ≡ [] → openLines (onPredicates (ending x) p) ≡ openLines p ++ (predicateLine x ∷ [])
-unfolding fromPredicates fromClaims fromRules
+unfolding fromPredicates fromClaims fromFacts fromRules
 predicate-lines x p later =
     ap (λ (l : List (List Bytes)). l ++ fromClaims p) (map-append predicateLine (p .predicates) (x ∷ []))
     ∙ before-nothing (map predicateLine (p .predicates)) (fromClaims p) (predicateLine x ∷ []) later
 
-claim-lines : (c : Claim) (p : Pack) → fromRules p ≡ [] → openLines (onClaims (ending c) p) ≡ openLines p ++ (claimLine c ∷ [])
-unfolding fromPredicates fromClaims fromRules
+claim-lines : (c : Claim) (p : Pack) → fromFacts p ≡ [] → openLines (onClaims (ending c) p) ≡ openLines p ++ (claimLine c ∷ [])
+unfolding fromPredicates fromClaims fromFacts fromRules
 claim-lines c p later =
     let first = map predicateLine (p .predicates) in
-    ap (λ (l : List (List Bytes)). first ++ (l ++ fromRules p)) (map-append claimLine (p .claims) (c ∷ []))
-    ∙ ap (λ (l : List (List Bytes)). first ++ l) (before-nothing (map claimLine (p .claims)) (fromRules p) (claimLine c ∷ []) later)
+    ap (λ (l : List (List Bytes)). first ++ (l ++ fromFacts p)) (map-append claimLine (p .claims) (c ∷ []))
+    ∙ ap (λ (l : List (List Bytes)). first ++ l) (before-nothing (map claimLine (p .claims)) (fromFacts p) (claimLine c ∷ []) later)
     ∙ sym (append-assoc first (fromClaims p) (claimLine c ∷ []))
+
+-- lines more from the facts on are lines more of the pack
+facts-lines : (ps : List Predicate) (cs : List Claim) (now then more : List (List Bytes)) → then ≡ now ++ more
+    → map predicateLine ps ++ (map claimLine cs ++ then) ≡ (map predicateLine ps ++ (map claimLine cs ++ now)) ++ more
+facts-lines ps cs now then more e =
+    let first = map predicateLine ps in
+    let second = map claimLine cs in
+    rw e (ap (λ (l : List (List Bytes)). first ++ l) (sym (append-assoc second now more)) ∙ sym (append-assoc first (second ++ now) more))
+
+fact-lines : (f : Atom) (p : Pack) → fromRules p ≡ [] → openLines (onFacts (ending f) p) ≡ openLines p ++ (factLine f ∷ [])
+unfolding fromPredicates fromClaims fromFacts fromRules
+fact-lines f p later =
+    facts-lines (p .predicates) (p .claims) _ _ (factLine f ∷ [])
+    (ap (λ (l : List (List Bytes)). l ++ fromRules p) (map-append factLine (p .facts) (f ∷ []))
+    ∙ before-nothing (map factLine (p .facts)) (fromRules p) (factLine f ∷ []) later)
 
 -- lines more of the rules are lines more of the pack
 rules-lines : (p : Pack) (rs : List Rule) (more : List (List Bytes)) → flatMap ruleLines rs ≡ flatMap ruleLines (p .rules) ++ more
     → openLines (onRules (λ (old : List Rule). rs) p) ≡ openLines p ++ more
-unfolding fromPredicates fromClaims fromRules
+unfolding fromPredicates fromClaims fromFacts fromRules
 rules-lines p rs more e =
-    let first = map predicateLine (p .predicates) in
-    let second = map claimLine (p .claims) in
-    ap (λ (l : List (List Bytes)). first ++ (second ++ l)) e
-    ∙ ap (λ (l : List (List Bytes)). first ++ l) (sym (append-assoc second (flatMap ruleLines (p .rules)) more))
-    ∙ sym (append-assoc first (second ++ flatMap ruleLines (p .rules)) more)
+    let facts = map factLine (p .facts) in
+    facts-lines (p .predicates) (p .claims) _ _ more
+    (ap (λ (l : List (List Bytes)). facts ++ l) e ∙ sym (append-assoc facts (flatMap ruleLines (p .rules)) more))
 
 head-lines : (a : Atom) (rs : List Rule) → flatMap ruleLines (rs ++ (headAlone a ∷ [])) ≡ flatMap ruleLines rs ++ (headLine a ∷ [])
 unfolding ruleLines
@@ -81,6 +94,7 @@ head-lines a rs = flatMap-end ruleLines rs (headAlone a)
 step-lines : {p q : Pack} {fields : List Bytes} → Step p fields q → openLines q ≡ openLines p ++ (fields ∷ [])
 step-lines {p} (predicateStep x later fits new room) = predicate-lines x p later
 step-lines {p} (claimStep c later fits room) = claim-lines c p later
+step-lines {p} (factStep f later fits meets) = fact-lines f p later
 step-lines {p} (headStep a complete fits isRuled room few) = rules-lines p _ (headLine a ∷ []) (head-lines a (p .rules))
 step-lines {p} (subgoalStep a unempty noMultipliers fits room few) = rules-lines p _ (subgoalLine a ∷ []) (last-lines (onSubgoals (ending a)) (p .rules) _ unempty (subgoal-lines a (lastRule p) noMultipliers))
 step-lines {p} (multiplierStep ms incomplete fits left) = rules-lines p _ (multiplierLine ms ∷ []) (last-lines (onMultipliers (ending ms)) (p .rules) _ (rule-from-incomplete p incomplete) (multiplier-lines ms (lastRule p)))

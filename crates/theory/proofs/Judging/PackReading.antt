@@ -8,11 +8,11 @@ use Rattle.groundwork.proofs.Lists.{flatMap-end, flatMap-single, split-member, 
 use Rattle.theory.specs.Lists.{_∈_, ending}
 use Rattle.theory.specs.Text.{Bytes, bytes, same, isName, linesOf}
 use Rattle.theory.specs.Terms.{AllWellFormed}
-use Rattle.theory.specs.Packs.{Predicate, Claim, Atom, Rule, Pack, numberLimit, predicateLine, claimLine, subgoalLine, multiplierLine, endLine, ruleLines, openLines, line, packLines, written, onSubgoals, onMultipliers, fromRules, fromClaims, fromPredicates}
+use Rattle.theory.specs.Packs.{Predicate, Claim, Atom, Rule, Pack, numberLimit, predicateLine, claimLine, factLine, subgoalLine, multiplierLine, endLine, ruleLines, openLines, line, packLines, written, onSubgoals, onMultipliers, fromRules, fromFacts, fromClaims, fromPredicates}
 use Rattle.theory.specs.declared.Letter.{Letter}
 use Rattle.theory.specs.Written.{Written, nothing, write, writeAll, packOf}
-use Rattle.theory.specs.Limits.{PredicateFits, Fits}
-use Rattle.theory.proofs.Judging.AtomLines.{head-adds, subgoal-adds}
+use Rattle.theory.specs.Limits.{PredicateFits, AtomFits, Fits}
+use Rattle.theory.proofs.Judging.AtomLines.{fact-adds, head-adds, subgoal-adds}
 use Rattle.theory.proofs.Judging.ClaimLines.{claim-adds}
 use Rattle.theory.proofs.Judging.Faultless.{Adds}
 use Rattle.theory.proofs.Judging.LastRule.{onLast-end}
@@ -43,17 +43,22 @@ pub record RuleSpelled (r : Rule) : Type 0 where
 pub record Spelled (p : Pack) : Type 0 where
   pub predicates : (x : Predicate) → x ∈ p .predicates → PredicateFits x
   pub claims : (c : Claim) → c ∈ p .claims → ClaimSpelled c
+  pub facts : (f : Atom) → f ∈ p .facts → AtomSpelled f
   pub rules : (r : Rule) → r ∈ p .rules → RuleSpelled r
+
+atom-spelled : {ps : List Predicate} {a : Atom} → AtomFits ps a → AtomSpelled a
+atom-spelled fits = record { named = fits .named; formed = fits .formed }
 
 pub fits-spelled : (p : Pack) → Fits p → Spelled p
 fits-spelled p fits = record {
   predicates = fits .formed .predicates;
   claims = λ c m. let claim = fits .formed .claims c m in record { named = claim .named; constant = claim .constant; coefficients = claim .coefficients };
+  facts = λ f m. atom-spelled (fits .formed .facts f m .atom);
   rules = λ r m.
       let rule = fits .formed .rules r m in
       record {
-        head = record { named = rule .head .named; formed = rule .head .formed };
-        subgoals = λ a n. let subgoal = rule .subgoals a n in record { named = subgoal .named; formed = subgoal .formed };
+        head = atom-spelled (rule .head);
+        subgoals = λ a n. atom-spelled (rule .subgoals a n);
         multipliers = λ ms n. rule .multipliers ms n .small;
       };
 }
@@ -101,18 +106,18 @@ module _ {A : Type 0} (place : List A → Pack) where
 
 -- ---- the lines of a pack
 
-rule-leads : (ps : List Predicate) (cs : List Claim) (earlier : List Rule) (r : Rule) → RuleSpelled r → Lead (before (parts ps cs earlier)) (ruleLines r) (before (parts ps cs (earlier ++ (r ∷ []))))
+rule-leads : (ps : List Predicate) (cs : List Claim) (fs : List Atom) (earlier : List Rule) (r : Rule) → RuleSpelled r → Lead (before (parts ps cs fs earlier)) (ruleLines r) (before (parts ps cs fs (earlier ++ (r ∷ []))))
 unfolding ruleLines letterField same bytes
-rule-leads ps cs earlier r spelled =
+rule-leads ps cs fs earlier r spelled =
     let head = spelled .head in
-    lead-append (lead-line (head-adds (r .head) (head .formed) (parts ps cs earlier) (head .named)))
+    lead-append (lead-line (head-adds (r .head) (head .formed) (parts ps cs fs earlier) (head .named)))
     (lead-append (lead-map (λ gs. begun gs []) subgoalLine (r .subgoals) subgoal) (lead-map (begun (r .subgoals)) multiplierLine (r .multipliers) multipliers))
   where
     rule : List Atom → List (List ℕ) → Rule
     rule gs mss = onMultipliers (λ (old : List (List ℕ)). mss) (onSubgoals (λ (old : List Atom). gs) r)
 
     begun : List Atom → List (List ℕ) → Pack
-    begun gs mss = parts ps cs (earlier ++ (rule gs mss ∷ []))
+    begun gs mss = parts ps cs fs (earlier ++ (rule gs mss ∷ []))
 
     subgoal : (gs : List Atom) (a : Atom) → a ∈ r .subgoals → Lead (before (begun gs [])) (subgoalLine a ∷ []) (before (begun (gs ++ (a ∷ [])) []))
     subgoal gs a m =
@@ -123,14 +128,16 @@ rule-leads ps cs earlier r spelled =
     multipliers mss ms m = rw (← onLast-end (onMultipliers (ending ms)) earlier (rule (r .subgoals) mss)) (lead-line (multiplier-adds ms (spelled .multipliers ms m) (begun (r .subgoals) mss)))
 
 pack-leads : (p : Pack) → Spelled p → Lead nothing (openLines p ++ (endLine ∷ [])) (after p)
-unfolding fromPredicates fromClaims fromRules nothing letterField same bytes
+unfolding fromPredicates fromClaims fromFacts fromRules nothing letterField same bytes
 pack-leads p spelled =
     let ps = p .predicates in
     let cs = p .claims in
+    let fs = p .facts in
     lead-append
-    (lead-append (lead-map (λ xs. parts xs [] []) predicateLine ps (λ earlier x m. lead-line (predicate-adds (parts earlier [] []) x (spelled .predicates x m))))
-    (lead-append (lead-map (λ ds. parts ps ds []) claimLine cs (λ earlier c m. let claim = spelled .claims c m in lead-line (claim-adds c (claim .constant) (claim .coefficients) (parts ps earlier []) (claim .named))))
-    (lead-all (λ rs. parts ps cs rs) ruleLines (p .rules) (λ earlier r m. rule-leads ps cs earlier r (spelled .rules r m)))))
+    (lead-append (lead-map (λ xs. parts xs [] [] []) predicateLine ps (λ earlier x m. lead-line (predicate-adds (parts earlier [] [] []) x (spelled .predicates x m))))
+    (lead-append (lead-map (λ ds. parts ps ds [] []) claimLine cs (λ earlier c m. let claim = spelled .claims c m in lead-line (claim-adds c (claim .constant) (claim .coefficients) (parts ps earlier [] []) (claim .named))))
+    (lead-append (lead-map (λ gs. parts ps cs gs []) factLine fs (λ earlier f m. let fact = spelled .facts f m in lead-line (fact-adds f (fact .formed) (parts ps cs earlier []) (fact .named))))
+    (lead-all (λ rs. parts ps cs fs rs) ruleLines (p .rules) (λ earlier r m. rule-leads ps cs fs earlier r (spelled .rules r m))))))
     (lead-line (end-adds p))
 
 pub lines-again : (p : Pack) → Spelled p → linesOf (written p) ≡ packLines p

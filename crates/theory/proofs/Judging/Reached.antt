@@ -9,17 +9,17 @@ use native.Mathlib.Omega.{arith}
 use lib.ListN.{length}
 use Rattle.theory.specs.Lists.{_∈_, ending}
 use Rattle.theory.specs.Text.{Bytes}
-use Rattle.theory.specs.Packs.{Predicate, Claim, Rule, Pack, predicateLimit, claimLimit, ruleLimit, Key, keyOf, claimKey, declaredAs, claimsOn, onSubgoals, onMultipliers, onPredicates, onClaims, onRules, opening, headAlone, fromRules, fromClaims}
+use Rattle.theory.specs.Packs.{Predicate, Claim, Atom, Rule, Pack, predicateLimit, claimLimit, ruleLimit, Key, keyOf, claimKey, declaredAs, claimsOn, onSubgoals, onMultipliers, onPredicates, onClaims, onFacts, onRules, opening, headAlone, fromRules, fromFacts, fromClaims}
 use Rattle.theory.specs.Faults.{noRule, lastRule, isComplete}
-use Rattle.theory.specs.Limits.{PredicateFits, ClaimFits}
+use Rattle.theory.specs.Limits.{PredicateFits, ClaimFits, FactFits}
 use Rattle.theory.specs.Written.{onLast}
 use Rattle.groundwork.proofs.Lists.{member-unempty, length-end, all-end, end-split, dropLast-end, dropLast-member}
-use Rattle.theory.proofs.Judging.Sections.{no-claims, no-rules, no-rules-either}
+use Rattle.theory.proofs.Judging.Sections.{no-claims, no-facts, no-rules}
 use Rattle.theory.proofs.Judging.LastRule.{last-parts, onLast-parts, last-member, last-cases}
 use Rattle.theory.proofs.Judging.Completeness.{IsWhole, whole-from-complete, rule-from-incomplete, due-from-incomplete}
 use Rattle.theory.proofs.Judging.ClaimsOn.{fewClaims-end}
 use Rattle.theory.proofs.Judging.Begun.{Begun, begun-head, begun-subgoal, begun-multipliers}
-use Rattle.theory.proofs.Judging.Steps.{Step, predicateStep, claimStep, headStep, subgoalStep, multiplierStep, Run, stay, go}
+use Rattle.theory.proofs.Judging.Steps.{Step, predicateStep, claimStep, factStep, headStep, subgoalStep, multiplierStep, MeetsEach, Run, stay, go}
 
 -- no predicate is declared before another under its key
 abbrev pub Distinct : List Predicate → Type 0
@@ -32,6 +32,8 @@ pub record Reached (p : Pack) : Type 0 where
   pub fewPredicates : length (p .predicates) ≤ predicateLimit
   pub claims : (c : Claim) → c ∈ p .claims → ClaimFits (p .predicates) c
   pub fewClaims : (k : Key) → length (claimsOn k (p .claims)) ≤ claimLimit
+  pub facts : (f : Atom) → f ∈ p .facts → FactFits (p .predicates) f
+  pub met : (f : Atom) → f ∈ p .facts → MeetsEach (p .claims) f
   pub rules : (r : Rule) → r ∈ p .rules → Begun (opening p) r
   pub earlier : (r : Rule) → r ∈ dropLast (p .rules) → IsWhole (p .claims) r
   pub fewRules : length (p .rules) ≤ ruleLimit
@@ -49,22 +51,46 @@ after-predicate x p reached later fits new room = record {
   predicates = all-end PredicateFits (p .predicates) x (reached .predicates) fits;
   distinct = distinct-end (p .predicates) x (reached .distinct) new;
   fewPredicates = omega (arith, length-end (p .predicates) x);
-  claims = λ c m. absurd (member-unempty m (no-claims p later));
+  claims = λ c m. absurd (member-unempty m (no-claims p later .0));
   fewClaims = reached .fewClaims;
-  rules = λ r m. absurd (member-unempty m (no-rules-either p later));
+  facts = λ f m. absurd (member-unempty m (factless .0));
+  met = λ f m. absurd (member-unempty m (factless .0));
+  rules = λ r m. absurd (member-unempty m (no-rules p (factless .1)));
   earlier = reached .earlier;
   fewRules = reached .fewRules;
 }
+  where
+    factless : (p .facts ≡ []) × (fromRules p ≡ [])
+    factless = no-facts p (no-claims p later .1)
 
-after-claim : (c : Claim) (p : Pack) → Reached p → fromRules p ≡ [] → ClaimFits (p .predicates) c → length (claimsOn (claimKey c) (p .claims)) < claimLimit → Reached (onClaims (ending c) p)
+after-claim : (c : Claim) (p : Pack) → Reached p → fromFacts p ≡ [] → ClaimFits (p .predicates) c → length (claimsOn (claimKey c) (p .claims)) < claimLimit → Reached (onClaims (ending c) p)
 after-claim c p reached later fits room = record {
   predicates = reached .predicates;
   distinct = reached .distinct;
   fewPredicates = reached .fewPredicates;
   claims = all-end (ClaimFits (p .predicates)) (p .claims) c (reached .claims) fits;
   fewClaims = fewClaims-end claimLimit (p .claims) c (reached .fewClaims) room;
+  facts = reached .facts;
+  met = λ f m. absurd (member-unempty m (factless .0));
+  rules = λ r m. absurd (member-unempty m (no-rules p (factless .1)));
+  earlier = λ r m. absurd (member-unempty (dropLast-member (p .rules) m) (no-rules p (factless .1)));
+  fewRules = reached .fewRules;
+}
+  where
+    factless : (p .facts ≡ []) × (fromRules p ≡ [])
+    factless = no-facts p later
+
+after-fact : (f : Atom) (p : Pack) → Reached p → fromRules p ≡ [] → FactFits (p .predicates) f → MeetsEach (p .claims) f → Reached (onFacts (ending f) p)
+after-fact f p reached later fits meets = record {
+  predicates = reached .predicates;
+  distinct = reached .distinct;
+  fewPredicates = reached .fewPredicates;
+  claims = reached .claims;
+  fewClaims = reached .fewClaims;
+  facts = all-end (FactFits (p .predicates)) (p .facts) f (reached .facts) fits;
+  met = all-end (MeetsEach (p .claims)) (p .facts) f (reached .met) meets;
   rules = λ r m. absurd (member-unempty m (no-rules p later));
-  earlier = λ r m. absurd (member-unempty (dropLast-member (p .rules) m) (no-rules p later));
+  earlier = reached .earlier;
   fewRules = reached .fewRules;
 }
 
@@ -78,6 +104,8 @@ after-last p earlier r reached kept whole begun few = record {
   fewPredicates = reached .fewPredicates;
   claims = reached .claims;
   fewClaims = reached .fewClaims;
+  facts = reached .facts;
+  met = reached .met;
   rules = all-end (Begun (opening p)) earlier r (λ s m. reached .rules s (kept s m)) begun;
   earlier = λ s m. whole s (subst (λ (l : List Rule). s ∈ l) (dropLast-end earlier r) m);
   fewRules = few;
@@ -104,6 +132,7 @@ last-begun p reached unempty = reached .rules (lastRule p) (last-member noRule (
 step-reaches : {p q : Pack} {fields : List Bytes} → Step p fields q → Reached p → Reached q
 step-reaches {p} (predicateStep x later fits new room) reached = after-predicate x p reached later fits new room
 step-reaches {p} (claimStep c later fits room) reached = after-claim c p reached later fits room
+step-reaches {p} (factStep f later fits meets) reached = after-fact f p reached later fits meets
 step-reaches {p} (headStep a complete fits isRuled room few) reached =
     after-last p (p .rules) _ reached (λ s m. m) (all-whole p reached complete) (begun-head (opening p) a fits isRuled few)
     (omega (arith, length-end (p .rules) (headAlone a), room))

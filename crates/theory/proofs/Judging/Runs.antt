@@ -6,7 +6,7 @@ use native.Mathlib.Nat.{le-of-eq, le-antisymm, le-trans}
 use native.Mathlib.Omega.{arith}
 use Rattle.theory.specs.Lists.{every}
 use Rattle.theory.specs.Text.{Bytes}
-use Rattle.theory.specs.Packs.{Rule, Pack, claimsOn, openLines, opening, emptyPack, fromRules, fromClaims, fromPredicates}
+use Rattle.theory.specs.Packs.{Rule, Pack, claimsOn, openLines, opening, emptyPack, fromRules, fromFacts, fromClaims, fromPredicates}
 use Rattle.theory.specs.Faults.{isComplete}
 use Rattle.theory.specs.Limits.{RuleFits, Fits, Justified, ShortLines, ShortText}
 use Rattle.groundwork.proofs.Lists.{split-member}
@@ -20,7 +20,7 @@ use Rattle.theory.proofs.Judging.Steps.{Run, stay}
 -- ---- what a run writes
 
 pub run-lines : (ls : List (List Bytes)) (p : Pack) → Run emptyPack ls p → ls ≡ openLines p
-unfolding fromPredicates fromClaims fromRules flatMap
+unfolding fromPredicates fromClaims fromFacts fromRules flatMap
 run-lines ls p run = sym (run-adds run)
 
 pub empty-reached : Reached emptyPack
@@ -31,6 +31,8 @@ empty-reached = record {
   fewPredicates = omega arith;
   claims = λ c m. absurd (List·Memᴰ·not-nil m);
   fewClaims = λ k. omega arith;
+  facts = λ f m. absurd (List·Memᴰ·not-nil m);
+  met = λ f m. absurd (List·Memᴰ·not-nil m);
   rules = λ r m. absurd (List·Memᴰ·not-nil m);
   earlier = λ r m. absurd (List·Memᴰ·not-nil m);
   fewRules = omega arith;
@@ -56,6 +58,7 @@ run-fits ls p run complete short-lines short-text =
         predicates = reached .predicates;
         distinct = reached .distinct;
         claims = reached .claims;
+        facts = reached .facts;
         rules = λ r m. whole-fits p r (reached .rules r m) (all-whole p reached complete r m);
       };
       counts = record { predicates = reached .fewPredicates; claims = reached .fewClaims; rules = reached .fewRules };
@@ -66,7 +69,10 @@ run-fits ls p run complete short-lines short-text =
 pub run-justified : (ls : List (List Bytes)) (p : Pack) → Run emptyPack ls p → isComplete p ≡ true → Justified p
 run-justified ls p run complete =
     let reached = run-reaches run empty-reached in
-    record { rules = λ r m. record { every = λ i h. reached .rules r m .justified i (le-trans h (all-whole p reached complete r m)) } }
+    record {
+      facts = λ f m. record { meets = reached .met f m };
+      rules = λ r m. record { every = λ i h. reached .rules r m .justified i (le-trans h (all-whole p reached complete r m)) };
+    }
 
 -- ---- a run that writes a pack
 

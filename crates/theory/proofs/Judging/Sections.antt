@@ -1,12 +1,12 @@
 -- Sections of a pack: lines from one section on are none exactly if the lists of that section and of those after it are empty.
 use mathlib.Core.Path.{_≡_, refl, sym, _∙_, ap}
-use mathlib.Core.Bool.{Bool, true, _&&_}
+use mathlib.Core.Bool.{Bool, _&&_}
 use mathlib.Core.List.{List, [], _∷_, _++_, map, flatMap}
 use Rattle.groundwork.proofs.Truth.{and-left, and-right}
 use Rattle.theory.specs.Lists.{isEmpty}
 use Rattle.theory.specs.Text.{Bytes}
-use Rattle.theory.specs.Packs.{Pack, Rule, claimLine, ruleLines, fromRules, fromClaims}
-use Rattle.theory.specs.declared.Letter.the-variants.{P, C}
+use Rattle.theory.specs.Packs.{Pack, Rule, claimLine, factLine, ruleLines, fromRules, fromFacts, fromClaims}
+use Rattle.theory.specs.declared.Letter.the-variants.{P, C, G}
 use Rattle.theory.specs.Faults.{mayStand}
 use Rattle.theory.proofs.Reading.Presence.{is-empty, empty-is}
 
@@ -23,15 +23,19 @@ unfolding isEmpty flatMap ruleLines
 rules-empty [] = refl
 rules-empty (r ∷ rs) = refl
 
--- ---- where `P` and `C` lines may stand
+-- ---- where `P`, `C` and `G` lines may stand
 
-pub claims-stand : (p : Pack) → mayStand p C ≡ isEmpty (p .rules)
+pub facts-stand : (p : Pack) → mayStand p G ≡ isEmpty (p .rules)
 unfolding mayStand fromRules
-claims-stand p = rules-empty (p .rules)
+facts-stand p = rules-empty (p .rules)
 
-pub predicates-stand : (p : Pack) → mayStand p P ≡ (isEmpty (p .claims) && isEmpty (p .rules))
-unfolding mayStand fromRules fromClaims
-predicates-stand p = map-empty claimLine (p .claims) (flatMap ruleLines (p .rules)) ∙ ap (λ (b : Bool). isEmpty (p .claims) && b) (rules-empty (p .rules))
+pub claims-stand : (p : Pack) → mayStand p C ≡ (isEmpty (p .facts) && isEmpty (p .rules))
+unfolding mayStand fromFacts
+claims-stand p = map-empty factLine (p .facts) (fromRules p) ∙ ap (λ (b : Bool). isEmpty (p .facts) && b) (facts-stand p)
+
+pub predicates-stand : (p : Pack) → mayStand p P ≡ (isEmpty (p .claims) && (isEmpty (p .facts) && isEmpty (p .rules)))
+unfolding mayStand fromClaims
+predicates-stand p = map-empty claimLine (p .claims) (fromFacts p) ∙ ap (λ (b : Bool). isEmpty (p .claims) && b) (claims-stand p)
 
 -- ---- what is empty where there are no such lines
 
@@ -39,12 +43,16 @@ pub no-rules : (p : Pack) → fromRules p ≡ [] → p .rules ≡ []
 unfolding fromRules
 no-rules p e = is-empty (p .rules) (sym (rules-empty (p .rules)) ∙ empty-is _ e)
 
-claims-none : (p : Pack) → fromClaims p ≡ [] → (isEmpty (p .claims) && isEmpty (fromRules p)) ≡ true
+-- where the lines of a list and those after it are none, the list is empty, and there are none after it
+none-of-both : {A : Type 0} (lineFor : A → List Bytes) (l : List A) (rest : List (List Bytes)) → map lineFor l ++ rest ≡ [] → (l ≡ []) × (rest ≡ [])
+none-of-both lineFor l rest e =
+    let both = sym (map-empty lineFor l rest) ∙ empty-is _ e in
+    (is-empty l (and-left (isEmpty l) (isEmpty rest) both), is-empty rest (and-right (isEmpty l) (isEmpty rest) both))
+
+pub no-facts : (p : Pack) → fromFacts p ≡ [] → (p .facts ≡ []) × (fromRules p ≡ [])
+unfolding fromFacts
+no-facts p e = none-of-both factLine (p .facts) (fromRules p) e
+
+pub no-claims : (p : Pack) → fromClaims p ≡ [] → (p .claims ≡ []) × (fromFacts p ≡ [])
 unfolding fromClaims
-claims-none p e = sym (map-empty claimLine (p .claims) (fromRules p)) ∙ empty-is _ e
-
-pub no-claims : (p : Pack) → fromClaims p ≡ [] → p .claims ≡ []
-no-claims p e = is-empty (p .claims) (and-left (isEmpty (p .claims)) (isEmpty (fromRules p)) (claims-none p e))
-
-pub no-rules-either : (p : Pack) → fromClaims p ≡ [] → p .rules ≡ []
-no-rules-either p e = no-rules p (is-empty (fromRules p) (and-right (isEmpty (p .claims)) (isEmpty (fromRules p)) (claims-none p e)))
+no-claims p e = none-of-both claimLine (p .claims) (fromFacts p) e

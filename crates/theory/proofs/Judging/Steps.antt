@@ -5,23 +5,31 @@ use mathlib.Core.List.{List, [], _∷_}
 use mathlib.Core.Option.{none}
 use Prim.Native.Nat.{ℕ, _≤_, _<_}
 use lib.ListN.{length}
-use Rattle.theory.specs.Lists.{ending}
+use Rattle.theory.specs.Lists.{_∈_, ending}
 use Rattle.theory.specs.Text.{Bytes}
-use Rattle.theory.specs.Packs.{ruled, Predicate, Claim, Atom, Rule, Pack, predicateLimit, claimLimit, ruleLimit, subgoalLimit, variableLimit, keyOf, claimKey, declaredAs, claimsOn, predicateLine, claimLine, headLine, subgoalLine, multiplierLine, onSubgoals, onMultipliers, onPredicates, onClaims, onRules, opening, headAlone, fromRules, fromClaims}
+use Rattle.theory.specs.Terms.{structural}
+use Rattle.theory.specs.Packs.{ruled, Predicate, Claim, Atom, Rule, Pack, predicateLimit, claimLimit, ruleLimit, subgoalLimit, variableLimit, keyOf, claimKey, declaredAs, claimsOn, predicateLine, claimLine, factLine, headLine, subgoalLine, multiplierLine, onSubgoals, onMultipliers, onPredicates, onClaims, onFacts, onRules, opening, headAlone, atomKey, fromRules, fromFacts, fromClaims}
 use Rattle.theory.specs.Written.{onLast}
 use Rattle.theory.specs.Residuals.{ruleVariables}
 use Rattle.theory.specs.Faults.{isComplete, lastRule}
-use Rattle.theory.specs.Limits.{PredicateFits, ClaimFits, AtomFits, MultipliersFit, JustifiedBy}
+use Rattle.theory.specs.Facts.{Meets}
+use Rattle.theory.specs.Limits.{PredicateFits, ClaimFits, AtomFits, FactFits, MultipliersFit, JustifiedBy}
 
-abbrev pub parts : List Predicate → List Claim → List Rule → Pack
-parts ps cs rs = record { predicates = ps; claims = cs; rules = rs }
+abbrev pub parts : List Predicate → List Claim → List Atom → List Rule → Pack
+parts ps cs fs rs = record { predicates = ps; claims = cs; facts = fs; rules = rs }
+
+-- a fact meets every claim on its predicate
+abbrev pub MeetsEach : List Claim → Atom → Type 0
+MeetsEach claims f = (c : Claim) → c ∈ claimsOn (atomKey f) claims → Meets structural f c
 
 -- after lines that write p, the line with these fields may come next, and then they write the other pack
 pub data Step (p : Pack) : List Bytes → Pack → Type 0 where
   predicateStep : (x : Predicate) → fromClaims p ≡ [] → PredicateFits x → declaredAs (keyOf x) (p .predicates) ≡ none
       → length (p .predicates) < predicateLimit → Step p (predicateLine x) (onPredicates (ending x) p)
-  claimStep : (c : Claim) → fromRules p ≡ [] → ClaimFits (p .predicates) c → length (claimsOn (claimKey c) (p .claims)) < claimLimit
+  claimStep : (c : Claim) → fromFacts p ≡ [] → ClaimFits (p .predicates) c → length (claimsOn (claimKey c) (p .claims)) < claimLimit
       → Step p (claimLine c) (onClaims (ending c) p)
+  factStep : (f : Atom) → fromRules p ≡ [] → FactFits (p .predicates) f → MeetsEach (p .claims) f
+      → Step p (factLine f) (onFacts (ending f) p)
   headStep : (a : Atom) → isComplete p ≡ true → (fits : AtomFits (p .predicates) a) → fits .predicate .kind ≡ ruled
       → length (p .rules) < ruleLimit → length (ruleVariables a []) ≤ variableLimit
       → Step p (headLine a) (onRules (ending (headAlone a)) p)

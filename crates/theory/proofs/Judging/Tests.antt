@@ -1,7 +1,7 @@
 -- Numbered tests: the first number is 0 exactly if no test finds its fault.
 use mathlib.Core.Path.{_≡_, refl}
 use mathlib.Core.Bool.{Bool, true, false}
-use mathlib.Core.List.{List, [], _∷_}
+use mathlib.Core.List.{List, [], _∷_, _++_}
 use Prim.Native.Nat.{ℕ, _<_}
 use native.Mathlib.Omega.{arith}
 use Rattle.theory.specs.Faults.{Test, test, firstOf}
@@ -15,6 +15,21 @@ Clear (t ∷ ts) = (t .finds ≡ false) × Clear ts
 infixr 10 _then_
 abbrev pub _then_ : {X Y : Type 0} → X → Y → X × Y
 _then_ x y = (x, y)
+
+-- some tests after others
+pub clear-parts : (ts us : List Test) → Clear (ts ++ us) → Clear ts × Clear us
+clear-parts [] us c = (tt, c)
+clear-parts (t ∷ ts) us c = let (first, rest) = clear-parts ts us (c .1) in ((c .0, first), rest)
+
+pub both-clear : (ts us : List Test) → Clear ts → Clear us → Clear (ts ++ us)
+both-clear [] us c d = d
+both-clear (t ∷ ts) us c d = (c .0, both-clear ts us (c .1) d)
+
+-- tests that find nothing, in front
+pub first-clear : (ts us : List Test) → Clear ts → firstOf (ts ++ us) ≡ firstOf us
+unfolding firstOf
+first-clear [] us c = refl
+first-clear (t ∷ ts) us c = rw (c .0) (first-clear ts us (c .1))
 
 -- one test in front
 pub first-passed : (n : ℕ) (finds : Bool) (ts : List Test) → finds ≡ false → firstOf (test n finds ∷ ts) ≡ firstOf ts

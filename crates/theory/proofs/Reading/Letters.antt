@@ -4,7 +4,7 @@ use mathlib.Core.Bool.{cond}
 use mathlib.Core.List.{[]}
 use Rattle.theory.specs.Text.{Bytes, bytes, same}
 use Rattle.theory.specs.declared.Letter.{Letter}
-use Rattle.theory.specs.declared.Letter.the-variants.{P, C, H, B, M, E, NoLetter}
+use Rattle.theory.specs.declared.Letter.the-variants.{P, C, G, H, B, M, E, NoLetter}
 use Rattle.theory.specs.Written.{letterOf}
 use Rattle.groundwork.proofs.Truth.{by-truth}
 use Rattle.theory.proofs.Reading.Bytes.{same-equal}
@@ -13,6 +13,7 @@ use Rattle.theory.proofs.Reading.Bytes.{same-equal}
 unfoldable pub letterField : Letter → Bytes
 letterField P = bytes "P"
 letterField C = bytes "C"
+letterField G = bytes "G"
 letterField H = bytes "H"
 letterField B = bytes "B"
 letterField M = bytes "M"
@@ -23,6 +24,7 @@ pub letter-of-field : (letter : Letter) → letterOf (letterField letter) ≡ le
 unfolding letterOf letterField same bytes
 letter-of-field P = refl
 letter-of-field C = refl
+letter-of-field G = refl
 letter-of-field H = refl
 letter-of-field B = refl
 letter-of-field M = refl
@@ -35,10 +37,11 @@ unfolding letterOf letterField
 by-letter Q f lettered other =
     branch (bytes "P") P _ (lettered P)
     (branch (bytes "C") C _ (lettered C)
+    (branch (bytes "G") G _ (lettered G)
     (branch (bytes "H") H _ (lettered H)
     (branch (bytes "B") B _ (lettered B)
     (branch (bytes "M") M _ (lettered M)
-    (branch (bytes "E") E _ (lettered E) other)))))
+    (branch (bytes "E") E _ (lettered E) other))))))
   where
     branch : (text : Bytes) (letter rest : Letter) → (f ≡ text → Q letter) → Q rest → Q (cond (same f text) letter rest)
     branch text letter rest found missed = by-truth (λ b. Q (cond b letter rest)) (same f text) (λ e. found (same-equal f text e)) (λ e. missed)

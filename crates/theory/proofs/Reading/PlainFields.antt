@@ -10,7 +10,7 @@ use Rattle.theory.specs.Lists.{every, _∈_}
 use Rattle.theory.specs.Text.{Bytes, bytes, between, isName, decimal, signedDecimal, fieldsOf}
 use Rattle.theory.specs.Packs.{line, lineLimit}
 use Rattle.theory.specs.declared.Letter.{Letter}
-use Rattle.theory.specs.declared.Letter.the-variants.{P, C, H, B, M, E, NoLetter}
+use Rattle.theory.specs.declared.Letter.the-variants.{P, C, G, H, B, M, E, NoLetter}
 use Rattle.theory.specs.Faults.{isUnfit}
 use Rattle.groundwork.proofs.Lists.{all-cons}
 use Rattle.groundwork.proofs.Truth.{and-left, or-neither, ge-ltb}
@@ -46,6 +46,7 @@ pub letter-plain : (letter : Letter) → every isFieldByte (letterField letter) 
 unfolding letterField every bytes
 letter-plain P = refl
 letter-plain C = refl
+letter-plain G = refl
 letter-plain H = refl
 letter-plain B = refl
 letter-plain M = refl

@@ -14,7 +14,7 @@ use Rattle.groundwork.proofs.Order.{≤ℤ-trans, +ℤ-mono, nonneg-rest, nonne
 use Rattle.theory.specs.Terms.{arity, Measure, argumentSizes}
 use Rattle.theory.specs.Packs.{Claim, Atom}
 use Rattle.theory.specs.Reserve.{Query, sizeGiven, unknownsAtMostZero, knownPart, askedNumber, isUsable, numerator, boundBy, sizeAt}
-use Rattle.theory.specs.Derivations.{weightedSizes, Meets}
+use Rattle.theory.specs.Facts.{weightedSizes, Meets}
 use Rattle.theory.proofs.Soundness.Sizes.{length-sizes}
 
 -- ---- sums over the arguments

@@ -13,7 +13,8 @@ use Rattle.theory.specs.Forms.{Form, valueAt}
 use Rattle.theory.specs.Packs.{Claim, Atom, Rule, Pack, atomKey, claimsOn, noClaim}
 use Rattle.theory.specs.Residuals.{subgoalForms, combined, residual, ruleVariables}
 use Rattle.theory.specs.Limits.{Formed, NonNegative, Justified}
-use Rattle.theory.specs.Derivations.{IsFact, Meets, MeetsAll, GivenFact, atomUnder, Derivable, isGiven, byRule}
+use Rattle.theory.specs.Facts.{IsFact, Meets, MeetsAll}
+use Rattle.theory.specs.Derivations.{GivenFact, atomUnder, Derivable, isGiven, byRule}
 use Rattle.theory.proofs.Judging.Variables.{rule-variables-once, head-variable, subgoal-variable}
 use Rattle.theory.proofs.Soundness.SubgoalForms.{of-subgoal}
 use Rattle.theory.proofs.Soundness.FormValues.{value-plus, value-times, value-minus, value-zero, value-nonneg}

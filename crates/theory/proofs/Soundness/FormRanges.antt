@@ -14,7 +14,7 @@ use Rattle.theory.specs.Lists.{_∈_}
 use Rattle.theory.specs.Text.{Bytes, fieldsOf}
 use Rattle.theory.specs.Terms.{AllWellFormed, structural}
 use Rattle.theory.specs.Forms.{Form}
-use Rattle.theory.specs.Packs.{Claim, Atom, Rule, Pack, lineLimit, claimLimit, subgoalLimit, numberLimit, noClaim, atomKey, claimsOn, headLine, subgoalLine, claimLine, predicateLine, ruleLines, line, fromRules, fromClaims, fromPredicates, opening}
+use Rattle.theory.specs.Packs.{Claim, Atom, Rule, Pack, lineLimit, claimLimit, subgoalLimit, numberLimit, noClaim, atomKey, claimsOn, headLine, subgoalLine, claimLine, factLine, predicateLine, ruleLines, line, fromRules, fromFacts, fromClaims, fromPredicates, opening}
 use Rattle.theory.specs.declared.Letter.the-variants.{M}
 use Rattle.theory.specs.Written.{lineLetter, Written, nothing, writeAll, multipliersFrom}
 use Rattle.theory.specs.Residuals.{claimForm, subgoalForms}
@@ -56,8 +56,8 @@ module _ (p : Pack) (so : ReachedShort p) (r : Rule) (isRule : r ∈ p .rules) w
   begun = so .reached .rules r isRule
 
   rule-line : (fields : List Bytes) → fields ∈ ruleLines r → length (line fields) ≤ lineLimit
-  unfolding fromPredicates fromClaims fromRules
-  rule-line fields n = so .short fields (Memᴰ·append-right (map predicateLine (p .predicates)) (Memᴰ·append-right (map claimLine (p .claims)) (flatMap-member ruleLines isRule n)))
+  unfolding fromPredicates fromClaims fromFacts fromRules
+  rule-line fields n = so .short fields (Memᴰ·append-right (map predicateLine (p .predicates)) (Memᴰ·append-right (map claimLine (p .claims)) (Memᴰ·append-right (map factLine (p .facts)) (flatMap-member ruleLines isRule n))))
 
   -- an atom's symbols and variables are no more than the bytes of its line
   head-tokens : tokenCount (r .head .terms) ≤ lineLimit

@@ -15,7 +15,8 @@ use Rattle.theory.specs.Terms.{Term, Terms, variable, symbol, nil, cons,
 use Rattle.theory.specs.Forms.{Form, plus, constantForm, formOf, valueAt}
 use Rattle.theory.specs.Packs.{Claim, Atom, atomKey, key}
 use Rattle.theory.specs.Residuals.{weighted, claimForm}
-use Rattle.theory.specs.Derivations.{weightedSizes, atomUnder}
+use Rattle.theory.specs.Facts.{weightedSizes}
+use Rattle.theory.specs.Derivations.{atomUnder}
 use Rattle.theory.proofs.Reading.Bytes.{same-refl, same-equal}
 use Rattle.theory.proofs.Judging.Variables.{Once, once-none, once-more}
 use Rattle.theory.proofs.Soundness.FormValues.{form-path, nothing-plus, value-plus, value-times, value-without, value-constant, value-zero}
