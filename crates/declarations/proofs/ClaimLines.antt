@@ -1,7 +1,7 @@
 -- `C` lines: their fields, and what they add.
 use mathlib.Core.Path.{_≡_, refl, sym, _∙_, ap}
 use mathlib.Core.Bool.{cond, not}
-use mathlib.Core.List.{List, [], _∷_, _++_}
+use mathlib.Core.List.{List, []}
 use mathlib.Core.Option.{some}
 use Prim.Native.Nat.{ℕ, suc, _+_, _≤_, _<_}
 use native.Mathlib.Omega.{arith}
@@ -11,7 +11,6 @@ use lib.IntN.{ℤ, pos, natAbs}
 use lib.ListN.{length, getD, set, drop, length-set, length-map, length-drop}
 use lib.Seq.{getD-set-other}
 use Rattle.groundwork.proofs.Truth.{and-right, leb-gt}
-use Rattle.groundwork.proofs.Lists.{length-end}
 use Rattle.groundwork.proofs.Stretches.{replaced}
 use Rattle.theory.specs.Lists.{every, isEmpty}
 use Rattle.theory.specs.Text.{Bytes, integer, fieldsOf}
@@ -19,7 +18,7 @@ use Rattle.theory.specs.Packs.{claimKey, claimsOn, claimLimit, numberLimit}
 use Rattle.theory.specs.declared.Letter.the-variants.{C}
 use Rattle.theory.specs.Written.{Written, claimFrom, integerFrom, add}
 use Rattle.theory.specs.Faults.{isClaimNumber, firstOf, claimTests, tests, fault}
-use Rattle.theory.proofs.Reading.Presence.{some-is, is-empty, filled-is}
+use Rattle.theory.proofs.Reading.Presence.{some-is, is-empty, end-filled}
 use Rattle.theory.proofs.Reading.Places.{places-every, not-every}
 use Rattle.theory.proofs.Judging.Sections.{claims-stand}
 use Rattle.theory.proofs.Judging.LineWriting.{writes-letter}
@@ -99,7 +98,7 @@ c-holds line t s w o row claims holds safe passed done room laid =
           c (passed .named .is) row (getD (t .signatures) p 0) room laid
           (claim-laid fields (t .claims) claims _ row _ laid done full)
           (omega (arith, length-map (drop 3 fields) integerFrom, length-drop 3 fields));
-      claimed = rw (filled-is (cs ++ (c ∷ [])) (λ e. omega (arith, length-end cs c, ap length e)));
+      claimed = rw (end-filled cs c);
       shipped = holds .shipped;
       rules = holds .rules;
       lines = holds .lines;

@@ -1,14 +1,15 @@
 -- `G` lines: their terms, and what they add to the facts.
 use mathlib.Core.Path.{_≡_, refl, sym, _∙_, ap}
 use mathlib.Core.Bool.{Bool, true, false, not, cond}
-use mathlib.Core.List.{List, [], _∷_, List·Memᴰ·head, List·Memᴰ·not-nil}
+use mathlib.Core.List.{List, [], _∷_, List·Memᴰ·head}
 use Prim.Native.Nat.{ℕ, zero, _≤_, _<_}
 use native.Mathlib.Omega.{arith}
 use lib.Dec.{ltb}
 use lib.IntN.{ℤ}
 use lib.ListN.{length, drop}
+use Rattle.groundwork.proofs.Lists.{member-getD}
 use Rattle.groundwork.proofs.Truth.{by-truth, ltb-lt, ltb-ge}
-use Rattle.theory.specs.Lists.{_∈_, isEmpty}
+use Rattle.theory.specs.Lists.{isEmpty}
 use Rattle.theory.specs.Text.{Bytes, fieldsOf}
 use Rattle.theory.specs.Terms.{arity, allVariables}
 use Rattle.theory.specs.Packs.{Atom, atomKey, claimsOn}
@@ -69,11 +70,7 @@ module _ (o : Opened) (s : State) where
 -- some variables are numbered exactly if there are some
 none-numbered : (xs : List Bytes) → length (numbered [] xs) ≡ 0 → xs ≡ []
 none-numbered [] e = refl
-none-numbered (x ∷ xs) e = absurd (member-some (numbered [] (x ∷ xs)) (member-numbered [] (x ∷ xs) (List·Memᴰ·head refl)) e)
-  where
-    member-some : (l : List Bytes) → x ∈ l → length l ≡ 0 → ⊥
-    member-some [] m e = List·Memᴰ·not-nil m
-    member-some (y ∷ l) m e = omega arith
+none-numbered (x ∷ xs) e = let found = member-getD [] (member-numbered [] (x ∷ xs) (List·Memᴰ·head refl)) in absurd (omega (arith, found .1))
 
 some-numbered : (xs : List Bytes) → 0 < length (numbered [] xs) → xs ≡ [] → ⊥
 unfolding numbered

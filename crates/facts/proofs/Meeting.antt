@@ -1,16 +1,15 @@
 -- The claims on a fact's predicate, at the sizes of its arguments, by the tables: each value is the definition's, so what the
 -- tables say of all of them is whether the fact meets them.
 use mathlib.Core.Path.{_≡_, refl, sym, _∙_, ap}
-use mathlib.Core.Bool.{Bool, true, false}
+use mathlib.Core.Bool.{Bool, false}
 use mathlib.Core.List.{List}
 use Prim.Native.Nat.{ℕ, zero, suc, _+_, _≤_, _<_}
 use native.Mathlib.Omega.{arith}
-use borrow.Author.Count.{below-more}
 use lib.IntN.{ℤ, pos, _+ℤ_, _*ℤ_, +ℤ-assoc, +ℤ-idr}
 use lib.ListN.{length, getD, drop, drop-of-length-le}
 use lib.Seq.{drop-cons}
 use lib.Signed.{nonNeg}
-use Rattle.groundwork.proofs.Truth.{by-truth, never-both, and-left, and-right, and-both}
+use Rattle.groundwork.proofs.Truth.{by-truth, never-both}
 use Rattle.theory.specs.Lists.{every}
 use Rattle.theory.specs.Text.{Bytes}
 use Rattle.theory.specs.Terms.{Terms, nil, cons, arity, structural, size, argumentSizes}
@@ -21,6 +20,7 @@ use Rattle.theory.proofs.Reading.Places.{every-place, places-every}
 use Rattle.theory.proofs.Soundness.Sizes.{length-sizes}
 use Rattle.tables.specs.Tables.{claimPlace, rowPlace, ClaimAt, argument, AtomStands}
 use Rattle.facts.specs.Ends.{valueTo, metTo}
+use Rattle.facts.proofs.Values.{met-at, met-all}
 
 -- ---- one claim
 
@@ -66,23 +66,6 @@ module _ {claims : List ℤ} {place : ℕ} {rows : List ℕ} {xs : List Bytes} (
       sym (+ℤ-idr (valueTo claims place rows (arity (f .terms)))) ∙ rw none at all
 
 -- ---- all claims on the predicate
-
-module _ (claims : List ℤ) (predicate : ℕ) (rows : List ℕ) (n : ℕ) where
-  met-at : (count : ℕ) → metTo claims predicate rows n count ≡ true → (j : ℕ) → j < count → nonNeg (valueTo claims (claimPlace predicate j) rows n) ≡ true
-  unfolding metTo
-  met-at zero e = λ j less. absurd (omega arith)
-  met-at (suc count) e =
-      λ j less.
-      below-more (λ (i : ℕ). nonNeg (valueTo claims (claimPlace predicate i) rows n) ≡ true) count
-      (met-at count (and-left (metTo claims predicate rows n count) _ e))
-      (and-right (metTo claims predicate rows n count) _ e)
-      j
-      (omega arith)
-
-  met-all : (count : ℕ) → ((j : ℕ) → j < count → nonNeg (valueTo claims (claimPlace predicate j) rows n) ≡ true) → metTo claims predicate rows n count ≡ true
-  unfolding metTo
-  met-all zero each = refl
-  met-all (suc count) each = and-both (metTo claims predicate rows n count) _ (met-all count (λ j less. each j (omega arith))) (each count (omega arith))
 
 -- the claims stand at their places, each with a number for each argument
 module _ {claims : List ℤ} (predicate : ℕ) {rows : List ℕ} {xs : List Bytes} (f : Atom) (cs : List Claim) (stands : AtomStands rows 0 xs (f .terms))

@@ -2,10 +2,11 @@
 use mathlib.Core.Path.{_≡_, refl, sym, _∙_, ap}
 use mathlib.Core.Bool.{Bool, true, false}
 use mathlib.Core.List.{List}
-use Prim.Native.Nat.{ℕ, zero, suc, _+_, _-_, _*_, _≤_, _<_, _^_}
+use Prim.Native.Nat.{ℕ, zero, suc, _+_, _*_, _≤_, _<_, _^_}
 use native.Mathlib.Nat.{mul-le-mul}
-use native.Mathlib.Numerals.{add-one, unary-clauses}
+use native.Mathlib.Numerals.{add-one}
 use native.Mathlib.Omega.{arith}
+use borrow.Author.Count.{below-more}
 use lib.IntN.{ℤ, pos, natAbs, _+ℤ_, _*ℤ_}
 use lib.ListN.{getD}
 use lib.Signed.{ltZ, nonNeg}
@@ -13,10 +14,10 @@ use mir.Facts.{toZ-ofZ}
 use mir.Syntax.{w64}
 use mir.Val.{SFits}
 use Rattle.groundwork.proofs.Magnitude.{natAbs-add, natAbs-mul}
-use Rattle.groundwork.proofs.Truth.{and-both, and-not-left, and-not-right}
+use Rattle.groundwork.proofs.Truth.{by-truth, never-both, and-left, and-right, and-both}
 use Rattle.widths.proofs.Kept.{small-fits, small-kept}
 use Rattle.forms.proofs.Signs.{negative, not-negative}
-use Rattle.forms.proofs.Results.{kept, Exact, exact-product, constant-adds}
+use Rattle.forms.proofs.Results.{kept, Exact, exact-product}
 use Rattle.tables.specs.Tables.{claimPlace, rowPlace, SafeClaims, SafeRows}
 use Rattle.facts.specs.Ends.{valueTo, metTo}
 
@@ -55,17 +56,20 @@ module _ (sum number : ℤ) (size : ℕ) (small : (natAbs sum ≤ 2 ^ 40) × (na
   product-small : natAbs (number *ℤ r) ≤ 655284465
   product-small = let most : size ≤ 65535 = omega arith in rw read (omega (arith, natAbs-mul number (pos size), mul-le-mul (small .1) most))
 
-  added : Exact _+ℤ_ sum (number *ℤ r)
-  added = constant-adds sum (number *ℤ r) (omega arith, omega (arith, product-small))
+  sum-kept : kept sum ≡ sum
+  sum-kept = small-kept w64 sum (omega arith)
+
+  exact : SFits w64 (sum +ℤ number *ℤ r)
+  exact = small-fits w64 (sum +ℤ number *ℤ r) (omega (arith, natAbs-add sum (number *ℤ r), product-small))
 
   pub product-fits : SFits w64 (kept number *ℤ kept r)
   product-fits = product .fits
 
   pub sum-fits : SFits w64 (kept sum +ℤ kept (kept number *ℤ kept r))
-  sum-fits = rw (product .result, added .left) (small-fits w64 (sum +ℤ number *ℤ r) (omega (arith, natAbs-add sum (number *ℤ r), product-small)))
+  sum-fits = rw (product .result, sum-kept) exact
 
   pub sum-is : kept (kept sum +ℤ kept (kept number *ℤ kept r)) ≡ sum +ℤ number *ℤ pos size
-  sum-is = rw (product .result, added .left) (toZ-ofZ (small-fits w64 (sum +ℤ number *ℤ r) (omega (arith, natAbs-add sum (number *ℤ r), product-small))) ∙ rw read)
+  sum-is = rw (product .result, sum-kept) (toZ-ofZ exact ∙ rw read)
 
 -- ---- claim after claim
 
@@ -81,17 +85,25 @@ module _ (claims : List ℤ) (predicate : ℕ) (rows : List ℕ) (arity : ℕ) w
   unfolding metTo
   met-more j before here = rw (add-one j) (and-both (metTo claims predicate rows arity j) _ before here)
 
-  -- a claim that is not met, and any number of others
-  unmet-then : (j more : ℕ) → metTo claims predicate rows arity j ≡ false → metTo claims predicate rows arity (j + more) ≡ false
+  -- all of the first are met exactly if each is
+  pub met-at : (count : ℕ) → metTo claims predicate rows arity count ≡ true → (j : ℕ) → j < count → nonNeg (valueOf j) ≡ true
   unfolding metTo
-  unmet-then j zero e = simp unary-clauses e
-  unmet-then j (suc more) e = simp unary-clauses (and-not-left (metTo claims predicate rows arity (j + more)) _ (unmet-then j more e))
+  met-at zero e = λ j less. absurd (omega arith)
+  met-at (suc count) e =
+      λ j less.
+      below-more (λ (i : ℕ). nonNeg (valueOf i) ≡ true) count
+      (met-at count (and-left (metTo claims predicate rows arity count) _ e))
+      (and-right (metTo claims predicate rows arity count) _ e)
+      j
+      (omega arith)
 
-  unmet : (j n : ℕ) → j < n → nonNeg (valueOf j) ≡ false → metTo claims predicate rows arity n ≡ false
+  pub met-all : (count : ℕ) → ((j : ℕ) → j < count → nonNeg (valueOf j) ≡ true) → metTo claims predicate rows arity count ≡ true
   unfolding metTo
-  unmet j n less e =
-      let parts : suc j + (n - suc j) ≡ n = omega arith in
-      rw (← parts) (unmet-then (suc j) (n - suc j) (and-not-right (metTo claims predicate rows arity j) _ e))
+  met-all zero each = refl
+  met-all (suc count) each = and-both (metTo claims predicate rows arity count) _ (met-all count (λ j less. each j (omega arith))) (each count (omega arith))
+
+  unmet : (j count : ℕ) → j < count → nonNeg (valueOf j) ≡ false → metTo claims predicate rows arity count ≡ false
+  unmet j count less e = by-truth (λ (b : Bool). b ≡ false) (metTo claims predicate rows arity count) (λ met. never-both (met-at count met j less) e) (λ no. refl)
 
 -- a turn of the loop over claims: z is the claim's value as the code reads it, and the flag says whether it is below 0
 module _ {claims : List ℤ} {rows : List ℕ} (safe : SafeClaims claims) (small : SafeRows rows) (predicate arity j : ℕ) (few : arity ≤ 8) {place : ℕ} (at : place ≡ claimPlace predicate j)

@@ -1,13 +1,13 @@
 -- The bits of a number, bit 0 the lowest: of two numbers joined by "or", and of a number that has one bit.
 use mathlib.Core.Path.{_≡_, refl, sym, _∙_, ap}
 use mathlib.Core.Bool.{Bool, true, false, _||_}
-use Prim.Native.Nat.{ℕ, zero, suc, _/_, _%_, _^_, _<_, max}
-use native.Mathlib.Nat.{mod-lt, mul-div-cancel, mul-mod-left, pow-suc}
+use Prim.Native.Nat.{ℕ, zero, suc, _/_, _%_, _^_, _<_, suc-le-suc, max}
+use native.Mathlib.Nat.{le-of-suc-le-suc, max-le, mod-lt, mul-div-cancel, mul-mod-left, pow-suc}
 use native.Mathlib.Omega.{arith}
 use lib.Arith.{digits-div, digits-mod}
 use lib.Bits.{bitOr, or-step}
-use lib.Dec.{eqb}
-use Rattle.groundwork.proofs.Truth.{never-both, by-truth, eqb-equal, eqb-unequal, equal-eqb, eqb-different}
+use lib.Dec.{eqb, eqb·zero-suc, eqb·suc-zero, eqb·suc-suc}
+use Rattle.groundwork.proofs.Truth.{never-both}
 
 unfoldable pub bit : ℕ → ℕ → Bool
 bit x zero = eqb (x % 2) 1
@@ -25,10 +25,7 @@ bit-unzero x i has e = never-both has (ap (λ (y : ℕ). bit y i) e ∙ no-bit i
 -- ---- one of two digits
 
 max-small : (a b : ℕ) → a < 2 → b < 2 → max a b < 2
-max-small zero zero h k = omega arith
-max-small zero (suc b) h k = omega arith
-max-small (suc a) zero h k = omega arith
-max-small (suc a) (suc b) h k = omega arith
+max-small a b h k = suc-le-suc (max-le (le-of-suc-le-suc h) (le-of-suc-le-suc k))
 
 max-one : (a b : ℕ) → a < 2 → b < 2 → eqb (max a b) 1 ≡ (eqb a 1 || eqb b 1)
 max-one zero zero h k = refl
@@ -50,16 +47,10 @@ or-bit x y (suc i) =
     let few = max-small (x % 2) (y % 2) (mod-lt x (omega arith)) (mod-lt y (omega arith)) in
     ap (λ (n : ℕ). bit (n / 2) i) (or-step x y) ∙ ap (λ (n : ℕ). bit n i) (digits-div (bitOr (x / 2) (y / 2)) few) ∙ or-bit (x / 2) (y / 2) i
 
-eqb-suc : (i p : ℕ) → eqb i p ≡ eqb (suc i) (suc p)
-eqb-suc i p =
-    by-truth (λ (b : Bool). b ≡ eqb (suc i) (suc p)) (eqb i p)
-    (λ e. sym (equal-eqb (suc i) (suc p) (ap suc (eqb-equal i p e))))
-    (λ e. sym (eqb-different (suc i) (suc p) (λ same. eqb-unequal i p e (omega arith))))
-
 pub one-bit : (p i : ℕ) → bit (2 ^ p) i ≡ eqb i p
 unfolding bit
 one-bit zero zero = refl
-one-bit zero (suc i) = no-bit i ∙ sym (eqb-different (suc i) 0 (λ e. omega arith))
+one-bit zero (suc i) = no-bit i ∙ sym (eqb·suc-zero i)
 one-bit (suc p) zero =
-    ap (λ (n : ℕ). eqb (n % 2) 1) (pow-suc 2 p) ∙ ap (λ (n : ℕ). eqb n 1) (mul-mod-left (2 ^ p) 2) ∙ sym (eqb-different 0 (suc p) (λ e. omega arith))
-one-bit (suc p) (suc i) = ap (λ (n : ℕ). bit (n / 2) i) (pow-suc 2 p) ∙ ap (λ (n : ℕ). bit n i) (mul-div-cancel (2 ^ p) (omega arith)) ∙ one-bit p i ∙ eqb-suc i p
+    ap (λ (n : ℕ). eqb (n % 2) 1) (pow-suc 2 p) ∙ ap (λ (n : ℕ). eqb n 1) (mul-mod-left (2 ^ p) 2) ∙ sym (eqb·zero-suc p)
+one-bit (suc p) (suc i) = ap (λ (n : ℕ). bit (n / 2) i) (pow-suc 2 p) ∙ ap (λ (n : ℕ). bit n i) (mul-div-cancel (2 ^ p) (omega arith)) ∙ one-bit p i ∙ sym (eqb·suc-suc i p)

@@ -17,10 +17,10 @@ use Rattle.tables.specs.Tables.{predicateAt, Declares}
 
 -- ---- the first predicate of a key
 
-sameKey-other : (k l : Key) → (l ≡ k → ⊥) → sameKey k l ≡ false
+pub sameKey-other : (k l : Key) → (l ≡ k → ⊥) → sameKey k l ≡ false
 sameKey-other k l other = by-truth (λ (b : Bool). b ≡ false) (sameKey k l) (λ e. absurd (other (sym (sameKey-equal k l e)))) (λ e. refl)
 
-sameKey-here : (k l : Key) → l ≡ k → sameKey k l ≡ true
+pub sameKey-here : (k l : Key) → l ≡ k → sameKey k l ≡ true
 sameKey-here k l here = subst (λ (m : Key). sameKey m l ≡ true) here (sameKey-refl l)
 
 declared-first : (k : Key) (ps : List Predicate) (i : ℕ) → i < length ps → ((j : ℕ) → j < i → keyOf (predicateAt ps j) ≡ k → ⊥) → keyOf (predicateAt ps i) ≡ k

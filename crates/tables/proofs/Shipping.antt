@@ -1,6 +1,6 @@
 -- The set of the predicates that have a fact: empty at first, and with one fact more.
 use mathlib.Core.Path.{_≡_, refl, sym, _∙_, ap}
-use mathlib.Core.Bool.{Bool, true, false, _||_, or-false, or-assoc}
+use mathlib.Core.Bool.{Bool, _||_, or-false, or-assoc}
 use mathlib.Core.List.{List, [], _∷_, _++_}
 use Prim.Native.Nat.{ℕ, _*_, _%_, _^_, _<_}
 use native.Mathlib.Omega.{arith}
@@ -9,11 +9,12 @@ use lib.Pow.{shl-exact}
 use lib.Dec.{eqb}
 use lib.ListN.{length}
 use Rattle.groundwork.proofs.Bits.{bit, no-bit, bit-unzero, or-bit, one-bit}
-use Rattle.groundwork.proofs.Truth.{by-truth, or-right, eqb-same, eqb-equal, eqb-different}
+use Rattle.groundwork.proofs.Truth.{by-truth, or-right, eqb-same, eqb-equal, eqb-unequal, eqb-different}
 use Rattle.theory.specs.Lists.{isEmpty}
 use Rattle.theory.specs.Packs.{Predicate, Atom, Key, sameKey, keyOf, atomKey}
-use Rattle.theory.proofs.Judging.Keys.{sameKey-refl, sameKey-equal}
+use Rattle.theory.proofs.Reading.Presence.{end-filled}
 use Rattle.tables.specs.Tables.{predicateAt, hasFact, Ships}
+use Rattle.tables.proofs.Lookup.{sameKey-here, sameKey-other}
 
 -- the word that `with_predicate` makes
 pub one-more : (set place : ℕ) → place < 32 → bitOr set (1 * 2 ^ place % 18446744073709551616) ≡ bitOr set (2 ^ place)
@@ -35,21 +36,13 @@ unfolding hasFact
 has-end k [] f = or-false (sameKey k (atomKey f))
 has-end k (g ∷ facts) f = ap (λ (b : Bool). sameKey k (atomKey g) || b) (has-end k facts f) ∙ sym (or-assoc (sameKey k (atomKey g)) (hasFact k facts) (sameKey k (atomKey f)))
 
-end-filled : (facts : List Atom) (f : Atom) → isEmpty (facts ++ (f ∷ [])) ≡ false
-unfolding isEmpty
-end-filled [] f = refl
-end-filled (g ∷ facts) f = refl
-
 module _ (set : ℕ) (ps : List Predicate) (facts : List Atom) (ships : Ships set ps facts) (f : Atom) (place : ℕ) (below : place < length ps) (is : keyOf (predicateAt ps place) ≡ atomKey f) where
   -- only the predicate at its place has the fact's key
   key-at : ((i : ℕ) → i < length ps → keyOf (predicateAt ps i) ≡ keyOf (predicateAt ps place) → i ≡ place) → (i : ℕ) → i < length ps → eqb i place ≡ sameKey (keyOf (predicateAt ps i)) (atomKey f)
   key-at distinct i h =
-      by-truth (λ (b : Bool). eqb i place ≡ b) (sameKey (keyOf (predicateAt ps i)) (atomKey f))
-      (λ e. ap (λ (j : ℕ). eqb j place) (distinct i h (sameKey-equal _ _ e ∙ sym is)) ∙ eqb-same place)
-      (λ e. eqb-different i place (λ same. absurd (apart e same)))
-    where
-      apart : sameKey (keyOf (predicateAt ps i)) (atomKey f) ≡ false → i ≡ place → ⊥
-      apart e same = let true-is : sameKey (keyOf (predicateAt ps i)) (atomKey f) ≡ true = rw (same, is) (sameKey-refl (atomKey f)) in let z : _≡_ {A = ℕ} 0 1 = cc in omega arith
+      by-truth (λ (b : Bool). b ≡ sameKey (keyOf (predicateAt ps i)) (atomKey f)) (eqb i place)
+      (λ e. sym (sameKey-here _ _ (sym is ∙ ap (λ (j : ℕ). keyOf (predicateAt ps j)) (sym (eqb-equal i place e)))))
+      (λ e. sym (sameKey-other _ _ (λ same. eqb-unequal i place e (distinct i h (sym same ∙ sym is)))))
 
   pub ships-more : ((i : ℕ) → i < length ps → keyOf (predicateAt ps i) ≡ keyOf (predicateAt ps place) → i ≡ place) → Ships (bitOr set (2 ^ place)) ps (facts ++ (f ∷ []))
   ships-more distinct = record {

@@ -22,7 +22,7 @@ pub type Claims = [i16; 4608];
 pub type Variables = words::WordTable;
 
 /// The forms of the last rule's arguments, rows of 17 numbers: argument k of atom a from `row_place(a, k)` on. The head is
-/// atom 0, the subgoal at place s atom s + 1.
+/// atom 0, the subgoal at place s atom s + 1. Before there is a rule, atom 0 is the fact of a `G` line.
 pub type Rows = terms::Rows;
 
 /// The weights of an `M` line, nine for each atom: of its constant, then of its arguments.

@@ -1,7 +1,7 @@
 -- Whether there is a value, and whether a list is empty: the tests, and what they say.
 use mathlib.Core.Path.{_≡_, refl}
 use mathlib.Core.Bool.{true, false}
-use mathlib.Core.List.{List, [], _∷_}
+use mathlib.Core.List.{List, [], _∷_, _++_}
 use mathlib.Core.Option.{Option, some, none}
 use Rattle.theory.specs.Lists.{isSome, isEmpty}
 use Rattle.theory.specs.Packs.{Predicate}
@@ -40,6 +40,11 @@ module _ {A : Type 0} where
   unfolding isEmpty
   filled-is [] h = absurd (h refl)
   filled-is (a ∷ l) h = refl
+
+  pub end-filled : (l : List A) (a : A) → isEmpty (l ++ (a ∷ [])) ≡ false
+  unfolding isEmpty
+  end-filled [] a = refl
+  end-filled (b ∷ l) a = refl
 
   pub is-filled : (l : List A) → isEmpty l ≡ false → l ≡ [] → ⊥
   is-filled l e h = never-both (empty-is l h) e
