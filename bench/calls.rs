@@ -8,6 +8,9 @@ use std::hint::black_box;
 /// What a call may use at most.
 pub const STACK_ALLOWED: usize = 32 * 1_024;
 
+/// The bytes of the longest sheet, which is of 64 rules.
+pub const LONGEST_SHEET: usize = 64 * plain::sheets::LINE_BYTES;
+
 /// A call that is known to use more than is allowed, to see that this is noticed.
 pub const DEEP_CALL: usize = 40_000;
 
@@ -29,6 +32,12 @@ fn call_reserve(sample: &mut &Sample) {
     black_box(library::reserve(&sample.text, &sample.query));
 }
 
+/// The page is long enough for every sheet, and is not on the stack that is measured.
+fn call_sheet(sample: &mut &Sample) {
+    let mut page = vec![0; LONGEST_SHEET];
+    black_box(library::sheet(&sample.text, &mut page));
+}
+
 fn call_measure(term: &mut &[u8]) {
     black_box(library::measure(term));
 }
@@ -37,8 +46,8 @@ fn call_deep(_: &mut ()) {
     black_box(&mut [0_u8; DEEP_CALL]);
 }
 
-/// The three calls with the most stack that each used: check and reserve on packs of all kinds, measure on terms.
-pub fn depths(kinds: &[Kind]) -> [Depth; 3] {
+/// The calls with the most stack that each used: measure on terms, the others on packs of all kinds.
+pub fn depths(kinds: &[Kind]) -> [Depth; 4] {
     let samples = || kinds.iter().flat_map(|kind| kind.samples.iter().take(PACKS_TRIED));
     let most = |call: fn(&mut &Sample)| samples().map(|mut sample| stack::depth(call, &mut sample)).max().unwrap_or(0);
     let terms = ["a/0".to_string(), "s/1 X".to_string(), term_of_length(1_024), term_of_length(1_025)];
@@ -47,6 +56,7 @@ pub fn depths(kinds: &[Kind]) -> [Depth; 3] {
         Depth { call: "check", bytes: most(call_check) },
         Depth { call: "reserve", bytes: most(call_reserve) },
         Depth { call: "measure", bytes: measure },
+        Depth { call: "cerrundix_sheet", bytes: most(call_sheet) },
     ]
 }
 

@@ -1,5 +1,6 @@
 //! Asks the library and the plain implementation the same: of each kind's packs, and of copies with a byte changed.
 
+use crate::calls::LONGEST_SHEET;
 use crate::kinds::{Kind, Sample};
 use crate::random::Random;
 use crate::{library, plain};
@@ -12,24 +13,31 @@ const BYTES: &[u8] = b"09,/- \nAXahEM\t";
 /// Numbers that the area is filled with before each check: those that check leaves alone must stay.
 const FILLED: [i64; plain::AREA_NEEDED + 1] = [-77; plain::AREA_NEEDED + 1];
 
-/// What the calls answer: check's word and area, and reserve's word.
+/// The page before each sheet, with a byte that no sheet has: one byte longer than any sheet.
+const BLANK: [u8; LONGEST_SHEET + 1] = [177; LONGEST_SHEET + 1];
+
+/// What the calls answer: check's word and area, reserve's word, and the sheet's numbers and page.
 #[derive(PartialEq)]
 struct Answers {
     check: u64,
     area: [i64; FILLED.len()],
     reserve: u64,
+    sheet: [u64; 4],
+    page: [u8; BLANK.len()],
 }
 
 fn of_library(sample: &Sample) -> Answers {
-    let mut area = FILLED;
+    let (mut area, mut page) = (FILLED, BLANK);
     let check = library::check(&sample.text, &mut area);
-    Answers { check, area, reserve: library::reserve(&sample.text, &sample.query) }
+    let reserve = library::reserve(&sample.text, &sample.query);
+    Answers { check, area, reserve, sheet: library::sheet(&sample.text, &mut page), page }
 }
 
 fn of_plain(sample: &Sample) -> Answers {
-    let mut area = FILLED;
+    let (mut area, mut page) = (FILLED, BLANK);
     let check = plain::word_of_check(plain::check(&sample.text, &mut area));
-    Answers { check, area, reserve: plain::word_of_reserve(plain::reserve(&sample.text, &sample.query)) }
+    let reserve = plain::word_of_reserve(plain::reserve(&sample.text, &sample.query));
+    Answers { check, area, reserve, sheet: plain::sheets::sheet(&sample.text, &mut page), page }
 }
 
 /// Check's four numbers, from the word that C gets.
@@ -40,7 +48,9 @@ fn numbers(word: u64) -> [u64; 4] {
 impl std::fmt::Display for Answers {
     fn fmt(&self, formatter: &mut std::fmt::Formatter) -> std::fmt::Result {
         let [refusal, line, rule, claim] = numbers(self.check);
-        write!(formatter, "{refusal},{line},{rule},{claim}, area {:?}, reserve {:#x}", self.area, self.reserve)
+        write!(formatter, "{refusal},{line},{rule},{claim}, area {:?}, reserve {:#x}", self.area, self.reserve)?;
+        let sheet: Vec<u8> = self.page.iter().copied().filter(|byte| *byte != BLANK[0]).collect();
+        write!(formatter, ", sheet {:?} of {} bytes: {}", self.sheet, sheet.len(), sheet.escape_ascii())
     }
 }
 
@@ -54,13 +64,16 @@ fn same_answers(sample: &Sample) -> Result<Answers, String> {
     }
 }
 
-/// Do both accept all packs of the kind, with the same numbers, and leave the area alone? And is the kind what its name
-/// says? In words, what is not so.
+/// Do both accept all packs of the kind, with the same numbers and the same sheet, and leave the area alone? And is the kind
+/// what its name says? In words, what is not so.
 pub fn compare_packs(kind: &Kind) -> Result<(), String> {
     for sample in &kind.samples {
         let answers = same_answers(sample)?;
         if numbers(answers.check)[0] != 0 || answers.area != FILLED {
             return Err(format!("both refuse it: {answers}"));
+        }
+        if answers.sheet != numbers(answers.check) {
+            return Err(format!("the sheet has not check's numbers: {answers}"));
         }
         if ![b'B', b'N', b'I'].contains(&(answers.reserve as u8)) {
             return Err(format!("both refuse the query: {answers}"));

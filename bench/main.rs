@@ -1,5 +1,5 @@
-//! The benchmark: what a check costs in the project's static library and in the plain implementation of document 01, on
-//! packs of several kinds, and how much stack a call uses.
+//! The benchmark: what a check costs in the project's static library and in the plain implementation of the documents, on
+//! packs of several kinds, what a sheet costs beside a check, and how much stack a call uses.
 //!   bench            sees that both answer alike, then prints the tables of times and the stack
 //!   bench --stack    prints the stack alone
 //!   bench --check    judges, without times: 'ok: ..' or 'FAILED: ..' for each kind and each call; status 1 if one fails

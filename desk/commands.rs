@@ -1,7 +1,7 @@
 //! The commands. A command more is an entry more in the table.
 
 use crate::report::{Misuse, Report};
-use crate::{check, measure, reserve};
+use crate::{check, measure, reserve, sheet};
 use std::ffi::OsStr;
 
 pub struct Command {
@@ -15,7 +15,7 @@ pub struct Command {
     pub run: fn(&[&OsStr]) -> Result<Report, Misuse>,
 }
 
-pub const COMMANDS: [Command; 3] = [
+pub const COMMANDS: [Command; 4] = [
     Command {
         name: "check",
         operands: "PACK",
@@ -54,5 +54,18 @@ Measures each TERM, written as in a pack: 'cons/2 a/0 nil/0', in one argument. O
 for standard input, where terms stand one on a line. Shows the term in the usual notation,
 cons(a,nil), and which symbols make up its size.",
         run: measure::run,
+    },
+    Command {
+        name: "sheet",
+        operands: "PACK",
+        least: 1,
+        most: 1,
+        about: "print an accepted pack's sheet for the job folder",
+        help: "\
+Prints the sheet of the pack in the file PACK (- reads standard input) as the library writes it,
+and nothing else: for each rule a line of 64 columns with the rule's number, its head's name, how
+many subgoals and how many M lines it has. A refused pack has no sheet; it is explained as check
+does.",
+        run: sheet::run,
     },
 ];

@@ -46,6 +46,17 @@ impl<'t> Refusal<'t> {
     }
 }
 
+/// Check's four numbers.
+pub fn numbers_of(verdict: &Verdict) -> [u64; 4] {
+    match *verdict {
+        Verdict::Accepted { lines, rules, multiplier_lines } => {
+            [0, lines.into(), rules.into(), multiplier_lines.into()]
+        }
+        Verdict::Unjustified { line, rule, claim, .. } => [13, line.into(), rule.into(), claim.into()],
+        Verdict::Refused { number, line } => [number.into(), line.into(), 0, 0],
+    }
+}
+
 pub fn status(verdict: &Verdict, finding: &Result<Finding, Disagreement>) -> Status {
     match (finding, verdict) {
         (Err(_), _) => Status::Disagreement,

@@ -2,7 +2,7 @@
 
 use crate::claims::inequality;
 use crate::facts::{judge, FactJudgement, FailedClaim};
-use crate::findings::{Refusal, Working};
+use crate::findings::{numbers_of, Refusal, Working};
 use crate::forms::Form;
 use crate::input::Source;
 use crate::json::Json;
@@ -13,20 +13,12 @@ use cerrundix::Verdict;
 
 /// The entries that every answer on a pack begins with.
 pub fn verdict_json(command: &str, source: &Source, verdict: &Verdict) -> Json {
-    let (answer, numbers) = match *verdict {
-        Verdict::Accepted { lines, rules, multiplier_lines } => {
-            ("accepted", [0, i64::from(lines), i64::from(rules), i64::from(multiplier_lines)])
-        }
-        Verdict::Unjustified { line, rule, claim, .. } => {
-            ("refused", [13, i64::from(line), i64::from(rule), i64::from(claim)])
-        }
-        Verdict::Refused { number, line } => ("refused", [i64::from(number), i64::from(line), 0, 0]),
-    };
+    let is_accepted = matches!(verdict, Verdict::Accepted { .. });
     Json::object([
         ("command", Json::text(command)),
         ("pack", Json::text(&source.shown)),
-        ("answer", Json::text(answer)),
-        ("numbers", Json::numbers(&numbers)),
+        ("answer", Json::text(if is_accepted { "accepted" } else { "refused" })),
+        ("numbers", Json::List(numbers_of(verdict).map(Json::number).into())),
     ])
 }
 

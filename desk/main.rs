@@ -1,5 +1,5 @@
 //! packdesk: says in words what the library answers of a pack, a query or a term, for those who write packs. Verdicts,
-//! bounds and sizes are the library's alone. What this program works out to explain them is compared with them at every
+//! bounds, sizes and sheets are the library's alone. What this program works out to explain them is compared with them at every
 //! run; where the two differ it says so, and ends with status 3.
 
 mod arguments;
@@ -25,6 +25,7 @@ mod quoting;
 mod report;
 mod reserve;
 mod residuals;
+mod sheet;
 mod terms;
 mod tokens;
 mod words;

@@ -58,6 +58,11 @@ impl Page {
         self.add(Style::Plain, wrapped(indent, indent + 2, text));
     }
 
+    /// Text that is printed as it is, without wrapping.
+    pub fn exactly(&mut self, text: &str) {
+        self.add(Style::Plain, text);
+    }
+
     /// What to mend.
     pub fn mend(&mut self, indent: usize, text: &str) {
         let rows = wrapped(indent, indent, &format!("To mend: {text}"));

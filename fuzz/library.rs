@@ -1,4 +1,13 @@
-//! The project's static library as C sees it: three functions, each with an answer of one 64-bit word.
+//! The project's static library as C sees it: three functions with an answer of one 64-bit word, and one with an answer of
+//! four.
+
+#[repr(C)]
+struct FourNumbers {
+    number: u64,
+    line: u64,
+    rule: u64,
+    claim: u64,
+}
 
 #[link(name = "cerrundix", kind = "static")]
 extern "C" {
@@ -8,6 +17,8 @@ extern "C" {
     fn library_reserve(text: *const u8, text_length: usize, query: *const u8, query_length: usize) -> u64;
     #[link_name = "measure"]
     fn library_measure(term: *const u8, term_length: usize) -> u64;
+    #[link_name = "cerrundix_sheet"]
+    fn library_sheet(text: *const u8, text_length: usize, page: *mut u8, page_length: usize) -> FourNumbers;
 }
 
 pub fn check(text: &[u8], area: &mut [i64]) -> u64 {
@@ -23,4 +34,10 @@ pub fn reserve(text: &[u8], query: &[u8]) -> u64 {
 pub fn measure(term: &[u8]) -> u64 {
     // Safe: as above.
     unsafe { library_measure(term.as_ptr(), term.len()) }
+}
+
+pub fn sheet(text: &[u8], page: &mut [u8]) -> [u64; 4] {
+    // Safe: as above.
+    let four = unsafe { library_sheet(text.as_ptr(), text.len(), page.as_mut_ptr(), page.len()) };
+    [four.number, four.line, four.rule, four.claim]
 }

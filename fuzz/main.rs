@@ -24,6 +24,12 @@ const SHOWN_DIFFERENCES: u64 = 5;
 /// Among the accepted packs, those with facts are counted a second time under this name.
 const ACCEPTED_WITH_FACTS: &str = "check 0 with facts";
 
+/// Among the sheets that were written, the shortest and the longest are counted a second time under these names; those of
+/// refused packs, which leave the page, under the last.
+const SHEET_WITHOUT_RULES: &str = "sheet 0 without rules";
+const LONGEST_SHEET: &str = "sheet 0 of 64 rules";
+const SHEET_OF_REFUSED: &str = "sheet (refused pack)";
+
 /// The pack in work, so that a panic can name it.
 static CURRENT_PACK: AtomicU64 = AtomicU64::new(0);
 
@@ -151,6 +157,19 @@ fn make_query(random: &mut Random, pack: &Pack) -> Vec<u8> {
     }
 }
 
+/// A page for a sheet with as many lines as the text has heads: mostly as long as that, or nearly.
+fn make_page(random: &mut Random, text: &[u8]) -> Vec<u8> {
+    let due = plain::sheets::LINE_BYTES * count_lines(text, b"H,");
+    let length = match random.below(100) {
+        0..=49 => due,
+        50..=69 => due.saturating_sub(1),
+        70..=84 => due + 1 + random.below(2 * plain::sheets::LINE_BYTES),
+        85..=89 => 0,
+        _ => random.below(due + plain::sheets::LINE_BYTES),
+    };
+    (0..length).map(|_| random.next() as u8).collect()
+}
+
 fn make_term(random: &mut Random) -> Vec<u8> {
     let term = generate::measured_term(random);
     if random.chance(70) {
@@ -167,13 +186,13 @@ fn ask_about_pack(random: &mut Random, number: u64, tally: &mut Tally) {
     let pack = make_pack(random);
     tally.bytes += pack.text.len() as u64;
     let guard = random.pick(b"09aAM,/ -\n\x00\xFF");
-    let (area, query) = (make_area(random), Vec::new());
-    let check = Question { call: Call::Check, text: pack.text.clone(), area, query, guard };
+    let (area, query, page) = (make_area(random), Vec::new(), Vec::new());
+    let check = Question { call: Call::Check, text: pack.text.clone(), area, query, page, guard };
     let answer = compare(&check, number, tally);
     tally.count(format!("check {}", answer.word & 255));
 
     let accepted = answer.word & 255 == 0;
-    if accepted && has_facts(&pack.text) {
+    if accepted && count_lines(&pack.text, b"G,") > 0 {
         tally.count(ACCEPTED_WITH_FACTS.to_string());
     }
     for _ in 0..if accepted { 4 } else { 1 } {
@@ -184,14 +203,32 @@ fn ask_about_pack(random: &mut Random, number: u64, tally: &mut Tally) {
     }
     for _ in 0..2 {
         let text = make_term(random);
-        let measure = Question { call: Call::Measure, text, area: Vec::new(), query: Vec::new(), guard };
+        let measure = Question { call: Call::Measure, text, area: Vec::new(), ..check.clone() };
         let answer = compare(&measure, number, tally);
         tally.count(format!("measure {}", answer.word & 255));
     }
+    let page = make_page(random, &pack.text);
+    let sheet = Question { call: Call::Sheet, area: Vec::new(), page, ..check };
+    let answer = compare(&sheet, number, tally);
+    count_sheet(answer.numbers, tally);
 }
 
-fn has_facts(text: &[u8]) -> bool {
-    text.split(|byte| *byte == 10).any(|line| line.starts_with(b"G,"))
+/// How many lines of the text begin so.
+fn count_lines(text: &[u8], beginning: &[u8]) -> usize {
+    text.split(|byte| *byte == 10).filter(|line| line.starts_with(beginning)).count()
+}
+
+/// A pack's own refusals are one kind of answer here: check is asked about each of them.
+fn count_sheet(numbers: [u64; 4], tally: &mut Tally) {
+    match numbers {
+        [0 | 23, ..] => tally.count(format!("sheet {}", numbers[0])),
+        _ => tally.count(SHEET_OF_REFUSED.to_string()),
+    }
+    match numbers {
+        [0, _, 0, _] => tally.count(SHEET_WITHOUT_RULES.to_string()),
+        [0, _, 64, _] => tally.count(LONGEST_SHEET.to_string()),
+        _ => {}
+    }
 }
 
 /// A refusal of an accepted pack's query is named by its number.
@@ -233,6 +270,9 @@ fn show_difference(question: &Question, number: u64) {
     if question.call == Call::Reserve {
         println!("  query {}", hexadecimal(&question.query));
     }
+    if question.call == Call::Sheet {
+        println!("  page  {}", hexadecimal(&question.page));
+    }
     show_answers(question);
 }
 
@@ -248,6 +288,7 @@ fn show_question(question: &Question, number: u64) {
         }
         Call::Reserve => println!("reserve {}", question.query.escape_ascii()),
         Call::Measure => println!("measure {}", question.text.escape_ascii()),
+        Call::Sheet => println!("sheet on a page of {}:", question.page.len()),
     }
     show_answers(question);
 }
@@ -270,6 +311,10 @@ fn show_answer(side: &str, call: Call, answer: &Answer) {
         ),
         Call::Reserve => println!("  {side}: {},{},{}", (word as u8) as char, word >> 16, word >> 8 & 0xFF),
         Call::Measure => println!("  {side}: refusal {}, size {}", word & 0xFF, word >> 8),
+        Call::Sheet => {
+            let [number, line, rule, claim] = answer.numbers;
+            println!("  {side}: {number},{line},{rule},{claim}, page {}", hexadecimal(&answer.page));
+        }
     }
     if !answer.rest_is_unchanged {
         println!("  {side}: wrote to memory that it may not change");
@@ -287,7 +332,8 @@ fn needed_answers() -> Vec<String> {
     let letters = ["B", "N", "I"].iter().map(|letter| format!("reserve {letter}"));
     let refusals = [4, 14, 15, 16, 17, 18].iter().map(|number| format!("reserve R {number}"));
     let measure = [0, 4, 11, 19].iter().map(|number| format!("measure {number}"));
-    check.chain(letters).chain(refusals).chain(measure).collect()
+    let sheet = ["sheet 0", "sheet 23", SHEET_OF_REFUSED, SHEET_WITHOUT_RULES, LONGEST_SHEET].map(String::from);
+    check.chain(letters).chain(refusals).chain(measure).chain(sheet).collect()
 }
 
 /// Prints how often each answer occurred.

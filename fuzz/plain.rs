@@ -1,9 +1,11 @@
-//! Document 01, with 02's 1/14, in plain Rust: `check`, `reserve` and `measure`, written from the documents' words and
-//! not from the code under `crates/`. The fuzz test compares the project's library with it, so it aims at being easy to
+//! Document 01, with 02's 1/14 and 2/14, in plain Rust: `check`, `reserve`, `measure` and `sheet`, written from the
+//! documents' words and not from the code under `crates/`. The fuzz test compares the project's library with it, so it aims at being easy to
 //! compare with the documents, not at speed. All arithmetic on forms is checked: an overflow stops the test.
 
 #[path = "plain_queries.rs"]
 mod queries;
+#[path = "plain_sheet.rs"]
+pub mod sheets;
 #[path = "plain_terms.rs"]
 mod terms;
 
@@ -23,7 +25,7 @@ const VARIABLES: usize = 16;
 const NAME_BYTES: usize = 16;
 
 // ---------------------------------------------------------------------------------------------------------------
-// The three calls.
+// The calls. The sheet has a file of its own.
 
 /// Judges the pack. Returns check's four numbers; changes the area's first 17 numbers for 13 only.
 pub fn check(text: &[u8], area: &mut [i64]) -> [u64; 4] {

@@ -7,6 +7,7 @@ pub enum Call {
     Check,
     Reserve,
     Measure,
+    Sheet,
 }
 
 #[derive(Clone)]
@@ -18,16 +19,23 @@ pub struct Question {
     pub area: Vec<i64>,
     /// For `reserve`.
     pub query: Vec<u8>,
+    /// The page at entry, for `sheet`.
+    pub page: Vec<u8>,
     /// The byte that stands before and after the lent texts, many times: the answer must not depend on it.
     pub guard: u8,
 }
 
 #[derive(Clone, PartialEq)]
 pub struct Answer {
+    /// Of the calls that answer with a word.
     pub word: u64,
+    /// Of the sheet.
+    pub numbers: [u64; 4],
     /// The area at exit.
     pub area: Vec<i64>,
-    /// Whether all memory but the area has stayed as it was.
+    /// The page at exit.
+    pub page: Vec<u8>,
+    /// Whether all memory but the area and the page has stayed as it was.
     pub rest_is_unchanged: bool,
 }
 
@@ -71,23 +79,29 @@ impl Question {
         let text = Lent::new(&self.text, self.guard);
         let query = Lent::new(&self.query, self.guard);
         let mut area = Lent::new(&self.area, GUARD_NUMBER);
-        let word = match self.call {
-            Call::Check => library::check(text.inner(), area.inner_mut()),
-            Call::Reserve => library::reserve(text.inner(), query.inner()),
-            Call::Measure => library::measure(text.inner()),
-        };
-        let rest_is_unchanged = text.is_unchanged() && query.is_unchanged() && area.guards_are_unchanged();
-        Answer { word, area: area.inner().to_vec(), rest_is_unchanged }
+        let mut page = Lent::new(&self.page, self.guard);
+        let (mut word, mut numbers) = (0, [0; 4]);
+        match self.call {
+            Call::Check => word = library::check(text.inner(), area.inner_mut()),
+            Call::Reserve => word = library::reserve(text.inner(), query.inner()),
+            Call::Measure => word = library::measure(text.inner()),
+            Call::Sheet => numbers = library::sheet(text.inner(), page.inner_mut()),
+        }
+        let are_texts_unchanged = text.is_unchanged() && query.is_unchanged();
+        let rest_is_unchanged = are_texts_unchanged && area.guards_are_unchanged() && page.guards_are_unchanged();
+        Answer { word, numbers, area: area.inner().to_vec(), page: page.inner().to_vec(), rest_is_unchanged }
     }
 
     pub fn ask_plain(&self) -> Answer {
-        let mut area = self.area.clone();
-        let word = match self.call {
-            Call::Check => plain::word_of_check(plain::check(&self.text, &mut area)),
-            Call::Reserve => plain::word_of_reserve(plain::reserve(&self.text, &self.query)),
-            Call::Measure => plain::word_of_measure(plain::measure(&self.text)),
-        };
-        Answer { word, area, rest_is_unchanged: true }
+        let (mut area, mut page) = (self.area.clone(), self.page.clone());
+        let (mut word, mut numbers) = (0, [0; 4]);
+        match self.call {
+            Call::Check => word = plain::word_of_check(plain::check(&self.text, &mut area)),
+            Call::Reserve => word = plain::word_of_reserve(plain::reserve(&self.text, &self.query)),
+            Call::Measure => word = plain::word_of_measure(plain::measure(&self.text)),
+            Call::Sheet => numbers = plain::sheets::sheet(&self.text, &mut page),
+        }
+        Answer { word, numbers, area, page, rest_is_unchanged: true }
     }
 
     fn has_two_answers(&self) -> bool {

@@ -1,13 +1,13 @@
-/* Cerrundix: checks the size claims of a rule pack, reserves by them, measures ground terms.
+/* Cerrundix: checks the size claims of a rule pack, reserves by them, measures ground terms, writes a pack's sheet.
  *
  * Link with libcerrundix.a (`scripts/prepare library` makes it, for x86-64 Linux). The library keeps no state, so threads
  * may call it at the same time; it takes no memory from the heap, and calls nothing but memset and memcpy. Each call
- * returns, whatever the bytes, given enough stack (check and reserve used 17,592 bytes at most, measure 1,944: bench/README.md);
- * no call reads or writes outside the buffers that it is lent. What each word means is proved against document 01
- * (docs/MAP.md).
+ * returns, whatever the bytes, given enough stack (check, reserve and the sheet used 17,592 bytes at most, measure 1,944:
+ * bench/README.md); no call reads or writes outside the buffers that it is lent. What each answer means is proved against
+ * documents 01 and 02 (docs/MAP.md).
  *
  * A buffer is a pointer and a length. A buffer of length 0 may be lent as NULL and 0. No buffer needs to end with a zero
- * byte. The residual area must not overlap the text.
+ * byte. What a call may write to, the residual area or the page, must not overlap the text.
  */
 #ifndef CERRUNDIX_H
 #define CERRUNDIX_H
@@ -27,6 +27,10 @@ extern "C" {
 #define CERRUNDIX_PACK_LIMIT 32768
 #define CERRUNDIX_LINE_LIMIT 1024
 
+/* The bytes that a rule takes on the sheet, and those of the longest sheet, which is of 64 rules. */
+#define CERRUNDIX_SHEET_LINE 65
+#define CERRUNDIX_SHEET_LIMIT (64 * CERRUNDIX_SHEET_LINE)
+
 /* Checks a pack. The area holds at least CERRUNDIX_AREA numbers; it changes only for refusal 13, and then only its first
  * CERRUNDIX_AREA numbers. Take the word apart with cerrundix_number, _line, _rule, _claim:
  *   number 0: accepted; line, rule and claim hold the counts of lines, rules and `M` lines (cerrundix_lines and so on)
@@ -45,6 +49,47 @@ uint64_t reserve(const uint8_t *text, size_t text_length, const uint8_t *query, 
 /* Measures a ground term. Writes to no lent memory. Take the word apart with cerrundix_refusal and _size: refusal 0 and the
  * size, or 4, 11 or 19 and size 0. */
 uint64_t measure(const uint8_t *term, size_t term_length);
+
+/* Four numbers, returned by value. Where `number` is 0 the others hold counts, which the call names; else they are those
+ * of a refusal, see cerrundix_reason. */
+struct cerrundix_answer {
+    uint64_t number, line, rule, claim;
+};
+
+/* Writes the sheet of a pack to the front of a page, for the job folder: for each rule a line of 64 columns and byte 10,
+ * so CERRUNDIX_SHEET_LINE bytes a rule. From the left a line has
+ *    4 columns   the rule's number in the pack, from 1, at their right edge
+ *   16           the name of its head, at their left edge; no arity
+ *    2           how many subgoals it has, at their right edge
+ *    3           how many `M` lines it has, at their right edge
+ * with a space between them, and spaces up to column 64. There is no zero byte at the end. The answer is
+ *   number 0: the sheet is written; line, rule and claim hold check's counts of lines, rules and `M` lines. So the sheet
+ *   has rule * CERRUNDIX_SHEET_LINE bytes; what lies after it on the page is unchanged
+ *   number 2 to 13, 20 to 22: the pack is refused; the four numbers are check's. There is no area here: 13 leaves no
+ *   residual, ask check for it
+ *   number 23: the pack is accepted, and the page is shorter than its sheet; line, rule and claim are 0
+ * A refusal leaves the whole page as it was, and a pack's own comes before 23. A page of CERRUNDIX_SHEET_LIMIT bytes is
+ * long enough for every pack; a pack without rules needs none, and NULL and 0 will do. */
+struct cerrundix_answer cerrundix_sheet(const uint8_t *text, size_t text_length, uint8_t *page, size_t page_length);
+
+/* The first three calls by prefixed names, for code that has the prefix everywhere. Where a name is a macro, as when the
+ * archive's own names are changed (README.md), the declaration above has the name that it stands for, and there is none
+ * here. */
+#ifndef check
+static inline uint64_t cerrundix_check(const uint8_t *text, size_t text_length, int64_t *area, size_t area_length) {
+    return check(text, text_length, area, area_length);
+}
+#endif
+#ifndef reserve
+static inline uint64_t cerrundix_reserve(const uint8_t *text, size_t text_length, const uint8_t *query, size_t query_length) {
+    return reserve(text, text_length, query, query_length);
+}
+#endif
+#ifndef measure
+static inline uint64_t cerrundix_measure(const uint8_t *term, size_t term_length) {
+    return measure(term, term_length);
+}
+#endif
 
 /* The word of check: the numbers times 1, 2^8, 2^24, 2^32. */
 static inline unsigned cerrundix_number(uint64_t word) { return (unsigned)(word & 0xff); }
@@ -82,7 +127,7 @@ static inline const char *cerrundix_reason(unsigned number) {
     case 10: return "an arity, kind, claim number or multiplier is malformed or out of range";
     case 11: return "a field is no term: each symbol needs its arity and that many terms, parted by single spaces";
     case 12: return "the line passes a count limit";
-    case 13: return "a claim is not justified, the area holds the residual: other multipliers, one more claim on a subgoal, another base case, or a weaker claim";
+    case 13: return "a claim is not justified, check's area holds the residual: other multipliers, one more claim on a subgoal, another base case, or a weaker claim";
     case 14: return "the query's name is missing, malformed or not declared";
     case 15: return "the query has not two fields more than the predicate has arguments";
     case 16: return "the asked argument is malformed, or the predicate has none of that number";
@@ -92,6 +137,7 @@ static inline const char *cerrundix_reason(unsigned number) {
     case 20: return "a G line names a ruled predicate: make the predicate G, or the fact a rule without subgoals";
     case 21: return "a fact on a G line has a variable: a constant starts with a small letter and has its arity";
     case 22: return "a fact on a G line fails a claim on its predicate: correct the fact or weaken the claim";
+    case 23: return "the page is shorter than the sheet, 65 bytes for each rule: lend a longer one, 4,160 bytes do for every pack";
     default: return "no refusal of this library";
     }
 }

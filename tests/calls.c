@@ -1,6 +1,7 @@
 // Calls the library as the terminal's firmware does, and runs the program packcheck, on the cases of vector files
-// (tests/vectors/README.md says what their lines are). Answers are compared whole: each word, check's area at exit, the
-// program's output. All that a call is lent stands between guard bytes, and nothing may be written but check's area.
+// (tests/vectors/README.md says what their lines are). Answers are compared whole: each word, the sheet's four numbers,
+// check's area and the sheet's page at exit, the program's output. All that a call is lent stands between guard bytes, and
+// nothing may be written but check's area and the page.
 //
 //     calls PROGRAM FILE...
 //
@@ -63,6 +64,26 @@ static void compare_area(struct lent area, struct bytes at_exit)
         if (got[i] != expected[i])
             fail("number %td of the area, which has %zu: expected %" PRId64 ", got %" PRId64,
                  (ptrdiff_t)(i - before) + 1, count, expected[i], got[i]);
+}
+
+// A page of so many bytes to write on. It is filled with bytes above 127, another one at each place, and no sheet has such:
+// so a byte that is not written shows, and one that is written where no sheet lies.
+static struct lent lend_page(size_t length)
+{
+    struct bytes page = no_bytes();
+    for (size_t i = 0; i < length; i++)
+        append_byte(&page, (uint8_t)(128 + (37 * i + 11) % 128));
+    return lend(page, TEXT_GUARD);
+}
+
+// Sees that the sheet lies at the front of the page, and that nothing was written after it or beside the page.
+static void compare_page(struct lent page, struct bytes sheet)
+{
+    memcpy(page.expected + page.guard, sheet.at, sheet.length);
+    for (size_t i = 0; i < page.guard + page.length + page.guard; i++)
+        if (page.block[i] != page.expected[i])
+            fail("byte %td of the page, which has %zu, counted from 0: expected %d, got %d", (ptrdiff_t)(i - page.guard),
+                 page.length, page.expected[i], page.block[i]);
 }
 
 // ---- The calls
@@ -129,6 +150,30 @@ static void try_measure(struct reader *reader)
         fail("expected %" PRIu64 ",%" PRIu64 ", got %" PRIu64 ",%" PRIu64 " (word 0x%" PRIx64 ")", refusal, size,
              word & 0xff, word >> 8, word);
     compare_unwritten(lent, "term");
+}
+
+// `sheet TEXT ROOM NUMBERS SHEET`: how many bytes the page has, the four numbers, and the sheet, of no bytes where none is
+// written.
+static void try_sheet(struct reader *reader)
+{
+    struct bytes text = read_bytes(reader);
+    next_field(reader);
+    size_t room = read_part(reader, 20);
+    next_field(reader);
+    uint64_t number = read_part(reader, 63), line = read_next_part(reader, 63);
+    uint64_t rule = read_next_part(reader, 63), claim = read_next_part(reader, 63);
+    struct bytes sheet = read_bytes(reader);
+    if (sheet.length > room)
+        misread(reader, "the sheet has more bytes than there is room");
+    if (!understood(reader))
+        return;
+    struct lent lent = lend(text, TEXT_GUARD), page = lend_page(room);
+    struct cerrundix_answer got = cerrundix_sheet(lent_bytes(lent), text.length, lent_bytes(page), room);
+    if (got.number != number || got.line != line || got.rule != rule || got.claim != claim)
+        fail("expected %" PRIu64 ",%" PRIu64 ",%" PRIu64 ",%" PRIu64 ", got %" PRIu64 ",%" PRIu64 ",%" PRIu64 ",%" PRIu64,
+             number, line, rule, claim, got.number, got.line, got.rule, got.claim);
+    compare_page(page, sheet);
+    compare_unwritten(lent, "text");
 }
 
 // ---- The program
@@ -230,7 +275,11 @@ static void name_bytes(struct reader *reader)
 static const struct {
     const char *name;
     void (*attempt)(struct reader *);
-} calls[] = {{"check", try_check}, {"reserve", try_reserve}, {"measure", try_measure}, {"program", try_program}};
+} calls[] = {{"check", try_check},
+             {"reserve", try_reserve},
+             {"measure", try_measure},
+             {"sheet", try_sheet},
+             {"program", try_program}};
 enum { CALLS = sizeof calls / sizeof calls[0] };
 
 // Tries the case that a line holds, if it is one, and counts it if it passes.
@@ -254,7 +303,7 @@ static void try_line(const char *line, size_t passed[CALLS])
             passed[i] += line_failed ? 0 : 1;
             return;
         }
-    fail("a line begins with check, reserve, measure, program, let or #: '%.40s'", line);
+    fail("a line begins with check, reserve, measure, sheet, program, let or #: '%.40s'", line);
 }
 
 // Tries each line of a file's text, which it cuts at byte 10.
@@ -298,8 +347,8 @@ static void try_file(const char *name)
         fail("not one case of it passed");
 }
 
-// Buffers of length 0 lent as NULL, as cerrundix.h allows: check refuses for the area and then for the text, reserve for
-// the pack, measure for the term.
+// Buffers of length 0 lent as NULL, as cerrundix.h allows: check refuses for the area and then for the text, reserve and the
+// sheet for the pack, measure for the term; the sheet of a pack without rules needs no page.
 static void try_null(void)
 {
     int64_t area[CERRUNDIX_AREA] = {0};
@@ -313,8 +362,10 @@ static void try_null(void)
         fail("reserve of an empty pack gives another word than that of R,3,0");
     else if (measure(NULL, 0) != 11)
         fail("measure of an empty term gives another word than 11");
+    else if (cerrundix_sheet(NULL, 0, NULL, 0).number != 3 || cerrundix_sheet((const uint8_t *)"E\n", 2, NULL, 0).number != 0)
+        fail("the sheet's number is another than 3 of an empty pack and 0 of one without rules");
     else
-        printf("ok: 4 calls on empty buffers lent as NULL\n");
+        printf("ok: 6 calls on empty buffers lent as NULL\n");
 }
 
 int main(int count, char **words)

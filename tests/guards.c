@@ -1,6 +1,6 @@
 // Stands between a caller and the library: each lent buffer is copied between guard bytes, the real call is made on the
-// copy, and it is seen that the guards stand, that nothing was written but the area, and no more of that than document 01
-// allows. The linker puts these functions in front of the calls (--wrap), so the callers need not know of them.
+// copy, and it is seen that the guards stand, that nothing was written but the area or the page, and no more of those than
+// the documents allow. The linker puts these functions in front of the calls (--wrap), so the callers need not know of them.
 #include "cerrundix.h"
 
 #include <stdio.h>
@@ -10,9 +10,11 @@
 uint64_t __real_check(const uint8_t *text, size_t text_length, int64_t *area, size_t area_length);
 uint64_t __real_reserve(const uint8_t *text, size_t text_length, const uint8_t *query, size_t query_length);
 uint64_t __real_measure(const uint8_t *term, size_t term_length);
+struct cerrundix_answer __real_cerrundix_sheet(const uint8_t *text, size_t text_length, uint8_t *page, size_t page_length);
 uint64_t __wrap_check(const uint8_t *text, size_t text_length, int64_t *area, size_t area_length);
 uint64_t __wrap_reserve(const uint8_t *text, size_t text_length, const uint8_t *query, size_t query_length);
 uint64_t __wrap_measure(const uint8_t *term, size_t term_length);
+struct cerrundix_answer __wrap_cerrundix_sheet(const uint8_t *text, size_t text_length, uint8_t *page, size_t page_length);
 
 enum { GUARD = 64, FILL = 0xa5 };
 
@@ -76,4 +78,19 @@ uint64_t __wrap_measure(const uint8_t *term, size_t term_length) {
     uint64_t word = __real_measure(lent, term_length);
     take_back(lent, term, NULL, term_length);
     return word;
+}
+
+struct cerrundix_answer __wrap_cerrundix_sheet(const uint8_t *text, size_t text_length, uint8_t *page, size_t page_length) {
+    uint8_t *lent_text = lend(text, text_length), *lent_page = lend(page, page_length);
+    struct cerrundix_answer answer = __real_cerrundix_sheet(lent_text, text_length, lent_page, page_length);
+    size_t written = answer.number == 0 ? answer.rule * CERRUNDIX_SHEET_LINE : 0;
+    if (written > page_length) {
+        fail("the sheet has more bytes than the page");
+    }
+    if (page_length != written && memcmp(lent_page + written, page + written, page_length - written) != 0) {
+        fail("the sheet's call wrote more of the page than it may");
+    }
+    take_back(lent_text, text, NULL, text_length);
+    take_back(lent_page, page, page, page_length);
+    return answer;
 }

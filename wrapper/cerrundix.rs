@@ -1,10 +1,20 @@
 //! A safe wrapper over libcerrundix.a, with no dependencies: the answers as enums, the residual by value.
 
 mod calls {
+    /// Four numbers by value: 0 and counts, or those of a refusal.
+    #[repr(C)]
+    pub struct Answer {
+        pub number: u64,
+        pub line: u64,
+        pub rule: u64,
+        pub claim: u64,
+    }
+
     extern "C" {
         pub fn check(text: *const u8, text_length: usize, area: *mut i64, area_length: usize) -> u64;
         pub fn reserve(text: *const u8, text_length: usize, query: *const u8, query_length: usize) -> u64;
         pub fn measure(term: *const u8, term_length: usize) -> u64;
+        pub fn cerrundix_sheet(text: *const u8, text_length: usize, page: *mut u8, page_length: usize) -> Answer;
     }
 }
 
@@ -26,6 +36,22 @@ pub enum Reservation {
     Impossible { claim: u8 },
     /// The pack's number (2 to 13, 20 to 22) or the query's (4, 14 to 18).
     Refused { number: u8 },
+}
+
+/// The bytes that a rule takes on the sheet, its byte 10 among them.
+pub const SHEET_LINE: usize = 65;
+
+/// The bytes of the longest sheet, which is of 64 rules.
+pub const SHEET_LIMIT: usize = 64 * SHEET_LINE;
+
+#[derive(Debug, PartialEq)]
+pub enum Filing {
+    /// The sheet stands at the front of the page, `SHEET_LINE` bytes for each rule. The counts are check's.
+    Filed { lines: u64, rules: u64, multiplier_lines: u64 },
+    /// The pack is accepted, and the page is shorter than its sheet (23).
+    ShortPage,
+    /// The pack is refused, with check's numbers: rule and claim are 0 but for 13.
+    Refused { number: u64, line: u64, rule: u64, claim: u64 },
 }
 
 /// Checks a pack.
@@ -61,5 +87,18 @@ pub fn measure(term: &[u8]) -> Result<u64, u8> {
     match word as u8 {
         0 => Ok(word >> 8),
         refusal => Err(refusal),
+    }
+}
+
+/// Writes the sheet of a pack to the front of a page: a line of 64 columns and byte 10 for each rule. The rest of the page
+/// stays as it is, and all of it unless the sheet is filed. A page of `SHEET_LIMIT` bytes is long enough for every pack.
+pub fn sheet(pack: &[u8], page: &mut [u8]) -> Filing {
+    // Safe: both buffers are live for the call and do not overlap, and the library stays within their lengths.
+    let answer = unsafe { calls::cerrundix_sheet(pack.as_ptr(), pack.len(), page.as_mut_ptr(), page.len()) };
+    let calls::Answer { number, line, rule, claim } = answer;
+    match (number, line, rule, claim) {
+        (0, lines, rules, multiplier_lines) => Filing::Filed { lines, rules, multiplier_lines },
+        (23, 0, 0, 0) => Filing::ShortPage,
+        _ => Filing::Refused { number, line, rule, claim },
     }
 }

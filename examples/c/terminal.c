@@ -1,4 +1,5 @@
-/* A terminal's part of the work: load a pack, check it, say why it is refused, reserve for a query and take the memory.
+/* A terminal's part of the work: load a pack, check it, say why it is refused, reserve for a query and take the memory,
+ * and print the pack's sheet for the job folder.
  *
  *   terminal PACK QUERY
  *
@@ -43,7 +44,7 @@ static void say_refusal(uint64_t word, const int64_t *area) {
 /* Checks the pack; 1 if it is accepted. */
 static int is_accepted(const uint8_t *text, size_t length) {
     int64_t area[CERRUNDIX_AREA];
-    uint64_t word = check(text, length, area, CERRUNDIX_AREA);
+    uint64_t word = cerrundix_check(text, length, area, CERRUNDIX_AREA);
     if (cerrundix_number(word) != 0) {
         say_refusal(word, area);
         return 0;
@@ -54,7 +55,7 @@ static int is_accepted(const uint8_t *text, size_t length) {
 
 /* Reserves for a query: a list of size s is kept in s / 2 cells, since each cons adds two edges. */
 static int reserve_cells(const uint8_t *text, size_t length, const char *query) {
-    uint64_t word = reserve(text, length, (const uint8_t *)query, strlen(query));
+    uint64_t word = cerrundix_reserve(text, length, (const uint8_t *)query, strlen(query));
     switch (cerrundix_letter(word)) {
     case 'B': {
         uint64_t cells = cerrundix_middle(word) / 2;
@@ -69,6 +70,17 @@ static int reserve_cells(const uint8_t *text, size_t length, const char *query) 
     }
 }
 
+/* Prints the sheet of an accepted pack; the page has room for the sheet of any. */
+static void print_sheet(const uint8_t *text, size_t length) {
+    uint8_t page[CERRUNDIX_SHEET_LIMIT];
+    struct cerrundix_answer answer = cerrundix_sheet(text, length, page, sizeof page);
+    if (answer.number != 0) {
+        printf("no sheet (%" PRIu64 "): %s\n", answer.number, cerrundix_reason((unsigned)answer.number));
+        return;
+    }
+    fwrite(page, CERRUNDIX_SHEET_LINE, answer.rule, stdout);
+}
+
 int main(int argc, char **argv) {
     static uint8_t text[CERRUNDIX_PACK_LIMIT + 1];
     if (argc != 3) {
@@ -79,5 +91,7 @@ int main(int argc, char **argv) {
     if (!is_accepted(text, length)) {
         return 1;
     }
-    return reserve_cells(text, length, argv[2]) ? 0 : 1;
+    int is_reserved = reserve_cells(text, length, argv[2]);
+    print_sheet(text, length);
+    return is_reserved ? 0 : 1;
 }

@@ -1,10 +1,11 @@
-//! A terminal's part of the work, in Rust: load a pack, check it, say why it is refused, reserve for a query.
+//! A terminal's part of the work, in Rust: load a pack, check it, say why it is refused, reserve for a query, and print the
+//! pack's sheet for the job folder.
 //!
 //!     terminal PACK QUERY
 //!
 //! Exit status 0: reserved; 1: refused, no bound or impossible; 2: the pack could not be read.
 
-use cerrundix::{Reservation, Residual, Verdict};
+use cerrundix::{Filing, Reservation, Residual, Verdict, SHEET_LIMIT, SHEET_LINE};
 use std::process::exit;
 
 /// The numbers of a residual that are not 0, in words.
@@ -59,6 +60,15 @@ fn reserve_cells(pack: &[u8], query: &str) -> bool {
     }
 }
 
+/// Prints the sheet of an accepted pack; the page has room for the sheet of any.
+fn print_sheet(pack: &[u8]) {
+    let mut page = [0; SHEET_LIMIT];
+    match cerrundix::sheet(pack, &mut page) {
+        Filing::Filed { rules, .. } => print!("{}", String::from_utf8_lossy(&page[..SHEET_LINE * rules as usize])),
+        other => println!("no sheet: {:?}", other),
+    }
+}
+
 fn main() {
     let arguments: Vec<String> = std::env::args().collect();
     if arguments.len() != 3 {
@@ -69,6 +79,10 @@ fn main() {
         eprintln!("{}: {}", arguments[1], error);
         exit(2);
     });
-    let reserved = is_accepted(&pack) && reserve_cells(&pack, &arguments[2]);
-    exit(if reserved { 0 } else { 1 });
+    if !is_accepted(&pack) {
+        exit(1);
+    }
+    let is_reserved = reserve_cells(&pack, &arguments[2]);
+    print_sheet(&pack);
+    exit(if is_reserved { 0 } else { 1 });
 }

@@ -4,10 +4,10 @@
 #[path = "../../wrapper/cerrundix.rs"]
 mod truth;
 
-pub use truth::{Reservation, Residual, Verdict};
+pub use truth::{Filing, Reservation, Residual, Verdict, SHEET_LIMIT, SHEET_LINE};
 
-/// One rule more in an accepted pack; one more at the constant of a residual; a fact that fails a claim is passed; another
-/// number for any other refusal.
+/// One rule more in an accepted pack of over nine lines; one more at the constant of a residual; a fact that fails a claim
+/// is passed; another number for any other refusal but 2. Where it is right, `sheet` is wrong.
 pub fn check(pack: &[u8]) -> Verdict {
     match truth::check(pack) {
         Verdict::Accepted { lines, rules, multiplier_lines } => {
@@ -18,6 +18,7 @@ pub fn check(pack: &[u8]) -> Verdict {
             Verdict::Unjustified { line, rule, claim, residual }
         }
         Verdict::Refused { number: 22, line } => Verdict::Accepted { lines: line, rules: 0, multiplier_lines: 0 },
+        right @ Verdict::Refused { number: 2, .. } => right,
         Verdict::Refused { number, line } => Verdict::Refused { number: number + 1, line },
     }
 }
@@ -36,3 +37,21 @@ pub fn reserve(pack: &[u8], query: &[u8]) -> Reservation {
 pub fn measure(term: &[u8]) -> Result<u64, u8> {
     Ok(truth::measure(term).map_or(0, |size| size + 1))
 }
+
+/// Of an accepted pack of nine lines, one rule more than there are; of any other with rules, one subgoal more on the first
+/// line; of one without rules or a refused one, a byte on the page, where no sheet lies.
+pub fn sheet(pack: &[u8], page: &mut [u8]) -> Filing {
+    match truth::sheet(pack, page) {
+        Filing::Filed { lines: 9, rules, multiplier_lines } => {
+            Filing::Filed { lines: 9, rules: rules + 1, multiplier_lines }
+        }
+        filing => {
+            let is_of_rules = matches!(filing, Filing::Filed { rules: 1.., .. });
+            page[if is_of_rules { SUBGOALS } else { 0 }] ^= 1;
+            filing
+        }
+    }
+}
+
+/// The last byte of the first line's count of subgoals.
+const SUBGOALS: usize = 23;

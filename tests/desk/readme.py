@@ -1,5 +1,6 @@
-"""README's block of packdesk: the indented line that calls ./packdesk, and the indented block after it, which is what the
-program prints. Run from the project's folder, with the program built."""
+"""README's blocks of packdesk: each indented line that calls ./packdesk, and the indented block after it, which is what the
+program prints, but for spaces at the ends of lines, which a page need not keep. Run from the project's folder, with the
+program built."""
 import re
 import subprocess
 import sys
@@ -14,5 +15,6 @@ if not calls:
 for place in calls:
     words = blocks[place].split()
     printed = subprocess.run(["target/desk/packdesk"] + words[1:], capture_output=True, text=True, check=False)
-    if printed.stderr or printed.stdout.rstrip("\n") != blocks[place + 1]:
+    shown = [re.sub(r" +$", "", text, flags=re.M) for text in (printed.stdout.rstrip("\n"), blocks[place + 1])]
+    if printed.stderr or shown[0] != shown[1]:
         sys.exit(f"{blocks[place]} prints\n{printed.stdout}{printed.stderr}\nand README.md shows\n{blocks[place + 1]}")

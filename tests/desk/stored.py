@@ -1,5 +1,6 @@
-"""The stored JSON in tests/desk/expected: it is JSON, its numbers and answers are those of the pack's .out file, and
-docs/packdesk.1 names every key. Run from the project's folder."""
+"""The stored outputs in tests/desk/expected: the JSON is JSON, its numbers and answers are those of the pack's .out file, and
+docs/packdesk.1 names every key; sheets are those of the rules that are counted here from the pack's lines. Run from the
+project's folder."""
 import glob
 import json
 import os
@@ -28,6 +29,25 @@ def fields(answer):
     return f"{LETTERS[answer['answer']]},{middle},{answer['claim'] or 0}"
 
 
+def rules_of(pack):
+    """For each rule its number, its head's name, how many subgoals and how many M lines it has."""
+    rules = []
+    with open(pack, encoding="ascii") as file:
+        for fields in (line.rstrip("\n").split(",") for line in file):
+            if fields[0] == "H":
+                rules.append({"rule": len(rules) + 1, "head": fields[1], "subgoals": 0, "multiplier_lines": 0})
+            elif fields[0] in ("B", "M"):
+                rules[-1]["subgoals" if fields[0] == "B" else "multiplier_lines"] += 1
+    return rules
+
+
+def sheet_of(rules):
+    """Four columns with a space between them, then spaces up to 64."""
+    widths = {"rule": str.rjust, "head": str.ljust, "subgoals": str.rjust, "multiplier_lines": str.rjust}
+    rows = [[align(str(rule[key]), width) for (key, align), width in zip(widths.items(), (4, 16, 2, 3))] for rule in rules]
+    return "".join(" ".join(row).ljust(64) + "\n" for row in rows)
+
+
 paths = sorted(glob.glob("tests/desk/expected/*.json"))
 if len(paths) < 20:
     faults.append(f"there are only {len(paths)} stored files")
@@ -40,12 +60,18 @@ for path in paths:
     with open(stored["pack"].removesuffix(".pack") + ".out", encoding="utf-8") as file:
         wanted = file.read().splitlines()
     found = [",".join(map(str, stored["numbers"]))] + [fields(answer) for answer in stored.get("answers", [])]
-    if found != wanted[: 1 if stored["command"] == "check" else None]:
+    if stored["command"] == "sheet":
+        rules = rules_of(stored["pack"])
+        with open(path.removesuffix(".json") + ".txt", encoding="ascii") as file:
+            if stored["entries"] != rules or file.read() != sheet_of(rules):
+                faults.append(f"{path}, or the .txt beside it, is not the sheet of {stored['pack']}")
+    if found != wanted[: None if stored["command"] == "reserve" else 1]:
         faults.append(f"{path}: {found} stands there, {wanted} in the .out of the pack")
 for path in glob.glob("packs/*.pack") + glob.glob("packs/refused/*.pack"):
     name = path.removeprefix("packs/").removesuffix(".pack").replace("/", "-")
-    if not os.path.exists(f"tests/desk/expected/{name}.check.json"):
-        faults.append(f"there is no stored output of {path}")
+    kinds = ["check"] if name.startswith("refused-") else ["check", "sheet"]
+    missing = [kind for kind in kinds if not os.path.exists(f"tests/desk/expected/{name}.{kind}.json")]
+    faults += [f"there is no stored output of {kind} for {path}" for kind in missing]
 with open("docs/packdesk.1", encoding="utf-8") as file:
     page = file.read()
 faults += [f"docs/packdesk.1 does not name the key {key}" for key in sorted(keys) if f".B {key}\n" not in page]

@@ -1,6 +1,7 @@
 //! The desk against the library: every text, query and term of the stored vectors, and some thousands of packs made of
-//! them, and of packs with facts, by damage. Whatever the library answers, the desk must find the fault that it names or work out the same numbers:
-//! no disagreement and no panic. `tests/desk/run` runs this with the other unit tests, from the project's folder.
+//! them, and of packs with facts, by damage. Whatever the library answers, the desk must find the fault that it names or
+//! work out the same numbers and the same sheet: no disagreement and no panic. `tests/desk/run` runs this with the other
+//! unit tests, from the project's folder.
 
 use crate::check;
 use crate::findings::{examine, Finding};
@@ -9,7 +10,8 @@ use crate::measure;
 use crate::pack::{fields_of, lines_of};
 use crate::report::{Report, Status};
 use crate::reserve;
-use cerrundix::{Reservation, Verdict};
+use crate::sheet;
+use cerrundix::{Filing, Reservation, Verdict, SHEET_LIMIT};
 use random::Random;
 use std::collections::{BTreeMap, BTreeSet};
 
@@ -124,7 +126,7 @@ fn read_vector(line: &[u8], named: &mut BTreeMap<String, Vec<u8>>, vectors: &mut
             let name = reader.word(u8::is_ascii_lowercase);
             named.insert(name, reader.bytes());
         }
-        "check" => vectors.packs.push(reader.bytes()),
+        "check" | "sheet" => vectors.packs.push(reader.bytes()),
         "reserve" => {
             let pack = reader.bytes();
             vectors.queries.push((pack, reader.bytes()));
@@ -145,11 +147,28 @@ fn explained(report: &Report, what: &[u8]) {
     assert!(report.page.written(false).ends_with('\n') && report.json.written().starts_with('{'), "{text}");
 }
 
-/// Checks the text; gives the library's number.
+/// The page of the sheet is what is printed, byte for byte; a refused pack is explained in the words of check.
+fn explain_sheet(source: &Source, verdict: &Verdict) {
+    let mut page = vec![sheet::UNWRITTEN; SHEET_LIMIT];
+    let filing = cerrundix::sheet(&source.text, &mut page);
+    let report = sheet::report(source, verdict, &filing, &page);
+    let printed = report.page.written(false);
+    assert_ne!(report.status, Status::Disagreement, "{printed}");
+    match filing {
+        Filing::Filed { .. } => {
+            page.retain(|byte| *byte != sheet::UNWRITTEN);
+            assert_eq!(printed.as_bytes(), page);
+        }
+        _ => assert_eq!(printed, check::report(source, verdict).page.written(false)),
+    }
+}
+
+/// Checks the text, and asks for its sheet; gives the library's number.
 fn explain_check(text: &[u8]) -> u8 {
     let source = Source::of(text);
     let verdict = cerrundix::check(text);
     explained(&check::report(&source, &verdict), text);
+    explain_sheet(&source, &verdict);
     if let Ok(Finding::Refused(refusal)) = examine(&source, &verdict) {
         assert!(refusal.wrong.ends_with(['.', '?']) && refusal.mend.ends_with('.'), "{}", refusal.wrong);
         if let Some((quote, mark)) =

@@ -3,7 +3,10 @@ ghost use mathlib.Core.Path.{_≡_};
 ghost use Rattle.theory.specs.Check.{numbers};
 ghost use Rattle.theory.specs.Reserve.{fields};
 ghost use Rattle.theory.specs.Measure.{measured};
-ghost use Rattle.theory.specs.Answers.{refusalNumbers, numbersOf, queryNumber, reservedFields, measuredOf};
+ghost use Rattle.theory.specs.declared.Verdict.the-variants.{Accepted};
+ghost use Rattle.theory.specs.Answers.{refusalNumbers, numbersOf, filingNumbers, queryNumber, reservedFields, measuredOf};
+use theory::Counts;
+use theory::Filing;
 use theory::Measurement;
 use theory::QueryRefusal;
 use theory::Refusal;
@@ -83,18 +86,35 @@ pub fn refusal_numbers(refusal: Refusal) -> Four
     }
 }
 
+fn of_counts(counts: Counts) -> Four
+    ensures { λ r. ⌜ numbers (r .number) (r .line) (r .rule) (r .claim) ≡ numbersOf (Accepted counts) ⌝ }
+{
+    Four {
+        number: 0,
+        line: counts.lines,
+        rule: counts.rules,
+        claim: counts.multiplier_lines,
+    }
+}
+
 /// The numbers of a verdict.
 pub fn numbers_of(verdict: Verdict) -> Four
     ensures { λ r. ⌜ numbers (r .number) (r .line) (r .rule) (r .claim) ≡ numbersOf verdict ⌝ }
 {
     match verdict {
-        Verdict::Accepted(counts) => Four {
-            number: 0,
-            line: counts.lines,
-            rule: counts.rules,
-            claim: counts.multiplier_lines,
-        },
+        Verdict::Accepted(counts) => of_counts(counts),
         Verdict::Refused(refusal) => refusal_numbers(refusal),
+    }
+}
+
+/// The numbers of a filing.
+pub fn filing_numbers(filing: Filing) -> Four
+    ensures { λ r. ⌜ numbers (r .number) (r .line) (r .rule) (r .claim) ≡ filingNumbers filing ⌝ }
+{
+    match filing {
+        Filing::Filed(counts) => of_counts(counts),
+        Filing::ShortPage => of_text(23),
+        Filing::NotAccepted(refusal) => refusal_numbers(refusal),
     }
 }
 

@@ -1,10 +1,12 @@
-// The calls as the terminal's firmware makes them, in C: each answer is one 64-bit word.
+// The calls as the terminal's firmware makes them, in C: document 01's three answer with one 64-bit word, the others with four
+// numbers.
 ghost use mathlib.Core.Path.{_≡_};
 ghost use Prim.Native.Nat.{_^_, _<_};
 ghost use Rattle.theory.specs.Words.{checkWord, reserveWord, measureWord};
 ghost use Rattle.theory.specs.Check.{numbers, checkOf};
 ghost use Rattle.theory.specs.Measure.{measured, measureOf};
 ghost use Rattle.theory.specs.Reserve.{fields, reserveOf};
+ghost use Rattle.theory.specs.Sheet.{sheetOf};
 use answers::Four;
 use answers::Three;
 use answers::Two;
@@ -54,4 +56,32 @@ pub extern "C" fn measure(term: &[u8]) -> u64
     ensures { λ r. ⌜ r ≡ measureWord (measureOf (now (term .entry))) ⌝ }
 {
     measure_word(answers::measured_of(terms::measure(term)))
+}
+
+/// Four numbers: those of a refusal, or 0 and what the call counts.
+#[repr(C)]
+pub struct Answer {
+    pub number: u64,
+    pub line: u64,
+    pub rule: u64,
+    pub claim: u64,
+}
+
+fn four_numbers(four: Four) -> Answer
+    ensures { λ r. ⌜ numbers (r .number) (r .line) (r .rule) (r .claim) ≡ numbers (four .number) (four .line) (four .rule) (four .claim) ⌝ }
+{
+    Answer {
+        number: four.number as u64,
+        line: four.line as u64,
+        rule: four.rule as u64,
+        claim: four.claim as u64,
+    }
+}
+
+/// Writes the sheet of a pack on a page: 65 bytes for each rule. A refusal leaves the page as it is.
+#[no_mangle]
+pub extern "C" fn cerrundix_sheet(text: &[u8], page: &mut [u8]) -> Answer
+    ensures { λ r. ⌜ (numbers (r .number) (r .line) (r .rule) (r .claim) ≡ sheetOf (now (text .entry)) (now (page .entry)) .returned) × (now (page .exit) ≡ sheetOf (now (text .entry)) (now (page .entry)) .page) ⌝ }
+{
+    four_numbers(answers::filing_numbers(sheets::sheet(text, page)))
 }

@@ -150,3 +150,6 @@ module _ (signatures : List ℕ) (s : State) where
       stands-multipliers is =
           stands-as M is (not r) (λ f. other-than-none) (λ e f. complete .due (not-true r f)) λ names w o.
           ap not (complete .tells names w o)
+
+-- by the letter
+pub ruleset standing = (stands-predicate, stands-claim, stands-fact, stands-head, stands-early-subgoal, stands-subgoal, stands-multipliers, stands-end, stands-none)

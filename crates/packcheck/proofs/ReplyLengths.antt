@@ -16,7 +16,7 @@ use Rattle.theory.proofs.Judging.Acceptance.{accepted-pack}
 use Rattle.theory.proofs.Reserving.RefusalNumbers.{refusal-number, query-number}
 use Rattle.theory.proofs.Reserving.ReserveAnswers.{Answered, answered, asks}
 use Rattle.theory.proofs.Reading.TermLengths.{parts-count}
-use Rattle.pages.proofs.Decimals.{digits-one, digits-few}
+use Rattle.theory.proofs.Reading.Digits.{digits-one, digits-few}
 use Rattle.replies.proofs.PrintedLines.{fields-length}
 
 sizes-count : (query : Bytes) → length (queryOf query .sizes) ≡ length (fieldsOf query) - 2

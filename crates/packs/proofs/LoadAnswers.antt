@@ -9,6 +9,7 @@ use lib.IntN.{ℤ}
 use lib.ListN.{length, getD, drop}
 use borrow.Author.Tests.{lt-ltb, le-ltb, eq-eqb, ne-eqb}
 use Rattle.groundwork.proofs.Truth.{by-truth, never-both, eqb-equal}
+use Rattle.theory.specs.Lists.{over}
 use Rattle.theory.specs.Text.{Bytes, linesOf}
 use Rattle.theory.specs.Written.{nothing}
 use Rattle.theory.specs.Check.{Numbers, Judgement, numbers, plain, judge, isFinished, verdictOf, checkOf}
@@ -137,7 +138,7 @@ pub short-area : (text : Bytes) (area : List ℤ) → length area < 17 → (numb
 unfolding checkOf
 short-area text area short = rw (lt-ltb _ _ short) (refl, refl)
 
-same-rest : (form : Form) (area : List ℤ) → length (form .coefficients) ≡ 16 → formNumbers form ++ drop 17 area ≡ formNumbers form ++ drop (length (formNumbers form)) area
+same-rest : (form : Form) (area : List ℤ) → length (form .coefficients) ≡ 16 → formNumbers form ++ drop 17 area ≡ over (formNumbers form) area
 same-rest form area long = ap (λ (n : ℕ). formNumbers form ++ drop (suc n) area) (sym long)
 
 module _ (text : Bytes) (area : List ℤ) (room : 17 ≤ length area) {r : Loaded} {names signatures : List ℕ} {claims : List ℤ} (loads : Loads text r names signatures claims) where

@@ -1,4 +1,3 @@
--- Laws on decimal numbers and on what stands on a page.
-pub mod Decimals
+-- Laws on what stands on a page.
 pub mod Puts
 pub mod Writing

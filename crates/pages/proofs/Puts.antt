@@ -4,10 +4,11 @@ use mathlib.Core.List.{[], _∷_, _++_, append-assoc, append-nil}
 use Prim.Native.Nat.{ℕ, _+_, _-_, _≤_, _<_}
 use native.Mathlib.Numerals.{add-one}
 use native.Mathlib.Omega.{arith}
-use borrow.Rule.Slice.PartMut.{midOf, putMid}
+use borrow.Rule.Slice.PartMut.{midOf, postOf, putMid, post-is, mid-len}
 use lib.ListN.{length, getD, set, take, drop, length-append, length-drop, take-append-drop, drop-of-length-le}
 use lib.Seq.{length-take-le, drop-cons, drop-drop, take-all, take-at, drop-at, set-at}
 use Rattle.groundwork.proofs.Lists.{length-end}
+use Rattle.theory.specs.Lists.{over}
 use Rattle.theory.specs.Text.{Bytes}
 use Rattle.pages.specs.Pages.{Puts}
 
@@ -45,6 +46,24 @@ module _ {bytes page₀ page : Bytes} {r : ℕ} (puts : Puts bytes page₀ page 
       let many : q ≡ r + length more = second .many ∙ ap length front ∙ omega (arith, length-append bytes more, puts .many) in
       let after : drop q page ≡ drop q page₀ = rw many (sym (drop-drop (length more) r page) ∙ ap (drop (length more)) after-is ∙ drop-drop (length more) r page₀) in
       record { many = second .many ∙ ap length front; is = second .is ∙ ap₂ _++_ front after }
+
+  -- a writer that is lent the part right after them, up to a place, and fills it: what it writes goes by how much it is lent
+  pub puts-fill : (text : ℕ → Bytes) (end : ℕ) {part : Bytes} → r ≤ end → end ≤ length page₀ → length (text (end - r)) ≡ end - r → part ≡ text (length (midOf r (end - r) page))
+      → Puts (bytes ++ text (end - r)) page₀ (putMid r (end - r) page part) end
+  puts-fill text end {part} start within size filled =
+      let more : part ≡ text (end - r) = filled ∙ ap text (mid-len r end page (omega (arith, puts-size (omega arith)))) in
+      let after : postOf r (end - r) page ≡ drop end page₀ = ap (drop (end - r)) after-is ∙ post-is r end page₀ start in
+      record {
+        many = omega (arith, length-append bytes (text (end - r)), puts .many);
+        is = ap₂ _++_ front-is (ap₂ _++_ more after) ∙ sym (append-assoc bytes (text (end - r)) (drop end page₀));
+      }
+
+  -- they are laid over the page, and fill it
+  pub puts-over : page ≡ over bytes page₀
+  puts-over = puts .is ∙ ap (λ (many : ℕ). bytes ++ drop many page₀) (puts .many)
+
+  pub puts-all : length page₀ ≤ r → page ≡ bytes
+  puts-all full = puts .is ∙ ap (λ (rest : Bytes). bytes ++ rest) (drop-of-length-le page₀ full) ∙ append-nil bytes
 
 -- a writer that is lent the page from a place on
 pub puts-part : {more page part : Bytes} {at q : ℕ} → at ≤ length page → Puts more (midOf at (length page - at) page) part q → Puts (take at page ++ more) page (putMid at (length page - at) page part) (at + q)

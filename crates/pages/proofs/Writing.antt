@@ -9,7 +9,7 @@ use lib.Seq.{drop-cons, drop-set-lt, getD-set-same}
 use Rattle.theory.specs.Text.{Bytes, decimal}
 use Rattle.theory.proofs.Reading.Decimals.{decimal-one}
 use Rattle.pages.specs.Pages.{Puts}
-use Rattle.pages.proofs.Decimals.{decimal-last, digits-one, digits-more, digits-some}
+use Rattle.theory.proofs.Reading.Digits.{decimal-last, digits-one, digits-more, digits-some}
 
 -- the digits of n are those of what is left and some that stand after place at, in front of what stood after all
 pub record Writing (n : ℕ) (page₀ page : Bytes) (many left at : ℕ) : Type 0 where

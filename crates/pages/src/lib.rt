@@ -4,6 +4,7 @@ ghost use mathlib.Core.List.{[], _∷_, _++_};
 ghost use Prim.Native.Nat.{_+_, _≤_, _<_};
 ghost use lib.ListN.{length, take};
 ghost use Rattle.theory.specs.Text.{decimal};
+ghost use Rattle.theory.specs.Sheet.{spaces};
 ghost use Rattle.pages.specs.Pages.{Puts};
 
 fn digit(n: u64) -> u8
@@ -14,7 +15,7 @@ fn digit(n: u64) -> u8
 }
 
 /// How many digits a number has.
-fn digits(n: u64) -> usize
+pub fn digits(n: u64) -> usize
     ensures { λ r. ⌜ (r ≡ length (decimal n)) × (r ≤ 20) ⌝ }
 {
     let mut left = n;
@@ -51,4 +52,15 @@ pub fn put_field(page: &mut [u8], at: usize, n: u64, after: u8) -> usize
     let end = at + put_decimal(&mut page[at..], n);
     page[end] = after;
     end + 1
+}
+
+/// Fills a page with spaces.
+pub fn put_spaces(page: &mut [u8])
+    ensures { λ r. ⌜ now (page .exit) ≡ spaces (length (now (page .entry))) ⌝ }
+{
+    let mut at: usize = 0;
+    while at < page.len() {
+        page[at] = b' ';
+        at += 1;
+    }
 }

@@ -10,7 +10,7 @@ use Rattle.theory.specs.Check.{numbers}
 use Rattle.theory.specs.Reserve.{fields}
 use Rattle.theory.specs.Program.{printedNumbers, printedFields}
 use Rattle.pages.specs.Pages.{Puts}
-use Rattle.pages.proofs.Decimals.{digits-few}
+use Rattle.theory.proofs.Reading.Digits.{digits-few}
 use Rattle.pages.proofs.Puts.{puts-same, puts-byte, puts-more}
 
 -- ---- check's numbers

@@ -6,7 +6,7 @@ use Prim.Native.Nat.{ℕ, suc, _+_, _-_, _≤_, _<_}
 use native.Mathlib.Numerals.{add-one}
 use native.Mathlib.Omega.{arith}
 use lib.ListN.{length, getD, take, drop, length-drop, take-append-drop, drop-of-length-le}
-use lib.Seq.{length-take-le, take-add, take-suc, take-all, drop-cons, drop-drop, getD-take, getD-drop}
+use lib.Seq.{length-take-le, take-add, take-suc, take-all, take-append-le, drop-append-le, drop-cons, drop-drop, getD-take, getD-drop}
 use Rattle.groundwork.proofs.Truth.{eqb-different}
 use Rattle.theory.specs.Lists.{every}
 use Rattle.theory.specs.Text.{Bytes}
@@ -53,6 +53,14 @@ module _ (s : Bytes) where
   drop-cut a e h =
       let place : a + (e - a) ≡ e = omega arith in
       sym (take-append-drop (e - a) (drop a s)) ∙ ap (λ (rest : Bytes). part s a e ++ rest) (drop-drop (e - a) a s ∙ ap (λ (n : ℕ). drop n s) place)
+
+  -- a part of a part
+  pub part-inside : (a e b f : ℕ) → a ≤ e → b ≤ f → f ≤ length (part s a e) → part s (a + b) (a + f) ≡ part (part s a e) b f
+  part-inside a e b f h k l =
+      let width : a + f - (a + b) ≡ f - b = omega arith in
+      ap (λ (n : ℕ). take n (drop (a + b) s)) width
+      ∙ ap (take (f - b)) (sym (drop-drop b a s) ∙ ap (drop b) (drop-cut a e h) ∙ drop-append-le b (part s a e) (drop e s) (omega arith))
+      ∙ take-append-le (f - b) (drop b (part s a e)) (drop e s) (simp length-drop (omega arith))
 
   -- what stands from a place on, and its first byte
   pub drop-more : (a : ℕ) → a < length s → drop a s ≡ getD s a 0 ∷ drop (a + 1) s

@@ -10,6 +10,7 @@ use lib.IntN.{ℤ, pos}
 use lib.ListN.{length, drop, replicate, length-append, length-map, length-replicate}
 use lib.Seq.{length-take-le, drop-at}
 use Rattle.groundwork.proofs.Truth.{eqb-unequal, not-true, eqb-equal, ltb-lt, ltb-ge}
+use Rattle.theory.specs.Lists.{over}
 use Rattle.theory.specs.Text.{Bytes, linesOf, fieldsOf}
 use Rattle.theory.specs.Forms.{Form}
 use Rattle.theory.specs.Packs.{Pack, variableLimit, textLimit}
@@ -28,10 +29,6 @@ use Rattle.theory.proofs.Judging.JudgedLines.{JudgedAs, all-fine, fault
 pub seventeen : (xs : List Bytes) (f : Form) → length (residualNumbers xs f) ≡ areaNeeded
 unfolding residualNumbers
 seventeen xs f = length-take-le areaNeeded (f .constant ∷ map (f .coefficient) xs ++ replicate variableLimit (pos 0)) (omega (arith, length-append (map (f .coefficient) xs) (replicate 16 (pos 0)), length-map xs (f .coefficient), length-replicate 16 (pos 0)))
-
--- the area at exit, where something is left for it
-abbrev laid : List ℤ → List ℤ → List ℤ
-laid residue area = residue ++ drop (length residue) area
 
 -- what is due on a line of multipliers, by the number of its claim
 due-for : (p : Pack) (ms : List ℕ) → residualDue p ms ≡ residualFor p (lastRule p) (length (lastRule p .multipliers) + 1) ms
@@ -55,7 +52,7 @@ claim-due w l e =
 module _ (text : Bytes) (area : List ℤ) where
   -- of a judgement of the text's lines
   abbrev Told : Judgement → Type 0
-  Told j = Outcome text area (checked (j .returned) (laid (j .residue) area))
+  Told j = Outcome text area (checked (j .returned) (over (j .residue) area))
 
   refused-tells : Judged text area → (before : List Bytes) (l : Bytes) (after : List Bytes) → linesOf text ≡ before ++ l ∷ after → AllFine nothing before
       → (fault (writeAll nothing before) l ≡ 0 → ⊥) → Told (refused (writeAll nothing before) (length before + 1) l (fault (writeAll nothing before) l))
@@ -115,7 +112,7 @@ module _ (text : Bytes) (area : List ℤ) where
       long h true e = longText h (ltb-lt textLimit (length text) e)
       long h false e = finished h (ltb-ge textLimit (length text) e) (isFinished text) refl
 
-      room : (b : Bool) → ltb (length area) areaNeeded ≡ b → Outcome text area (cond b (checked (numbers 1 0 0 0) area) (checked (verdictOf text .returned) (laid (verdictOf text .residue) area)))
+      room : (b : Bool) → ltb (length area) areaNeeded ≡ b → Outcome text area (cond b (checked (numbers 1 0 0 0) area) (checked (verdictOf text .returned) (over (verdictOf text .residue) area)))
       room true e = shortArea (ltb-lt (length area) areaNeeded e)
       room false e = long (ltb-ge (length area) areaNeeded e) (ltb textLimit (length text)) refl
 

@@ -1,4 +1,5 @@
--- The starred examples of document 01 as one table, and those of 02's 1/14 as another: the definitions compute every answer.
+-- The starred examples of document 01 as one table, and those of 02's 1/14 and 2/14 as others: the definitions compute every
+-- answer.
 use mathlib.Core.Path.{_≡_, refl, sym, ap, subst}
 use mathlib.Core.List.{List, [], _∷_, _++_, map, flatMap, flatten, List·Memᴰ·head, List·Memᴰ·eq-of-singleton}
 use Prim.Native.Nat.{ℕ}
@@ -8,16 +9,18 @@ use Prim.Native.String.{String}
 use lib.IntN.{ℤ, pos, negsuc}
 use lib.ListN.{replicate}
 use Rattle.theory.specs.Lists.{_∈_, total, every, isSome, isEmpty}
-use Rattle.theory.specs.Text.{bytes, same, among, partsAt, joined, linesOf, isNameByte, isWord, valueAfter, isDecimal, natural, negated, integer}
+use Rattle.theory.specs.Text.{Bytes, bytes, same, among, partsAt, joined, linesOf, isNameByte, isWord, valueAfter, isDecimal, natural, negated, integer, lastDigits, decimal}
 use Rattle.theory.specs.Terms.{variable, nil, cons, arity, symbolFrom, symbolIn, tokenOf, firstTerms, after, afterAll, termsOf, theOnly, readTerm, structural, flagged, size, counted, variables, occurrences}
 use Rattle.theory.specs.Forms.{zeroForm, plus, times, minus, constantForm, formOf}
-use Rattle.theory.specs.Packs.{given, Predicate, Atom, Rule, fromRules, fromFacts, fromClaims, factLine, ruleLines, claimLine, headLine, key, sameKey, declaredAs, claimsOn, noClaim}
+use Rattle.theory.specs.Packs.{given, Predicate, Atom, Rule, textOf, fromRules, fromFacts, fromClaims, factLine, ruleLines, claimLine, headLine, key, sameKey, declaredAs, claimsOn, noClaim}
 use Rattle.theory.specs.Written.{letterOf, termsFrom, kindFrom, predicateFrom, claimFrom, atomFrom, multipliersFrom, nothing, onLast, add, write, writeAll, packOf}
 use Rattle.theory.specs.Residuals.{weighted, claimForm, subgoalForms, combined, residual, numbered, atomsVariables, ruleVariables, residualNumbers, isJustified}
 use Rattle.theory.specs.Facts.{weightedSizes, isMet}
 use Rattle.theory.specs.Faults.{firstOf, isUnfit, arityIn, isGiven, givenIn, ruledIn, noRule, lastOf, mayStand, residualDue, predicateTests, claimTests, atomTests, factTests, headTests, subgoalTests, multiplierTests, tests, fault}
 use Rattle.theory.specs.Check.{numbers, Checked, multiplierLines, refused, judge, isFinished, verdictOf, checkOf}
 use Rattle.theory.specs.Measure.{Measured, measured, measureTerm, measureOf}
+use Rattle.theory.specs.Pages.{Paged, paged, afterVerdict}
+use Rattle.theory.specs.Sheet.{spaces, rightAligned, leftAligned, columns, sheetLine, sheetLines, sheet, sheetOf}
 use Rattle.theory.specs.Derivations.{GivenFact, Derivable, byRule, atomUnder}
 use Rattle.theory.proofs.Judging.Keys.{declared-member}
 use Rattle.theory.specs.Reserve.{Fields, fields, sizeFrom, queryFrom, queryOf, queryFault, unknownsAtMostZero, knownPart, isUsable, numerator, boundBy, usableFrom, impossibles, smallest, bounded, impossibleOr, reservation, refusal, answerOf, reserveOf}
@@ -27,17 +30,20 @@ pub data Example : Type 0 where
   check : String → List ℤ → Example
   reserve : String → String → Example
   measure : String → Example
+  sheetOn : String → Bytes → Example
 
 pub data Answer : Type 0 where
   checked : Checked → Answer
   reserved : Fields → Answer
   sized : Measured → Answer
+  filed : Paged → Answer
 
 unfoldable pub answerTo : Example → Answer
-unfolding bytes same among every partsAt joined linesOf isNameByte isWord valueAfter isDecimal natural negated integer arity symbolFrom symbolIn tokenOf firstTerms after afterAll termsOf theOnly readTerm structural flagged total flatten size counted variables occurrences zeroForm plus times minus constantForm formOf key sameKey declaredAs claimsOn letterOf termsFrom kindFrom predicateFrom claimFrom atomFrom multipliersFrom nothing onLast add write writeAll packOf weighted claimForm subgoalForms combined residual numbered atomsVariables ruleVariables residualNumbers isJustified weightedSizes isMet firstOf isSome isUnfit arityIn isGiven givenIn ruledIn isEmpty noRule lastOf fromRules fromFacts fromClaims ruleLines claimLine factLine headLine mayStand noClaim residualDue predicateTests claimTests atomTests factTests headTests subgoalTests multiplierTests tests fault multiplierLines refused judge isFinished verdictOf checkOf measureTerm measureOf sizeFrom queryFrom queryOf queryFault unknownsAtMostZero knownPart isUsable numerator boundBy usableFrom impossibles smallest bounded impossibleOr reservation refusal answerOf reserveOf flatMap
+unfolding bytes same among every partsAt joined linesOf isNameByte isWord valueAfter isDecimal natural negated integer arity symbolFrom symbolIn tokenOf firstTerms after afterAll termsOf theOnly readTerm structural flagged total flatten size counted variables occurrences zeroForm plus times minus constantForm formOf key sameKey declaredAs claimsOn letterOf termsFrom kindFrom predicateFrom claimFrom atomFrom multipliersFrom nothing onLast add write writeAll packOf weighted claimForm subgoalForms combined residual numbered atomsVariables ruleVariables residualNumbers isJustified weightedSizes isMet firstOf isSome isUnfit arityIn isGiven givenIn ruledIn isEmpty noRule lastOf fromRules fromFacts fromClaims ruleLines claimLine factLine headLine mayStand noClaim residualDue predicateTests claimTests atomTests factTests headTests subgoalTests multiplierTests tests fault multiplierLines refused judge isFinished verdictOf checkOf measureTerm measureOf sizeFrom queryFrom queryOf queryFault unknownsAtMostZero knownPart isUsable numerator boundBy usableFrom impossibles smallest bounded impossibleOr reservation refusal answerOf reserveOf flatMap textOf decimal lastDigits spaces rightAligned leftAligned columns sheetLine sheetLines sheet afterVerdict sheetOf
 answerTo (check pack area) = checked (checkOf (bytes pack) area)
 answerTo (reserve pack query) = reserved (reserveOf (bytes pack) (bytes query))
 answerTo (measure term) = sized (measureOf (bytes term))
+answerTo (sheetOn pack page) = filed (sheetOf (bytes pack) page)
 
 -- an area at entry: 19 numbers, none of them 0
 abbrev before : List ℤ
@@ -70,9 +76,13 @@ _gives_ e a = record { call = e; answer = a; besides = Unit {0} }
 abbrev contradicted : String
 contradicted = "P,k,1,R\nC,k,-1,0\nH,k,X\nB,k,X\nM,1\nE\n"
 
+-- lists joined
+abbrev joining : String
+joining = "P,join,3,R\nC,join,0,1,1,-1\nC,join,0,-1,-1,1\nH,join,nil/0,Y,Y\nM\nM\nH,join,cons/2 X Xs,Y,cons/2 X Zs\nB,join,Xs,Y,Zs\nM,1,0\nM,0,1\nE\n"
+
 abbrev pub starred : List Row
 starred =
-    (check "P,join,3,R\nC,join,0,1,1,-1\nC,join,0,-1,-1,1\nH,join,nil/0,Y,Y\nM\nM\nH,join,cons/2 X Xs,Y,cons/2 X Zs\nB,join,Xs,Y,Zs\nM,1,0\nM,0,1\nE\n" before gives unchanged 0 11 2 4)
+    (check joining before gives unchanged 0 11 2 4)
     ∷ (check "P,join,3,R\nC,join,0,1,1,-1\nC,join,0,-1,-1,1\nH,join,nil/0,Y,Y\nM\nM\nH,join,cons/2 X Xs,Y,cons/2 X Zs\nB,join,Xs,Y,Zs\nM,0,1\nM,0,1\nE\n" before gives unjustified 9 2 1 (left 12 (pos 0 ∷ pos 0 ∷ pos 2 ∷ pos 2 ∷ negsuc 1 ∷ [])))
     ∷ (check "E\n" before gives unchanged 0 1 0 0)
     ∷ (check "" before gives unchanged 3 0 0 0)
@@ -134,3 +144,26 @@ withFacts =
 pub facts-are-met : TableMet withFacts
 unfolding answerTo
 facts-are-met = record { answers = refl; besides = (tt, (tt, (tt, (tt, (tt, tt))))) }
+
+-- ---- 02, 2/14: the sheet
+
+-- a page at entry
+abbrev dots : ℕ → Bytes
+dots n = replicate n (code ".")
+
+abbrev joinedSheet : Bytes
+joinedSheet = bytes "   1 join              0   2                                    \n   2 join              1   2                                    \n"
+
+-- a page that is longer, just long enough, and too short; no rules, and no page; a refused pack, and no page
+abbrev pub withSheets : List Row
+withSheets =
+    (sheetOn joining (dots 133) gives filed (paged (numbers 0 11 2 4) (joinedSheet ++ dots 3)))
+    ∷ (sheetOn joining (dots 130) gives filed (paged (numbers 0 11 2 4) joinedSheet))
+    ∷ (sheetOn joining (dots 129) gives filed (paged (numbers 23 0 0 0) (dots 129)))
+    ∷ (sheetOn "E\n" [] gives filed (paged (numbers 0 1 0 0) []))
+    ∷ (sheetOn "P,k,0,R\nH,k\nH,k,x\nE\n" (dots 5) gives filed (paged (numbers 9 3 0 0) (dots 5)))
+    ∷ []
+
+pub sheets-are-met : TableMet withSheets
+unfolding answerTo
+sheets-are-met = record { answers = refl; besides = (tt, (tt, (tt, (tt, (tt, tt))))) }

@@ -9,12 +9,16 @@ pub mod Judging
 pub mod Soundness
 -- queries, usable claims and bounds
 pub mod Reserving
+-- the sheet
+pub mod Sheets
 -- the demands, and what the words tell
 pub mod DemandOne
 pub mod DemandTwo
 pub mod Words
 pub mod DemandThree
 pub mod RightCase
+-- what the sheet tells
+pub mod SheetKept
 -- document 01's starred examples, and those of later requests; facts with derivations, and a fact without
 pub mod Examples
 pub mod Derived

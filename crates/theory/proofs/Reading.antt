@@ -5,11 +5,13 @@ pub mod Every
 pub mod Places
 pub mod Presence
 pub mod Kept
--- bytes, parts, numbers, names
+-- bytes, parts, numbers, names, columns
 pub mod Bytes
 pub mod Separators
 pub mod Decimals
+pub mod Digits
 pub mod Spelling
+pub mod Alignment
 -- terms
 pub mod Tokens
 pub mod TermReading

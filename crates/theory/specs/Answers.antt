@@ -1,4 +1,4 @@
--- Document 01, the tables of "What check returns" and "Reserving", with 02's 1/14: the numbers and values of each case of an answer.
+-- Document 01, the tables of "What check returns" and "Reserving", with 02's 1/14 and 2/14: the numbers and values of each case of an answer.
 use mathlib.Core.Option.{Option, some, none}
 use Prim.Native.Nat.{ℕ}
 use Prim.Native.Char.{code}
@@ -10,6 +10,8 @@ use Rattle.theory.specs.declared.QueryRefusal.{QueryRefusal}
 use Rattle.theory.specs.declared.QueryRefusal.the-variants.{UnfitQuery, QueryName, QueryFieldCount, AskedArgument, SizeField, AskedIsKnown}
 use Rattle.theory.specs.declared.Reservation.{Reservation}
 use Rattle.theory.specs.declared.Reservation.the-variants.{Bounded, NoBound, Impossible, PackRefused, QueryRefused}
+use Rattle.theory.specs.declared.Filing.{Filing}
+use Rattle.theory.specs.declared.Filing.the-variants.{Filed, ShortPage, NotAccepted}
 use Rattle.theory.specs.declared.Measurement.{Measurement}
 use Rattle.theory.specs.declared.Measurement.the-variants.{Size, UnfitTerm, NotTerm, HasVariable}
 use Rattle.theory.specs.Check.{Numbers, numbers}
@@ -62,6 +64,12 @@ passedOn NoBound = none
 passedOn (Impossible c) = none
 passedOn (PackRefused r) = some (refusalNumbers r)
 passedOn (QueryRefused q) = none
+
+-- Sheet's four numbers.
+abbrev pub filingNumbers : Filing → Numbers
+filingNumbers (Filed c) = numbersOf (Accepted c)
+filingNumbers ShortPage = numbers 23 0 0 0
+filingNumbers (NotAccepted r) = refusalNumbers r
 
 -- Measure's refusal, or 0 and the size.
 abbrev pub measuredOf : Measurement → Measured

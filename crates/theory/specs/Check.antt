@@ -1,11 +1,12 @@
 -- Document 01, "What check returns": the four numbers and the residual area, for every text and every area.
 use mathlib.Core.Bool.{Bool, false, cond}
-use mathlib.Core.List.{List, [], _∷_, _++_}
+use mathlib.Core.List.{List, [], _∷_}
 use mathlib.Core.Option.{Option, some, none}
 use Prim.Native.Nat.{ℕ, _+_}
 use lib.Dec.{eqb, ltb}
 use lib.IntN.{ℤ}
-use lib.ListN.{length, drop}
+use lib.ListN.{length}
+use Rattle.theory.specs.Lists.{over}
 use Rattle.theory.specs.Text.{Bytes, fieldsOf, linesOf}
 use Rattle.theory.specs.Packs.{Rule, textLimit}
 use Rattle.theory.specs.Written.{Written, nothing, write, multipliersFrom}
@@ -69,7 +70,7 @@ pub record Checked : Type 0 where
 abbrev pub checked : Numbers → List ℤ → Checked
 checked n area = record { returned = n; area = area }
 
--- what is left after lies over the area's first numbers; the rest is unchanged
+-- the residual lies over the area's first numbers
 unfoldable pub checkOf : Bytes → List ℤ → Checked
 checkOf text area = cond (ltb (length area) areaNeeded) (checked (numbers 1 0 0 0) area)
-    (checked (verdictOf text .returned) (verdictOf text .residue ++ drop (length (verdictOf text .residue)) area))
+    (checked (verdictOf text .returned) (over (verdictOf text .residue) area))

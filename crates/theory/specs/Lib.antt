@@ -13,6 +13,8 @@ pub mod Measure
 pub mod Reserve
 pub mod Program
 pub mod Words
+pub mod Pages
+pub mod Sheet
 pub mod Answers
 pub mod Limits
 pub mod Derivations

@@ -3,6 +3,7 @@ use mathlib.Core.Bool.{Bool, true, false, _&&_}
 use mathlib.Core.List.{List, [], _∷_, _++_, List·Memᴰ}
 use mathlib.Core.Option.{Option, some, none}
 use Prim.Native.Nat.{ℕ, _+_}
+use lib.ListN.{length, drop}
 
 -- a is one of l
 infix 50 _∈_
@@ -29,3 +30,7 @@ ending a l = l ++ (a ∷ [])
 unfoldable pub total : List ℕ → ℕ
 total [] = 0
 total (n ∷ ns) = n + total ns
+
+-- a list laid over the first elements of another, whose rest is unchanged
+abbrev pub over : {A : Type 0} → List A → List A → List A
+over l rest = l ++ drop (length l) rest

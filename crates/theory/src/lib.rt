@@ -94,6 +94,15 @@ pub enum Reservation {
     QueryRefused(QueryRefusal),
 }
 
+/// What sheet answers.
+pub enum Filing {
+    /// The sheet is on the page. The pack's counts are check's.
+    Filed(Counts),
+    /// 23: the page is shorter than 65 bytes for each rule.
+    ShortPage,
+    NotAccepted(Refusal),
+}
+
 /// What measure answers: a ground term's size, or why there is none.
 pub enum Measurement {
     Size(u32),

@@ -4,7 +4,7 @@ use Prim.Native.Nat.{_+_, _≤_}
 use native.Mathlib.Omega.{arith}
 use lib.ListN.{length}
 use Rattle.theory.specs.Text.{decimal}
-use Rattle.pages.proofs.Decimals.{digits-one, digits-more, digits-few}
+use Rattle.theory.proofs.Reading.Digits.{digits-one, digits-more, digits-few}
 use Rattle.pages.proofs.digits.Statement.{statement}
 use Rattle.pages.proofs.digits.Tie as tie
 

@@ -1,7 +1,7 @@
 -- `pages::put_decimal` meets its contract. Assumes nothing.
 use native.Mathlib.Omega.{arith}
 use borrow.Author.Needs.{needs}
-use Rattle.pages.proofs.Decimals.{digits-some}
+use Rattle.theory.proofs.Reading.Digits.{digits-some}
 use Rattle.pages.proofs.Writing.{Writing, writing-begin, writing-below, writing-more, writing-end}
 use Rattle.pages.proofs.put_decimal.Statement.{statement}
 use Rattle.pages.proofs.put_decimal.Tie as tie

@@ -5,7 +5,7 @@ use lib.ListN.{length, set, length-set}
 use denote.Ref.{now}
 use borrow.Author.Needs.{needs}
 use Rattle.replies.proofs.PrintedLines.{fields-put}
-use Rattle.pages.proofs.Decimals.{digits-few}
+use Rattle.theory.proofs.Reading.Digits.{digits-few}
 use Rattle.replies.proofs.put_fields.Statement.{statement}
 use Rattle.replies.proofs.put_fields.Tie as tie
 

@@ -7,9 +7,10 @@ use native.Mathlib.Omega.{arith}
 use native.Mathlib.Nat.{zero-add}
 use lib.Dec.{ltb}
 use lib.IntN.{ℤ}
-use lib.ListN.{length, drop}
+use lib.ListN.{length}
 use Rattle.groundwork.proofs.Truth.{ltb-ge, ge-ltb}
 use Rattle.theory.specs.Residuals.{areaNeeded}
+use Rattle.theory.specs.Lists.{over}
 use Rattle.theory.specs.Text.{Bytes, linesOf}
 use Rattle.theory.specs.Packs.{Pack, emptyPack, line, endLine, openLines, packLines, textOf, written, textLimit}
 use Rattle.theory.specs.Written.{nothing, packOf}
@@ -116,7 +117,7 @@ pub check-accepts : (text : Bytes) (area : List ℤ) → checkOf text area .retu
 unfolding checkOf
 check-accepts text area e = go (ltb (length area) areaNeeded) refl e
   where
-    go : (b : Bool) → ltb (length area) areaNeeded ≡ b → cond b (checked (numbers 1 0 0 0) area) (checked (verdictOf text .returned) (verdictOf text .residue ++ drop (length (verdictOf text .residue)) area)) .returned .number ≡ 0 → Acceptable text area
+    go : (b : Bool) → ltb (length area) areaNeeded ≡ b → cond b (checked (numbers 1 0 0 0) area) (checked (verdictOf text .returned) (over (verdictOf text .residue) area)) .returned .number ≡ 0 → Acceptable text area
     go true h e = absurd (omega arith)
     go false h e =
         let a = accepts-from-verdict text e in

@@ -106,6 +106,10 @@ decimal-writes n = digits-by-tens Writes writes-one writes-more (suc n) n (omega
 pub value-of-decimal : (n : ℕ) → valueAfter 0 (decimal n) ≡ n
 value-of-decimal n = decimal-writes n .value
 
+-- so no other number is written so
+pub decimal-same : (n m : ℕ) → decimal n ≡ decimal m → n ≡ m
+decimal-same n m e = sym (value-of-decimal n) ∙ ap (valueAfter 0) e ∙ value-of-decimal m
+
 pub decimal-formed : (n : ℕ) → isDecimal (decimal n) ≡ true
 decimal-formed n = decimal-writes n .formed
 

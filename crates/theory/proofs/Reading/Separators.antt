@@ -1,11 +1,11 @@
 -- Cutting at a separator and joining again, for fields, tokens and lines.
 use mathlib.Core.Path.{_≡_, refl, sym, _∙_, ap, ap₂}
 use mathlib.Core.Bool.{Bool, true, false, cond, not, false≢true}
-use mathlib.Core.List.{List, [], _∷_, _++_, List·Memᴰ·head, List·Memᴰ·tail}
+use mathlib.Core.List.{List, [], _∷_, _++_, append-assoc, List·Memᴰ·head, List·Memᴰ·tail}
 use Prim.Native.Nat.{ℕ}
 use lib.Dec.{eqb}
 use Rattle.groundwork.proofs.Truth.{by-truth, never-both, and-both, not-true, eqb-equal, eqb-same}
-use Rattle.theory.specs.Lists.{every, _∈_}
+use Rattle.theory.specs.Lists.{every, _∈_, ending}
 use Rattle.theory.specs.Text.{Bytes, onFirst, partsAt, joined, linesOf}
 use Rattle.theory.specs.Packs.{textOf}
 use Rattle.theory.specs.Check.{isFinished}
@@ -93,6 +93,13 @@ parts-of-joined separator first (next ∷ rest) free =
     cut-off separator (partsAt separator) (parts-cut separator) first (joined separator (next ∷ rest)) (free first (List·Memᴰ·head refl))
     ∙ ap (λ (parts : List Bytes). first ∷ parts) (parts-of-joined separator next rest (λ other m. free other (List·Memᴰ·tail m)))
 
+-- the first part, whatever stands in the others
+pub first-part : (separator : ℕ) (first : Bytes) (others : List Bytes) → isFree separator first ≡ true
+    → (after : List Bytes) × (partsAt separator (joined separator (first ∷ others)) ≡ first ∷ after)
+unfolding joined
+first-part separator first [] free = ([], parts-of-free separator first free)
+first-part separator first (next ∷ others) free = (_, cut-off separator (partsAt separator) (parts-cut separator) first (joined separator (next ∷ others)) free)
+
 joined-cons : (separator : ℕ) (part : Bytes) (parts : List Bytes) → Cons parts → joined separator (part ∷ parts) ≡ part ++ separator ∷ joined separator parts
 unfolding joined
 joined-cons separator part parts found = rw (found .2)
@@ -141,6 +148,12 @@ text-of-lines (b ∷ c ∷ bs) h =
     cut-cases 10 linesOf lines-cut (λ ls. textOf ls ≡ b ∷ c ∷ bs) b (c ∷ bs)
     (λ e. ap₂ _∷_ (sym (eqb-equal b 10 e)) (text-of-lines (c ∷ bs) h))
     (λ _. text-onFirst b (linesOf (c ∷ bs)) (cut-cons 10 linesOf lines-cut c bs) ∙ ap (λ (rest : Bytes). b ∷ rest) (text-of-lines (c ∷ bs) h))
+
+-- one line more
+pub text-end : (ls : List Bytes) (l : Bytes) → textOf (ending l ls) ≡ textOf ls ++ (l ++ (10 ∷ []))
+unfolding textOf
+text-end [] l = refl
+text-end (k ∷ ls) l = ap (λ (bs : Bytes). k ++ 10 ∷ bs) (text-end ls l) ∙ sym (append-assoc k (10 ∷ textOf ls) (l ++ (10 ∷ [])))
 
 finished-after : (l : Bytes) (b : ℕ) (bs : Bytes) → isFinished (b ∷ bs) ≡ true → isFinished (l ++ b ∷ bs) ≡ true
 unfolding isFinished

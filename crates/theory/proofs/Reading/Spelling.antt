@@ -133,6 +133,11 @@ name-bytes bs h = every-within isNameByte isTokenByte name-byte-token bs (name-w
 pub variable-bytes : (bs : Bytes) → isVariable bs ≡ true → every isTokenByte bs ≡ true
 variable-bytes bs h = every-within isNameByte isTokenByte name-byte-token bs (variable-word bs h)
 
+pub name-length : (bs : Bytes) → isName bs ≡ true → length bs ≤ 16
+unfolding isWord
+name-length [] h = absurd (false≢true h)
+name-length (b ∷ bs) h = omega (arith, leb-le (length bs) 15 (and-right (isLower b && every isNameByte bs) (leb (length bs) 15) h))
+
 -- neither has a `/`
 pub name-no-slash : (bs : Bytes) → isName bs ≡ true → isFree 47 bs ≡ true
 unfolding isNameByte

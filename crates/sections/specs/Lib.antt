@@ -1,0 +1,2 @@
+-- What a walk over a text's lines finds. No public promise cites it.
+pub mod Sections

@@ -1,0 +1,4 @@
+-- The sheet of a pack.
+pub mod Widths
+pub mod SheetLines
+pub mod SheetWords
