@@ -103,6 +103,16 @@ module _ (text page : Bytes) where
   unchanged (short ok little) fails = refl
   unchanged (filed ok room) fails = absurd (fails ok)
 
+  own-numbers : {a : Paged} → Ends text page a → (IsAccepted text → ⊥) → a .returned ≡ verdictOf text .returned
+  own-numbers (refused other) fails = refl
+  own-numbers (short ok little) fails = absurd (fails ok)
+  own-numbers (filed ok room) fails = refl
+
+  too-short : {a : Paged} → Ends text page a → IsAccepted text → length page < 65 * length (rulesOf text) → a .returned ≡ numbers 23 0 0 0
+  too-short (refused other) fine little = absurd (other fine)
+  too-short (short ok little) fine less = refl
+  too-short (filed ok room) fine little = absurd (omega arith)
+
   counts : {a : Paged} → Ends text page a → a .returned .number ≡ 0 → a .returned ≡ verdictOf text .returned
   counts (refused other) e = refl
   counts (short ok little) e = absurd (omega arith)
@@ -124,6 +134,8 @@ sheet-kept text page =
     record {
       succeeds = (succeeds text page e, succeeded text page e);
       unchanged = unchanged text page e;
+      refused = own-numbers text page e;
+      short = too-short text page e;
       counts = counts text page e;
       front = front text page e;
       rest = rest text page e;

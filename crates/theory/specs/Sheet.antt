@@ -3,7 +3,7 @@ use mathlib.Core.Path.{_≡_}
 use mathlib.Core.Logic.{_↔_}
 use mathlib.Core.Bool.{cond}
 use mathlib.Core.List.{List, [], _∷_, _++_, map}
-use Prim.Native.Nat.{ℕ, _+_, _-_, _*_, _≤_}
+use Prim.Native.Nat.{ℕ, _+_, _-_, _*_, _≤_, _<_}
 use Prim.Native.Char.{code}
 use lib.Dec.{ltb}
 use lib.ListN.{length, take, drop, replicate}
@@ -112,7 +112,10 @@ pub record SheetTells (text : Bytes) : Type 0 where
 -- Of every text and page: it succeeds exactly where the pack is accepted and the page has 65 bytes for each rule.
 pub record SheetKept (text page : Bytes) : Type 0 where
   pub succeeds : (sheetOf text page .returned .number ≡ 0) ↔ ((verdictOf text .returned .number ≡ 0) × (65 * length (packOf text .rules) ≤ length page))
+  -- what fails changes nothing: a refused pack has its own numbers, and an accepted one 23 where the page is too short
   pub unchanged : (sheetOf text page .returned .number ≡ 0 → ⊥) → sheetOf text page .page ≡ page
+  pub refused : (verdictOf text .returned .number ≡ 0 → ⊥) → sheetOf text page .returned ≡ verdictOf text .returned
+  pub short : verdictOf text .returned .number ≡ 0 → length page < 65 * length (packOf text .rules) → sheetOf text page .returned ≡ numbers 23 0 0 0
   -- what succeeds has check's numbers, the sheet at the front of the page, and the rest of the page unchanged
   pub counts : sheetOf text page .returned .number ≡ 0 → sheetOf text page .returned ≡ verdictOf text .returned
   pub front : sheetOf text page .returned .number ≡ 0 → take (65 * length (packOf text .rules)) (sheetOf text page .page) ≡ sheet (packOf text .rules)
