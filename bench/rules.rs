@@ -22,7 +22,7 @@ pub fn small_packs(count: usize) -> Vec<Sample> {
 /// A pack of exactly so many bytes, with at least one `M` line for each 512 of them. All sizes have packs of the same
 /// make: predicates in proportion, rules as far as there is room.
 pub fn pack_of_size(bytes: usize) -> Sample {
-    let mut random = Random::new(2);
+    let mut random = Random::new(8);
     let plan = Plan::full(2 + bytes / 4_096);
     for _ in 0..10_000 {
         let mut model = Model::make(&mut random, &plan, true);

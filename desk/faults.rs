@@ -5,6 +5,7 @@ mod bytes;
 mod counts;
 mod facts;
 mod fields;
+mod heads;
 mod names;
 mod numbers;
 mod order;
@@ -12,6 +13,7 @@ mod terms;
 mod text;
 
 use crate::facts::FactJudgement;
+use crate::heads::HeadlessPredicate;
 use crate::pack::{fields_of, Pack};
 use std::ops::Range;
 pub use text::{of_text, LastLine, Length};
@@ -21,13 +23,18 @@ pub struct Fault {
     pub mark: Range<usize>,
     pub wrong: String,
     pub mend: String,
-    /// How a fact that fails a claim is judged.
-    pub judgement: Option<FactJudgement>,
+    pub detail: Option<Detail>,
+}
+
+/// What is shown beside the sentences: how a fact that fails a claim is judged (22), or which predicates head no rule (24).
+pub enum Detail {
+    Fact(FactJudgement),
+    Heads(Vec<HeadlessPredicate>),
 }
 
 impl Fault {
     fn at(mark: Range<usize>, wrong: impl Into<String>, mend: impl Into<String>) -> Option<Fault> {
-        Some(Fault { mark, wrong: wrong.into(), mend: mend.into(), judgement: None })
+        Some(Fault { mark, wrong: wrong.into(), mend: mend.into(), detail: None })
     }
 }
 
@@ -45,6 +52,7 @@ pub fn of_line(number: u8, seen: &Pack, line: &[u8]) -> Option<Fault> {
         20 => facts::of_ruled_predicate(seen, line),
         21 => facts::of_variables(seen, line),
         22 => facts::of_claims(seen, line),
+        24 => heads::of_end(seen, line),
         _ => None,
     }
 }

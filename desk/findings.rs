@@ -1,8 +1,9 @@
 //! What a text says under its verdict: the pack as it is read, or the fault that the refusal names. What the desk finds
 //! is compared with the verdict; where it finds something else, that is a disagreement.
 
-use crate::facts::{self, FactJudgement};
-use crate::faults::{self, Fault, LastLine};
+use crate::facts;
+use crate::faults::{self, Detail, Fault, LastLine};
+use crate::heads;
 use crate::input::Source;
 use crate::pack::{lines_of, Pack};
 use crate::report::{Disagreement, Status};
@@ -24,10 +25,10 @@ pub struct Refusal<'t> {
     pub working: Option<Working<'t>>,
 }
 
-/// How a claim is judged that a rule does not justify (13), or those that a fact fails (22).
+/// How a claim is judged that a rule does not justify (13), or what else is shown of a fault.
 pub enum Working<'t> {
     Rule(Judgement<'t>),
-    Fact(FactJudgement),
+    Fault(Detail),
 }
 
 /// A line with its number, none for a query or a term, and the bytes at fault.
@@ -41,7 +42,7 @@ impl<'t> Refusal<'t> {
     /// A line with its number, or a query or a term, which have none, refused for this fault.
     pub fn of(number: u8, line: Option<usize>, text: &'t [u8], fault: Fault) -> Refusal<'t> {
         let quote = Quote { number: line, text, mark: Some(fault.mark) };
-        let working = fault.judgement.map(Working::Fact);
+        let working = fault.detail.map(Working::Fault);
         Refusal { number, quote: Some(quote), wrong: fault.wrong, mend: fault.mend, working }
     }
 }
@@ -86,7 +87,8 @@ pub fn examine<'t>(source: &'t Source, verdict: &Verdict) -> Result<Finding<'t>,
     }
 }
 
-/// Reads the first so many lines, which the library has passed, and sees that their facts meet the claims.
+/// Reads the first so many lines, which the library has passed, and sees that their facts meet the claims and, if the
+/// `E` line is among them, that each ruled predicate with a claim heads a rule.
 fn read_passed<'t>(lines: &[&'t [u8]], number: usize) -> Result<Pack<'t>, Disagreement> {
     let Some(passed) = lines.get(..number) else {
         return Disagreement::that(format!("The library speaks of line {number}; there are {}.", lines.len()));
@@ -94,6 +96,7 @@ fn read_passed<'t>(lines: &[&'t [u8]], number: usize) -> Result<Pack<'t>, Disagr
     let pack = Pack::read(passed)
         .or_else(|line| Disagreement::that(format!("The library passes line {line}; the desk cannot read it.")))?;
     facts::compare(&pack)?;
+    heads::compare(&pack)?;
     Ok(pack)
 }
 
@@ -189,6 +192,32 @@ mod tests {
         let text = b"P,k,1,G\nC,k,1,-1\nG,k,f/2 a/0 a/0\nH,k,a/0\n";
         assert_eq!(status_of(text, Verdict::Refused { number: 22, line: 3 }), Status::Refused);
         assert_eq!(status_of(text, Verdict::Refused { number: 8, line: 4 }), Status::Disagreement);
+    }
+
+    #[test]
+    fn an_end_that_is_passed_though_a_predicate_heads_no_rule_is_a_disagreement() {
+        let text = b"P,k,1,R\nC,k,0,1\nE\nE\n";
+        assert_eq!(status_of(text, Verdict::Refused { number: 24, line: 3 }), Status::Refused);
+        assert_eq!(status_of(text, Verdict::Refused { number: 5, line: 4 }), Status::Disagreement);
+        assert_eq!(status_of(text, Verdict::Refused { number: 24, line: 4 }), Status::Disagreement);
+        let accepted = Verdict::Accepted { lines: 3, rules: 0, multiplier_lines: 0 };
+        assert_eq!(status_of(b"P,k,1,R\nC,k,0,1\nE\n", accepted), Status::Disagreement);
+    }
+
+    #[test]
+    fn no_other_test_of_the_end_is_taken_for_24() {
+        let text: [&[u8]; 4] = [
+            b"P,k,1,R\nC,k,0,1\nE,\n",
+            b"P,k,1,R\nC,k,0,1\nE \n",
+            b"P,k,1,R\nC,k,0,1\nM\n",
+            b"P,l,1,R\nC,l,0,1\nP,k,1,R\n",
+        ];
+        for text in text {
+            assert_eq!(status_of(text, Verdict::Refused { number: 24, line: 3 }), Status::Disagreement);
+        }
+        // an M line is due before the end
+        let text = b"P,k,0,R\nP,l,0,R\nC,k,0\nC,l,0\nH,l\nE\n";
+        assert_eq!(status_of(text, Verdict::Refused { number: 24, line: 6 }), Status::Disagreement);
     }
 
     #[test]

@@ -2,8 +2,10 @@
 
 use crate::claims::inequality;
 use crate::facts::{judge, FactJudgement, FailedClaim};
+use crate::faults::Detail;
 use crate::findings::{numbers_of, Refusal, Working};
 use crate::forms::Form;
+use crate::heads::{HeadlessPredicate, IdleClaim, NearHead};
 use crate::input::Source;
 use crate::json::Json;
 use crate::pack::{Fact, Pack, Predicate};
@@ -68,7 +70,8 @@ pub fn refusal_json(refusal: &Refusal) -> Json {
     ]);
     match &refusal.working {
         Some(Working::Rule(judgement)) => json.with("judgement", judgement_json(judgement)),
-        Some(Working::Fact(judgement)) => json.with("judgement", fact_judgement_json(judgement)),
+        Some(Working::Fault(Detail::Fact(judgement))) => json.with("judgement", fact_judgement_json(judgement)),
+        Some(Working::Fault(Detail::Heads(headless))) => json.with("judgement", heads_json(headless)),
         None => json,
     }
 }
@@ -113,6 +116,32 @@ fn fact_judgement_json(judgement: &FactJudgement) -> Json {
         ("sizes", Json::numbers(&judgement.sizes)),
         ("failed_claims", Json::List(judgement.failed.iter().map(failed_json).collect())),
     ])
+}
+
+fn heads_json(headless: &[HeadlessPredicate]) -> Json {
+    let claim_json = |(place, claim): (usize, &IdleClaim)| {
+        Json::object([
+            ("claim", Json::number(place + 1)),
+            ("line", Json::number(claim.line)),
+            ("reads", Json::text(&claim.inequality)),
+        ])
+    };
+    let near_json = |near: &NearHead| {
+        Json::object([
+            ("predicate", Json::text(&near.predicate)),
+            ("line", Json::number(near.line)),
+            ("rules", Json::number(near.rules)),
+        ])
+    };
+    let predicate_json = |predicate: &HeadlessPredicate| {
+        Json::object([
+            ("predicate", Json::text(&predicate.predicate)),
+            ("line", Json::number(predicate.line)),
+            ("claims", Json::List(predicate.claims.iter().enumerate().map(claim_json).collect())),
+            ("near", Json::List(predicate.near.iter().map(near_json).collect())),
+        ])
+    };
+    Json::object([("headless", Json::List(headless.iter().map(predicate_json).collect()))])
 }
 
 /// The constant, then the coefficients by the variables' names, in order of their first occurrence.

@@ -2,8 +2,10 @@
 
 use crate::claims::{argument_name, inequality, remark};
 use crate::facts::FactJudgement;
+use crate::faults::Detail;
 use crate::findings::{Refusal, Working};
 use crate::forms::Form;
+use crate::heads::HeadlessPredicate;
 use crate::input::Source;
 use crate::pack::{Pack, Predicate};
 use crate::page::{Page, Style};
@@ -89,7 +91,8 @@ pub fn show_facts(page: &mut Page, pack: &Pack) {
     page.sentence(0, &format!("{come}. {each} meets every claim on its predicate."));
 }
 
-/// The line quoted, what is wrong, the working for claims that are not justified or not met, and what to mend.
+/// The line quoted, what is wrong, the working for claims that are not justified, not met or without a rule, and what to
+/// mend.
 pub fn show_refusal(page: &mut Page, refusal: &Refusal) {
     match &refusal.quote {
         Some(quote) => page.quote(quote.number, quote.text, quote.mark.as_ref()),
@@ -100,7 +103,8 @@ pub fn show_refusal(page: &mut Page, refusal: &Refusal) {
         page.blank();
         match working {
             Working::Rule(judgement) => show_judgement(page, judgement),
-            Working::Fact(judgement) => show_fact_judgement(page, judgement),
+            Working::Fault(Detail::Fact(judgement)) => show_fact_judgement(page, judgement),
+            Working::Fault(Detail::Heads(headless)) => show_headless(page, headless),
         }
         page.blank();
     }
@@ -132,6 +136,19 @@ fn show_fact_judgement(page: &mut Page, judgement: &FactJudgement) {
     for failed in &judgement.failed {
         let said = format!("{}: {} does not hold", failed.inequality, failed.at_sizes());
         page.row(&format!("claim {}", failed.claim), Style::Bad, &said);
+    }
+}
+
+/// Each predicate that heads no rule with its claims, and those of near names that head some.
+fn show_headless(page: &mut Page, headless: &[HeadlessPredicate]) {
+    for predicate in headless {
+        page.row("no rule", Style::Bad, &format!("{} (line {})", predicate.predicate, predicate.line));
+        for (place, claim) in predicate.claims.iter().enumerate() {
+            page.row(&format!("claim {}", place + 1), Style::Plain, &claim.inequality);
+        }
+        for near in &predicate.near {
+            page.row("near", Style::Plain, &near.written());
+        }
     }
 }
 

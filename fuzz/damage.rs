@@ -1,5 +1,8 @@
 //! Takes packs, queries and terms and changes them a little: one field or line, or some bytes.
 
+#[path = "damage_heads.rs"]
+mod heads;
+
 use crate::random::Random;
 
 /// Fields that are wrong in most places, or nearly right.
@@ -39,7 +42,7 @@ fn edit_lines(random: &mut Random, lines: &mut Vec<Vec<u8>>) {
         return;
     }
     let (one, other) = (random.below(lines.len()), random.below(lines.len()));
-    match random.below(26) {
+    match random.below(29) {
         0..=3 => edit_number(random, &mut lines[one]),
         4..=6 => edit_multiplier(random, lines),
         7..=8 => lines[one] = edited_fields(random, &lines[one]),
@@ -55,6 +58,8 @@ fn edit_lines(random: &mut Random, lines: &mut Vec<Vec<u8>>) {
         18 => lines.insert(one, Vec::new()),
         19..=22 => edit_term(random, lines),
         23..=24 => add_fact(random, lines),
+        25..=26 => heads::edit_heads(random, lines),
+        27 => heads::edit_end(random, lines),
         _ => change_letter(random, &mut lines[one]),
     }
 }

@@ -4,6 +4,8 @@
 
 #[path = "generate_facts.rs"]
 mod facts;
+#[path = "generate_heads.rs"]
+mod heads;
 #[path = "generate_plan.rs"]
 mod plan;
 #[path = "generate_queries.rs"]
@@ -217,23 +219,6 @@ impl Model {
         }
     }
 
-    fn add_rules(&mut self, random: &mut Random, plan: &Plan) {
-        let ruled: Vec<usize> = (0..plan.predicates).filter(|index| !self.predicates[*index].is_given).collect();
-        if ruled.is_empty() {
-            return;
-        }
-        for _ in 0..plan.rules {
-            let head = random.pick(&ruled);
-            let rule = match random.below(9) {
-                0..=1 => self.passing_rule(random, plan, head),
-                2..=5 => self.recursive_rule(random, plan, head),
-                6..=7 => self.base_rule(random, plan, head),
-                _ => self.free_rule(random, plan, head),
-            };
-            self.rules.push(rule);
-        }
-    }
-
     fn atom(&self, random: &mut Random, plan: &Plan, predicate: usize) -> Atom {
         let arity = self.predicates[predicate].arity;
         let depth = random.below(plan.depth + 1);
@@ -291,6 +276,9 @@ impl Model {
     fn add_claims(&mut self, random: &mut Random, plan: &Plan, justified: bool) {
         let tries = if justified { 10 } else { 1 };
         for predicate in 0..self.predicates.len() {
+            if !self.may_be_claimed(plan, predicate) {
+                continue;
+            }
             let least = usize::from(random.chance(80)).min(plan.most_claims);
             let count = least + plan.up_to(random, plan.most_claims - least);
             while self.claims_on(predicate).len() < count {

@@ -9,7 +9,7 @@ use crate::random::Random;
 /// limit has other faults too, which have lower numbers.
 pub fn pack_at_a_limit(random: &mut Random) -> Pack {
     let step = random.below(3);
-    let (letter, mut lines) = match random.below(16) {
+    let (letter, mut lines) = match random.below(17) {
         0 => ('P', at_predicates(31 + step)),
         1 => ('C', at_claims(15 + step)),
         2 => ('H', at_rules(63 + step)),
@@ -25,6 +25,7 @@ pub fn pack_at_a_limit(random: &mut Random) -> Pack {
         12 => ('G', at_fact_variables(random.pick(&[0, 1, 15, 16, 17, 18]))),
         13 => ('G', at_fact_line_bytes(1_023 + step)),
         14 => ('G', at_facts(random, 32_767 + step)),
+        15 => ('E', at_heads(random)),
         _ => ('H', at_text_bytes(32_767 + step)),
     };
     if random.chance(40) {
@@ -76,6 +77,20 @@ fn at_lines(rules: usize) -> Vec<String> {
         lines.push(format!("H,k{}", 1 + rule % 31));
         lines.extend((0..8).map(|_| "B,k".to_string()));
         lines.extend((0..16).map(|_| "M".to_string()));
+    }
+    lines.push("E".to_string());
+    lines
+}
+
+/// Thirty-two ruled predicates with a claim each: all of them head a rule, or all but one.
+fn at_heads(random: &mut Random) -> Vec<String> {
+    let mut heads: Vec<usize> = (1..=32).collect();
+    let mut lines: Vec<String> = heads.iter().map(|number| format!("P,k{number},1,R")).collect();
+    lines.extend(heads.iter().map(|number| format!("C,k{number},0,1")));
+    random.shuffle(&mut heads);
+    heads.truncate(31 + random.below(2));
+    for number in heads {
+        lines.extend([format!("H,k{number},X"), "M".to_string()]);
     }
     lines.push("E".to_string());
     lines

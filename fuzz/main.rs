@@ -24,6 +24,11 @@ const SHOWN_DIFFERENCES: u64 = 5;
 /// Among the accepted packs, those with facts are counted a second time under this name.
 const ACCEPTED_WITH_FACTS: &str = "check 0 with facts";
 
+/// The tests next to 24 are counted a second time under these names: packs refused with it that have lines after the
+/// `E` line, which would be 4 or 5, and packs refused with 9 on an `E` line that would be 24 without its further fields.
+const LINES_AFTER_24: &str = "check 24 with lines after E";
+const FIELDS_BEFORE_24: &str = "check 9 in place of 24";
+
 /// Among the sheets that were written, the shortest and the longest are counted a second time under these names; those of
 /// refused packs, which leave the page, under the last.
 const SHEET_WITHOUT_RULES: &str = "sheet 0 without rules";
@@ -109,7 +114,7 @@ fn make_pack(random: &mut Random) -> Pack {
 }
 
 fn made_pack(random: &mut Random, plan: fn(&mut Random) -> Plan) -> Pack {
-    let plan = Plan { facts: number_of_facts(random), ..plan(random) };
+    let plan = Plan { facts: number_of_facts(random), headless: random.chance(15), ..plan(random) };
     let justified = random.chance(85);
     Model::make(random, &plan, justified).pack()
 }
@@ -190,6 +195,7 @@ fn ask_about_pack(random: &mut Random, number: u64, tally: &mut Tally) {
     let check = Question { call: Call::Check, text: pack.text.clone(), area, query, page, guard };
     let answer = compare(&check, number, tally);
     tally.count(format!("check {}", answer.word & 255));
+    count_end(answer.word, &pack.text, tally);
 
     let accepted = answer.word & 255 == 0;
     if accepted && count_lines(&pack.text, b"G,") > 0 {
@@ -216,6 +222,21 @@ fn ask_about_pack(random: &mut Random, number: u64, tally: &mut Tally) {
 /// How many lines of the text begin so.
 fn count_lines(text: &[u8], beginning: &[u8]) -> usize {
     text.split(|byte| *byte == 10).filter(|line| line.starts_with(beginning)).count()
+}
+
+/// Whether check's answer is one next to 24, by what the text has at and after the line of the refusal.
+fn count_end(word: u64, text: &[u8], tally: &mut Tally) {
+    let (number, line) = (word & 0xFF, (word >> 8 & 0xFFFF) as usize);
+    let lines: Vec<&[u8]> = text.split_inclusive(|byte| *byte == 10).collect();
+    if number == 24 && line < lines.len() {
+        tally.count(LINES_AFTER_24.to_string());
+    }
+    if number == 9 && lines[line - 1].starts_with(b"E,") {
+        let mended = [lines[..line - 1].concat(), b"E\n".to_vec()].concat();
+        if plain::check(&mended, &mut [0; plain::AREA_NEEDED])[0] == 24 {
+            tally.count(FIELDS_BEFORE_24.to_string());
+        }
+    }
 }
 
 /// A pack's own refusals are one kind of answer here: check is asked about each of them.
@@ -327,8 +348,8 @@ fn hexadecimal(bytes: &[u8]) -> String {
 
 /// All answers that a run must have met.
 fn needed_answers() -> Vec<String> {
-    let check = (0..=13).chain(20..=22).map(|number| format!("check {number}"));
-    let check = check.chain([ACCEPTED_WITH_FACTS.to_string()]);
+    let check = (0..=13).chain([20, 21, 22, 24]).map(|number| format!("check {number}"));
+    let check = check.chain([ACCEPTED_WITH_FACTS, LINES_AFTER_24, FIELDS_BEFORE_24].map(String::from));
     let letters = ["B", "N", "I"].iter().map(|letter| format!("reserve {letter}"));
     let refusals = [4, 14, 15, 16, 17, 18].iter().map(|number| format!("reserve R {number}"));
     let measure = [0, 4, 11, 19].iter().map(|number| format!("measure {number}"));

@@ -1,6 +1,7 @@
-//! Document 01, with 02's 1/14 and 2/14, in plain Rust: `check`, `reserve`, `measure` and `sheet`, written from the
-//! documents' words and not from the code under `crates/`. The fuzz test compares the project's library with it, so it aims at being easy to
-//! compare with the documents, not at speed. All arithmetic on forms is checked: an overflow stops the test.
+//! Document 01, with 02's 1/14 to 3/14, in plain Rust: `check`, `reserve`, `measure` and `sheet`, written from the
+//! documents' words and not from the code under `crates/`. The fuzz test compares the project's library with it, so it
+//! aims at being easy to compare with the documents, not at speed. All arithmetic on forms is checked: an overflow stops
+//! the test.
 
 #[path = "plain_queries.rs"]
 mod queries;
@@ -133,6 +134,7 @@ struct Predicate<'a> {
     is_given: bool,
     /// Each claim's numbers c0, c1, .., cn.
     claims: Vec<Vec<i64>>,
+    heads_a_rule: bool,
 }
 
 /// A head or a subgoal: which predicate, and the sizes of its arguments.
@@ -172,7 +174,7 @@ struct Pack<'a> {
     multiplier_lines: u64,
 }
 
-/// Refusals 2 to 13 and 20 to 22: the whole text, then its lines from the top, then 6.
+/// Refusals 2 to 13, 20 to 22 and 24: the whole text, then its lines from the top, then 6.
 fn judge(text: &[u8]) -> Result<Pack<'_>, Refusal> {
     refuse_unless(text.len() <= TEXT_BYTES, 2)?;
     refuse_unless(text.last() == Some(&10), 3)?;
@@ -254,7 +256,7 @@ impl<'a> Pack<'a> {
         refuse_unless(fields[3] == b"G" || fields[3] == b"R", 10)?;
         refuse_unless(self.predicates.len() < PREDICATES, 12)?;
         let is_given = fields[3] == b"G";
-        self.predicates.push(Predicate { name: fields[1], arity, is_given, claims: Vec::new() });
+        self.predicates.push(Predicate { name: fields[1], arity, is_given, claims: Vec::new(), heads_a_rule: false });
         Ok(())
     }
 
@@ -291,6 +293,7 @@ impl<'a> Pack<'a> {
         let mut variables = Vec::new();
         let head = Atom { predicate, sizes: sizes_of(&terms, &mut variables)? };
         self.rule = Some(Rule { head, subgoals: Vec::new(), variables, multiplier_lines: 0 });
+        self.predicates[predicate].heads_a_rule = true;
         self.rules += 1;
         self.place = Place::Rules;
         Ok(())
@@ -339,9 +342,11 @@ impl<'a> Pack<'a> {
         residual
     }
 
-    /// `E`
+    /// `E`: by now each ruled predicate with a claim heads a rule.
     fn read_end(&mut self, fields: &[&'a [u8]]) -> Result<(), Refusal> {
         refuse_unless(fields.len() == 1, 9)?;
+        let is_headless = |predicate: &Predicate| !predicate.claims.is_empty() && !predicate.heads_a_rule;
+        refuse_unless(!self.predicates.iter().any(|predicate| !predicate.is_given && is_headless(predicate)), 24)?;
         self.place = Place::Ended;
         Ok(())
     }

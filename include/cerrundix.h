@@ -2,7 +2,7 @@
  *
  * Link with libcerrundix.a (`scripts/prepare library` makes it, for x86-64 Linux). The library keeps no state, so threads
  * may call it at the same time; it takes no memory from the heap, and calls nothing but memset and memcpy. Each call
- * returns, whatever the bytes, given enough stack (check, reserve and the sheet used 17,592 bytes at most, measure 1,944:
+ * returns, whatever the bytes, given enough stack (check, reserve and the sheet used 17,640 bytes at most, measure 1,944:
  * bench/README.md); no call reads or writes outside the buffers that it is lent. What each answer means is proved against
  * documents 01 and 02 (docs/MAP.md).
  *
@@ -34,8 +34,8 @@ extern "C" {
 /* Checks a pack. The area holds at least CERRUNDIX_AREA numbers; it changes only for refusal 13, and then only its first
  * CERRUNDIX_AREA numbers. Take the word apart with cerrundix_number, _line, _rule, _claim:
  *   number 0: accepted; line, rule and claim hold the counts of lines, rules and `M` lines (cerrundix_lines and so on)
- *   number 1 to 13, 20 to 22: refused, see cerrundix_reason; line is the line, from 1, or 0; for 13 rule and claim are
- *   those of the claim that is not justified, for all others they are 0 */
+ *   number 1 to 13, 20 to 22, 24: refused, see cerrundix_reason; line is the line, from 1, or 0; for 13 rule and claim
+ *   are those of the claim that is not justified, for all others they are 0 */
 uint64_t check(const uint8_t *text, size_t text_length, int64_t *area, size_t area_length);
 
 /* Reserves by a pack and a query, the query without its byte 10. Writes to no lent memory. Take the word apart with
@@ -43,7 +43,8 @@ uint64_t check(const uint8_t *text, size_t text_length, int64_t *area, size_t ar
  *   'B': the asked size is at most middle, by claim `by`
  *   'N': no claim gives a bound
  *   'I': there is no such fact, by claim `by`
- *   'R': refused; middle is the pack's number (2 to 13, 20 to 22) or the query's (4, 14 to 18), see cerrundix_reason */
+ *   'R': refused; middle is the pack's number (2 to 13, 20 to 22, 24) or the query's (4, 14 to 18), see
+ *   cerrundix_reason */
 uint64_t reserve(const uint8_t *text, size_t text_length, const uint8_t *query, size_t query_length);
 
 /* Measures a ground term. Writes to no lent memory. Take the word apart with cerrundix_refusal and _size: refusal 0 and the
@@ -65,8 +66,8 @@ struct cerrundix_answer {
  * with a space between them, and spaces up to column 64. There is no zero byte at the end. The answer is
  *   number 0: the sheet is written; line, rule and claim hold check's counts of lines, rules and `M` lines. So the sheet
  *   has rule * CERRUNDIX_SHEET_LINE bytes; what lies after it on the page is unchanged
- *   number 2 to 13, 20 to 22: the pack is refused; the four numbers are check's. There is no area here: 13 leaves no
- *   residual, ask check for it
+ *   number 2 to 13, 20 to 22, 24: the pack is refused; the four numbers are check's. There is no area here: 13 leaves
+ *   no residual, ask check for it
  *   number 23: the pack is accepted, and the page is shorter than its sheet; line, rule and claim are 0
  * A refusal leaves the whole page as it was, and a pack's own comes before 23. A page of CERRUNDIX_SHEET_LIMIT bytes is
  * long enough for every pack; a pack without rules needs none, and NULL and 0 will do. */
@@ -138,6 +139,7 @@ static inline const char *cerrundix_reason(unsigned number) {
     case 21: return "a fact on a G line has a variable: a constant starts with a small letter and has its arity";
     case 22: return "a fact on a G line fails a claim on its predicate: correct the fact or weaken the claim";
     case 23: return "the page is shorter than the sheet, 65 bytes for each rule: lend a longer one, 4,160 bytes do for every pack";
+    case 24: return "a ruled predicate has a claim and heads no rule: look for a misspelt head, add its rules, or take its claims out";
     default: return "no refusal of this library";
     }
 }

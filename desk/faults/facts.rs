@@ -1,7 +1,7 @@
 //! 20, 21 and 22: a fact that comes with the pack is of a ruled predicate, has a variable, or fails a claim.
 
 use super::terms::{argument_tokens, explain_variables};
-use super::{place_of_field, Fault};
+use super::{place_of_field, Detail, Fault};
 use crate::facts::judge;
 use crate::letters::Letter;
 use crate::pack::{fields_of, Atom, Pack};
@@ -46,5 +46,5 @@ pub fn of_claims(seen: &Pack, line: &[u8]) -> Option<Fault> {
         return None;
     }
     let (wrong, mend) = (judgement.wrong(), judgement.mend());
-    Some(Fault { mark: 0..line.len(), wrong, mend, judgement: Some(judgement) })
+    Some(Fault { mark: 0..line.len(), wrong, mend, detail: Some(Detail::Fact(judgement)) })
 }

@@ -2,6 +2,7 @@
 
 use super::{place_of_field, Fault};
 use crate::letters::Letter;
+use crate::near::near_names;
 use crate::pack::{fields_of, Pack, Predicate};
 use crate::tokens::{name_fault, NameFault};
 use crate::words::{are, count, listed, quoted, shown, shown_byte};
@@ -102,7 +103,7 @@ pub fn of_query(pack: &Pack, query: &[u8]) -> Option<Fault> {
 }
 
 fn not_declared(seen: &Pack, name: &[u8], start: usize) -> Option<Fault> {
-    let near: Vec<String> = near_names(name, &seen.predicates)
+    let near: Vec<String> = near_names(name, seen.predicates.iter())
         .iter()
         .map(|predicate| format!("{} (line {})", predicate.name_shown(), predicate.line))
         .collect();
@@ -119,48 +120,4 @@ fn not_declared(seen: &Pack, name: &[u8], start: usize) -> Option<Fault> {
     }
     let mend = "Write a declared name here, or declare this one with a P line, before the C, G and H lines.";
     Fault::at(start..start + name.len(), wrong, mend)
-}
-
-/// The declared predicates with names like this one: alike but for capitals, or a letter in three apart, two at most.
-fn near_names<'p, 't>(name: &[u8], predicates: &'p [Predicate<'t>]) -> Vec<&'p Predicate<'t>> {
-    let reach = (name.len() / 3).min(2);
-    let mut near: Vec<(usize, &Predicate)> = predicates
-        .iter()
-        .map(|predicate| (distance(&name.to_ascii_lowercase(), &predicate.name.to_ascii_lowercase()), predicate))
-        .filter(|(apart, _)| *apart <= reach)
-        .collect();
-    near.sort_by_key(|(apart, _)| *apart);
-    near.into_iter().take(3).map(|(_, predicate)| predicate).collect()
-}
-
-/// How many letters have to be put in, taken out, changed, or exchanged with the next to make one word of the other.
-fn distance(one: &[u8], other: &[u8]) -> usize {
-    let mut rows = vec![vec![0; other.len() + 1]; one.len() + 1];
-    for i in 0..=one.len() {
-        for j in 0..=other.len() {
-            rows[i][j] = if i == 0 || j == 0 {
-                i + j
-            } else {
-                let change = usize::from(one[i - 1] != other[j - 1]);
-                let swaps = i > 1 && j > 1 && one[i - 1] == other[j - 2] && one[i - 2] == other[j - 1];
-                let swapped = if swaps { rows[i - 2][j - 2] + 1 } else { usize::MAX };
-                (rows[i - 1][j] + 1).min(rows[i][j - 1] + 1).min(rows[i - 1][j - 1] + change).min(swapped)
-            };
-        }
-    }
-    rows[one.len()][other.len()]
-}
-
-#[cfg(test)]
-mod tests {
-    use super::*;
-
-    #[test]
-    fn words_are_as_far_apart_as_their_letters() {
-        assert_eq!(distance(b"trail", b"trial"), 1);
-        assert_eq!(distance(b"join", b"joins"), 1);
-        assert_eq!(distance(b"join", b"link"), 3);
-        assert_eq!(distance(b"", b"abc"), 3);
-        assert_eq!(distance(b"path", b"path"), 0);
-    }
 }

@@ -329,9 +329,9 @@ fn damaged_packs_are_explained() {
     let vectors = read_vectors();
     let packs = vectors.packs.iter().chain(vectors.queries.iter().map(|(pack, _)| pack));
     let (verdicts, answers) = explain_damaged(&packs.map(Vec::as_slice).collect::<Vec<&[u8]>>(), 1);
-    let wanted = [0, 2, 3, 4, 5, 6, 7, 8, 9, 10, 11, 12, 13];
+    let wanted = [0, 2, 3, 4, 5, 6, 7, 8, 9, 10, 11, 12, 13, 24];
     assert!(wanted.iter().all(|number| verdicts.contains(number)), "each verdict has occurred: {verdicts:?}");
-    let wanted = [('B', 0), ('N', 0), ('I', 0), ('R', 14), ('R', 15), ('R', 16), ('R', 17), ('R', 18)];
+    let wanted = [('B', 0), ('N', 0), ('I', 0), ('R', 14), ('R', 15), ('R', 16), ('R', 17), ('R', 18), ('R', 24)];
     assert!(wanted.iter().all(|answer| answers.contains(answer)), "each answer has occurred: {answers:?}");
 }
 

@@ -83,6 +83,7 @@ pub fn refusal_numbers(refusal: Refusal) -> Four
         Refusal::RuledFact(line) => of_line(20, line),
         Refusal::NotGround(line) => of_line(21, line),
         Refusal::UnmetClaim(line) => of_line(22, line),
+        Refusal::Headless(line) => of_line(24, line),
     }
 }
 

@@ -16,7 +16,7 @@ use Rattle.theory.specs.Packs.{Key, claimsOn, noClaim}
 use Rattle.theory.specs.declared.Letter.the-variants.{M}
 use Rattle.theory.specs.Written.{Written, multipliersFrom}
 use Rattle.theory.specs.Residuals.{isJustified}
-use Rattle.theory.specs.Faults.{firstOf, isMultiplier, lastRule, isComplete, mayStand, claimDue, residualDue, multiplierTests, tests, fault}
+use Rattle.theory.specs.Faults.{firstOf, isMultiplier, lastRule, isComplete, mayStand, claimDue, residualDue, multiplierTests, whole, tests, fault}
 use Rattle.theory.proofs.Reading.Places.{places-every, not-every}
 use Rattle.theory.proofs.Judging.Completeness.{rule-from-incomplete, due-from-incomplete}
 use Rattle.forms.specs.declared.Form.{Form}
@@ -103,14 +103,14 @@ module _ {line : Bytes} {t : Tables} {s : State} {w : Written} {o : Opened} {wei
   unfolding isJustified
   unjustified i below negative = not-every nonNeg residue (pos 0) i (omega (arith, residue-length)) (ap nonNeg (own-number i below) ∙ negative)
 
-  pub residual-answer : fault w line ≡ closingNumber r
+  pub residual-answer : fault whole w line ≡ closingNumber r
   unfolding tests multiplierTests firstOf
   residual-answer = decided r refl
     where
       all-good : every isMultiplier (drop 1 (fieldsOf line)) ≡ true
       all-good = places-every isMultiplier (drop 1 (fieldsOf line)) [] (progress .good)
 
-      decided : (q : Closing) → r ≡ q → fault w line ≡ closingNumber q
+      decided : (q : Closing) → r ≡ q → fault whole w line ≡ closingNumber q
       decided (Done next) e = passed .left ∙ rw (all-good, justified next e)
       decided (Misclosed f) e =
           let (is, same, (i, below, negative)) = closes .unjustified f e in

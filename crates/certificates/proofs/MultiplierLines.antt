@@ -16,7 +16,7 @@ use Rattle.groundwork.proofs.Stretches.{elements}
 use Rattle.theory.specs.Text.{Bytes, fieldsOf}
 use Rattle.theory.specs.declared.Letter.the-variants.{M}
 use Rattle.theory.specs.Written.{Written, multiplierFrom, multipliersFrom}
-use Rattle.theory.specs.Faults.{firstOf, isMultiplier, residualDue, multiplierTests, tests, fault}
+use Rattle.theory.specs.Faults.{firstOf, isMultiplier, residualDue, multiplierTests, whole, tests, fault}
 use Rattle.theory.proofs.Reading.Places.{not-every}
 use Rattle.forms.specs.declared.Form.{Form}
 use Rattle.tables.specs.declared.State.{State}
@@ -106,7 +106,7 @@ module _ {fs : List Bytes} {index many : ℕ} {claims : List ℤ} {slots : List 
       }
 
 pub m-fault : {line : Bytes} {s : State} {w : Written} {o : Opened} {index many : ℕ} {claims : List ℤ} {slots : List ℕ} {weights₀ weights : List ℤ} {r : Fielding} {f : Fault}
-    → Passed M line s w o → index < length (drop 1 (fieldsOf line)) → FieldM index (at (drop 1 (fieldsOf line)) index) many claims slots weights₀ r weights → r ≡ Misread f → fault w line ≡ numberOf f
+    → Passed M line s w o → index < length (drop 1 (fieldsOf line)) → FieldM index (at (drop 1 (fieldsOf line)) index) many claims slots weights₀ r weights → r ≡ Misread f → fault whole w line ≡ numberOf f
 unfolding tests multiplierTests firstOf
 m-fault {line} {index = index} {many} passed less done bad =
     let fs = drop 1 (fieldsOf line) in

@@ -12,6 +12,7 @@ use Rattle.theory.specs.Written.{lineLetter, Written, onLast, add, write, multi
 use Rattle.theory.specs.Faults.{noRule, lastRule}
 use Rattle.theory.specs.Check.{multiplierLines}
 use Rattle.theory.proofs.Judging.LastRule.{last-changed}
+use Rattle.tables.proofs.PredicateSets.{set-changed}
 use Rattle.theory.proofs.Judging.LineWriting.{writes-letter}
 use Rattle.theory.proofs.Judging.RuleCounts.{length-onLast}
 use Rattle.tables.specs.declared.State.{State}
@@ -61,6 +62,8 @@ module _ (t : Tables) (s : State) (w : Written) (line : Bytes) (is : lineLetter 
         claims = holds .claims;
         claimed = holds .claimed;
         shipped = holds .shipped;
+        owing = holds .owing;
+        headed = set-changed (onMultipliers (ending (multipliersFrom (fieldsOf line)))) (λ r. refl) (w .pack .rules) (holds .headed);
         rules = holds .rules ∙ sym (length-onLast (onMultipliers (ending ms)) (w .pack .rules));
         lines = omega (arith, holds .lines, one-line-more ms (w .pack .rules) some);
         last = λ nonempty. rw (last-changed (onMultipliers (ending ms)) noRule (w .pack .rules) some) rule-after;

@@ -43,7 +43,7 @@ pub record ProgressM (fs : List Bytes) (index : ℕ) (claims : List ℤ) (slots 
   pub weight : (subgoal j : ℕ) → subgoal < 8 → j < 9 → getD weights (suc subgoal * 9 + j) (pos 0) ≡ weightAfter claims slots fs subgoal j index
 
 abbrev pub withMultipliers : State → State
-withMultipliers s = record { predicates = s .predicates; claimed = s .claimed; rules = s .rules; «multiplier_lines» = s .«multiplier_lines» + 1; head = s .head; subgoals = s .subgoals; variables = s .variables; slots = s .slots; multipliers = s .multipliers + 1; shipped = s .shipped; ended = s .ended }
+withMultipliers s = record { predicates = s .predicates; claimed = s .claimed; rules = s .rules; «multiplier_lines» = s .«multiplier_lines» + 1; head = s .head; subgoals = s .subgoals; variables = s .variables; slots = s .slots; multipliers = s .multipliers + 1; shipped = s .shipped; owing = s .owing; headed = s .headed; ended = s .ended }
 
 -- the end of an `M` line: the weights with the head's, their sum, and what it decides
 pub record ClosesM (s : State) (claims weights₀ : List ℤ) (rows : List ℕ) (r : Closing) (weights : List ℤ) : Type 0 where

@@ -17,7 +17,7 @@ use Rattle.theory.specs.Text.{Bytes, integer, fieldsOf}
 use Rattle.theory.specs.Packs.{claimKey, claimsOn, claimLimit, numberLimit}
 use Rattle.theory.specs.declared.Letter.the-variants.{C}
 use Rattle.theory.specs.Written.{Written, claimFrom, integerFrom, add}
-use Rattle.theory.specs.Faults.{isClaimNumber, firstOf, claimTests, tests, fault}
+use Rattle.theory.specs.Faults.{isClaimNumber, firstOf, claimTests, whole, tests, fault}
 use Rattle.theory.proofs.Reading.Presence.{some-is, is-empty, end-filled}
 use Rattle.theory.proofs.Reading.Places.{places-every, not-every}
 use Rattle.theory.proofs.Judging.Sections.{claims-stand}
@@ -33,10 +33,12 @@ use Rattle.tables.specs.declared.Closing.the-variants.{Done, Misclosed}
 use Rattle.tables.specs.Tables.{Tables, tables, claimPlace, Holds, Safe}
 use Rattle.tables.specs.Faults.{numberOf}
 use Rattle.tables.specs.Lines.{Passed, ClosedFor, at}
+use Rattle.tables.proofs.PredicateSets.{key-alone}
 use Rattle.tables.proofs.Outcomes.{field-passes, field-fails, line-number, line-passes, line-fails}
 use Rattle.tables.proofs.Declared.{count-declares}
 use Rattle.declarations.specs.Fields.{FieldC, ProgressC}
 use Rattle.declarations.specs.Ends.{withClaim, Laid, ClosesC}
+use Rattle.declarations.proofs.OwedRules.{owed}
 use Rattle.declarations.proofs.ClaimTable.{claim-laid, claims-more, laid-small}
 
 -- ---- the fields
@@ -59,11 +61,11 @@ c-count {many = many} {f = f} done is = field-passes many Number (isClaimNumber 
 
 -- the tests that are left when the fields are read
 c-left : (line : Bytes) (s : State) (w : Written) (o : Opened) → Passed C line s w o
-    → fault w line ≡ cond (not (every isClaimNumber (drop 2 (fieldsOf line)))) 10 (cond (leb claimLimit (length (claimsOn (claimKey (claimFrom (fieldsOf line))) (w .pack .claims)))) 12 0)
+    → fault whole w line ≡ cond (not (every isClaimNumber (drop 2 (fieldsOf line)))) 10 (cond (leb claimLimit (length (claimsOn (claimKey (claimFrom (fieldsOf line))) (w .pack .claims)))) 12 0)
 unfolding firstOf tests claimTests
 c-left line s w o passed = passed .left
 
-pub c-fault : (line : Bytes) (s : State) (w : Written) (o : Opened) (index many : ℕ) (row₀ row : List ℤ) (r : Fielding) (f : Fault) → Passed C line s w o → index < length (drop 2 (fieldsOf line)) → FieldC index (at (drop 2 (fieldsOf line)) index) many row₀ r row → r ≡ Misread f → fault w line ≡ numberOf f
+pub c-fault : (line : Bytes) (s : State) (w : Written) (o : Opened) (index many : ℕ) (row₀ row : List ℤ) (r : Fielding) (f : Fault) → Passed C line s w o → index < length (drop 2 (fieldsOf line)) → FieldC index (at (drop 2 (fieldsOf line)) index) many row₀ r row → r ≡ Misread f → fault whole w line ≡ numberOf f
 c-fault line s w o index many row₀ row r f passed less done is =
     let fs = drop 2 (fieldsOf line) in
     let failed = field-fails many Number (isClaimNumber (at fs index)) (done .answer) is in
@@ -77,7 +79,7 @@ c-holds : (line : Bytes) (t : Tables) (s : State) (w : Written) (o : Opened) (ro
     → let count = getD (t .signatures) (64 + o .predicate) 0 in
     count < 16
     → Laid (t .claims) (claimPlace (o .predicate) count) row (getD (t .signatures) (o .predicate) 0) claims
-    → Holds (tables (t .names) (set (t .signatures) (64 + o .predicate) (count + 1)) claims (t .variables) (t .rows) (t .slots)) (withClaim s) (record { pack = add C (fieldsOf line) (w .pack); ended = w .ended })
+    → Holds (tables (t .names) (set (t .signatures) (64 + o .predicate) (count + 1)) claims (t .variables) (t .rows) (t .slots)) (withClaim (o .predicate) (t .signatures) s) (record { pack = add C (fieldsOf line) (w .pack); ended = w .ended })
 unfolding add claimFrom
 c-holds line t s w o row claims holds safe passed done room laid =
     let fields = fieldsOf line in
@@ -100,6 +102,8 @@ c-holds line t s w o row claims holds safe passed done room laid =
           (omega (arith, length-map (drop 3 fields) integerFrom, length-drop 3 fields));
       claimed = rw (end-filled cs c);
       shipped = holds .shipped;
+      owing = owed ps cs c p (key-alone declares p below) below (passed .named .is) (holds .owing) (getD (t .signatures) (32 + p) 0) (declares .kind p (omega arith));
+      headed = holds .headed;
       rules = holds .rules;
       lines = holds .lines;
       last = λ some. absurd (some (is-empty (w .pack .rules) (and-right (isEmpty (w .pack .facts)) _ (sym (claims-stand (w .pack)) ∙ passed .stands))));
@@ -108,13 +112,13 @@ c-holds line t s w o row claims holds safe passed done room laid =
 
 module _ {o : Opened} {s : State} {row : List ℤ} {signatures₀ : List ℕ} {claims₀ : List ℤ} {r : Closing} {signatures : List ℕ} {claims : List ℤ} (closes : ClosesC o s row signatures₀ claims₀ r signatures claims) where
   -- a line that is done had room for its claim
-  room : (next : State) → r ≡ Done next → (getD signatures₀ (64 + o .predicate) 0 < claimLimit) × (withClaim s ≡ next)
+  room : (next : State) → r ≡ Done next → (getD signatures₀ (64 + o .predicate) 0 < claimLimit) × (withClaim (o .predicate) signatures₀ s ≡ next)
   room next is =
-      let passes = line-passes CountLimit (withClaim s) (leb claimLimit (getD signatures₀ (64 + o .predicate) 0)) (closes .answer) is in
+      let passes = line-passes CountLimit (withClaim (o .predicate) signatures₀ s) (leb claimLimit (getD signatures₀ (64 + o .predicate) 0)) (closes .answer) is in
       (leb-gt claimLimit (getD signatures₀ (64 + o .predicate) 0) (passes .0), passes .1)
 
   pub c-limit : (f : Fault) → r ≡ Misclosed f → f ≡ CountLimit
-  c-limit f is = sym (line-fails CountLimit (withClaim s) (leb claimLimit (getD signatures₀ (64 + o .predicate) 0)) (closes .answer) is .1)
+  c-limit f is = sym (line-fails CountLimit (withClaim (o .predicate) signatures₀ s) (leb claimLimit (getD signatures₀ (64 + o .predicate) 0)) (closes .answer) is .1)
 
 pub c-close : (line : Bytes) (t : Tables) (s : State) (w : Written) (o : Opened) (row : List ℤ) (signatures : List ℕ) (claims : List ℤ) (r : Closing) → Holds t s w → Safe t s → Passed C line s w o → ProgressC (drop 2 (fieldsOf line)) (length (drop 2 (fieldsOf line))) row → ClosesC o s row (t .signatures) (t .claims) r signatures claims
     → ClosedFor line w r (tables (t .names) signatures claims (t .variables) (t .rows) (t .slots))
@@ -123,7 +127,7 @@ c-close line t s w o row signatures claims r holds safe passed done closes =
     let good = places-every isClaimNumber fs [] (λ i less. some-is _ _ (done .read i less)) in
     let count = getD (t .signatures) (64 + o .predicate) 0 in
     record {
-      answer = rw (c-left line s w o passed, good, ← passed .named .is, ← holds .claims .count (o .predicate) (passed .named .below)) (sym (line-number CountLimit (withClaim s) (leb claimLimit count) (closes .answer)));
+      answer = rw (c-left line s w o passed, good, ← passed .named .is, ← holds .claims .count (o .predicate) (passed .named .below)) (sym (line-number CountLimit (withClaim (o .predicate) (t .signatures) s) (leb claimLimit count) (closes .answer)));
       holds = λ next is.
           let fits = room closes next is in
           rw (writes-letter C w line (passed .first) refl, ← fits .1, closes .signaturesAre (fits .0)) (c-holds line t s w o row claims holds safe passed done (fits .0) (closes .claimsAre (fits .0)));

@@ -1,5 +1,5 @@
 -- A claim's nine numbers laid into the table, zeros after those of the arguments.
-use mathlib.Core.Path.{_≡_, refl, sym, _∙_}
+use mathlib.Core.Path.{_≡_, refl, sym, _∙_, ap}
 use mathlib.Core.Bool.{cond}
 use mathlib.Core.List.{List}
 use Prim.Native.Nat.{ℕ, _+_, _≤_, _<_}
@@ -18,7 +18,7 @@ use Rattle.tables.specs.declared.Fault.the-variants.{CountLimit}
 use Rattle.tables.specs.declared.Closing.the-variants.{Done, Misclosed}
 use Rattle.tables.specs.Tables.{claimPlace}
 use Rattle.tables.proofs.Outcomes.{at-limit, below-limit}
-use Rattle.declarations.specs.Ends.{withClaim, Laid, ClosesC}
+use Rattle.declarations.specs.Ends.{owingWith, withOwing, withClaim, Laid, ClosesC}
 
 -- the number at a place
 abbrev pub laidAt : List ℤ → ℕ → ℕ → ℤ
@@ -58,16 +58,16 @@ module _ (o : Opened) (s : State) (row : List ℤ) (signatures : List ℕ) (clai
   pub claim-refused : 16 ≤ count → ClosesC o s row signatures claims₀ (Misclosed CountLimit) signatures claims₀
   claim-refused full =
       record {
-        answer = at-limit CountLimit (withClaim s) 16 (getD signatures (64 + o .predicate) 0) (omega arith);
+        answer = at-limit CountLimit (withClaim (o .predicate) signatures s) 16 (getD signatures (64 + o .predicate) 0) (omega arith);
         signaturesAre = λ less. absurd (omega arith);
         claimsAre = λ less. absurd (omega arith);
       }
 
-  pub claim-added : (place arity more : ℕ) (claims : List ℤ) → count < 16 → place ≡ claimPlace (o .predicate) count → arity ≡ getD signatures (o .predicate) 0 → Laid claims₀ place row arity claims → more ≡ count + 1
-      → ClosesC o s row signatures claims₀ (Done (withClaim s)) (set signatures (64 + o .predicate) more) claims
-  claim-added place arity more claims room placed known laid counts =
+  pub claim-added : (place arity more owing : ℕ) (claims : List ℤ) → count < 16 → place ≡ claimPlace (o .predicate) count → arity ≡ getD signatures (o .predicate) 0 → Laid claims₀ place row arity claims → more ≡ count + 1 → owing ≡ owingWith (s .owing) (o .predicate) (getD signatures (32 + o .predicate) 0)
+      → ClosesC o s row signatures claims₀ (Done (withOwing owing s)) (set signatures (64 + o .predicate) more) claims
+  claim-added place arity more owing claims room placed known laid counts owed =
       record {
-        answer = below-limit CountLimit (withClaim s) 16 (getD signatures (64 + o .predicate) 0) (omega arith);
+        answer = ap (λ (x : ℕ). Done (withOwing x s)) owed ∙ below-limit CountLimit (withClaim (o .predicate) signatures s) 16 (getD signatures (64 + o .predicate) 0) (omega arith);
         signaturesAre = λ less. rw (counts, counted);
         claimsAre = λ less. rw (← known, ← counted, ← placed) laid;
       }

@@ -11,12 +11,12 @@ use lib.Seq.{getD-set-other, getD-drop}
 use Rattle.groundwork.proofs.Truth.{and-left, and-right, and-both, and-not-left, and-not-right, leb-gt}
 use Rattle.groundwork.proofs.Lists.{length-end}
 use Rattle.groundwork.proofs.Stretches.{replaced}
-use Rattle.theory.specs.Lists.{isSome, isEmpty}
+use Rattle.theory.specs.Lists.{any, isSome, isEmpty}
 use Rattle.theory.specs.Text.{Bytes, natural, fieldsOf}
 use Rattle.theory.specs.Packs.{predicateLimit}
 use Rattle.theory.specs.declared.Letter.the-variants.{P}
 use Rattle.theory.specs.Written.{Written, predicateFrom, add, field}
-use Rattle.theory.specs.Faults.{isKind, firstOf, predicateTests, tests, fault}
+use Rattle.theory.specs.Faults.{isKind, isGiven, firstOf, predicateTests, whole, tests, fault}
 use Rattle.theory.proofs.Reading.Presence.{some-is, is-empty}
 use Rattle.theory.proofs.Judging.Sections.{predicates-stand}
 use Rattle.theory.proofs.Judging.LineWriting.{writes-letter}
@@ -35,6 +35,7 @@ use Rattle.tables.specs.Faults.{numberOf}
 use Rattle.tables.specs.Lines.{Passed, ClosedFor, at}
 use Rattle.tables.proofs.Outcomes.{field-passes, field-fails, line-number, line-passes, line-fails}
 use Rattle.tables.proofs.Declared.{withSignature, signature-stays, declares-more, claimless}
+use Rattle.tables.proofs.PredicateSets.{set-declared}
 use Rattle.tables.proofs.Shipping.{ships-still}
 use Rattle.declarations.specs.Fields.{FieldP, ProgressP}
 use Rattle.declarations.specs.Ends.{withPredicates, ClosesP}
@@ -77,7 +78,7 @@ p-misread {index} {many} {f} done less is = field-fails many Number (goodAt inde
 
 -- the tests that are left when the fields are read
 p-left : (line : Bytes) (s : State) (w : Written) (o : Opened) → Passed P line s w o
-    → fault w line ≡ cond (not (goodAt 0 (at (drop 2 (fieldsOf line)) 0) && goodAt 1 (at (drop 2 (fieldsOf line)) 1))) 10 (cond (leb predicateLimit (length (w .pack .predicates))) 12 0)
+    → fault whole w line ≡ cond (not (goodAt 0 (at (drop 2 (fieldsOf line)) 0) && goodAt 1 (at (drop 2 (fieldsOf line)) 1))) 10 (cond (leb predicateLimit (length (w .pack .predicates))) 12 0)
 unfolding firstOf tests predicateTests
 p-left line s w o passed = rw (getD-drop 2 (fieldsOf line) 0 [], getD-drop 2 (fieldsOf line) 1 []) (passed .left)
 
@@ -86,7 +87,7 @@ either-bad zero less fs bad = and-not-left (goodAt 0 (at fs 0)) (goodAt 1 (at fs
 either-bad (suc zero) less fs bad = and-not-right (goodAt 0 (at fs 0)) (goodAt 1 (at fs 1)) bad
 either-bad (suc (suc index)) less fs bad = absurd (omega arith)
 
-pub p-fault : (line : Bytes) (s : State) (w : Written) (o : Opened) (index many : ℕ) (small₀ small : List ℕ) (r : Fielding) (f : Fault) → Passed P line s w o → index < 2 → FieldP index (at (drop 2 (fieldsOf line)) index) many small₀ r small → r ≡ Misread f → fault w line ≡ numberOf f
+pub p-fault : (line : Bytes) (s : State) (w : Written) (o : Opened) (index many : ℕ) (small₀ small : List ℕ) (r : Fielding) (f : Fault) → Passed P line s w o → index < 2 → FieldP index (at (drop 2 (fieldsOf line)) index) many small₀ r small → r ≡ Misread f → fault whole w line ≡ numberOf f
 p-fault line s w o index many small₀ small r f passed less done is =
     let fs = drop 2 (fieldsOf line) in
     let failed = field-fails many Number (goodAt index (at fs index)) (answer index less done) is in
@@ -108,7 +109,7 @@ p-holds : (line : Bytes) (t : Tables) (s : State) (w : Written) (o : Opened) →
     → let x = predicateFrom (fieldsOf line) in
     Holds (tables (withWords (t .names) (s .predicates) (wordsOf (field 1 (fieldsOf line)))) (withSignature (t .signatures) (s .predicates) (x .arguments) (flag (x .kind))) (t .claims) (t .variables) (t .rows) (t .slots))
     (withPredicates (s .predicates + 1) s) (record { pack = add P (fieldsOf line) (w .pack); ended = w .ended })
-unfolding add predicateFrom
+unfolding add predicateFrom any
 p-holds line t s w o holds safe passed room =
     let x = predicateFrom (fieldsOf line) in
     let ps = w .pack .predicates in
@@ -124,7 +125,9 @@ p-holds line t s w o holds safe passed room =
       claims = rw noClaims (claimless (t .signatures) (t .claims) ps (rw noClaims at (holds .claims)) _ (ps ++ (x ∷ [])) (omega (arith, length-end ps x, declares .count))
           λ i h. signature-stays (t .signatures) known (x .arguments) (flag (x .kind)) (64 + i) (λ e. omega arith) (λ e. omega arith));
       claimed = holds .claimed;
-      shipped = ships-still (holds .shipped) noFacts _;
+      shipped = ships-still (holds .shipped) noFacts x;
+      owing = set-declared (holds .owing) x (rw noClaims (and-not-right (not (isGiven (x .kind))) false refl));
+      headed = set-declared (holds .headed) x (rw noRules);
       rules = holds .rules;
       lines = holds .lines;
       last = λ some. absurd (some noRules);

@@ -2,8 +2,9 @@
 use mathlib.Core.Path.{_≡_}
 use mathlib.Core.Bool.{true, cond}
 use mathlib.Core.List.{List}
-use Prim.Native.Nat.{ℕ, _+_, _*_, _≤_, _<_}
-use lib.Dec.{leb}
+use Prim.Native.Nat.{ℕ, _+_, _*_, _^_, _≤_, _<_}
+use lib.Bits.{bitOr}
+use lib.Dec.{eqb, leb}
 use lib.IntN.{ℤ, pos}
 use lib.ListN.{length, getD, set}
 use Rattle.theory.specs.Packs.{predicateLimit, claimLimit}
@@ -15,10 +16,18 @@ use Rattle.tables.specs.declared.Closing.the-variants.{Done, Misclosed}
 use Rattle.tables.specs.Tables.{claimPlace}
 
 abbrev pub withPredicates : ℕ → State → State
-withPredicates n s = record { predicates = n; claimed = s .claimed; rules = s .rules; «multiplier_lines» = s .«multiplier_lines»; head = s .head; subgoals = s .subgoals; variables = s .variables; slots = s .slots; multipliers = s .multipliers; shipped = s .shipped; ended = s .ended }
+withPredicates n s = record { predicates = n; claimed = s .claimed; rules = s .rules; «multiplier_lines» = s .«multiplier_lines»; head = s .head; subgoals = s .subgoals; variables = s .variables; slots = s .slots; multipliers = s .multipliers; shipped = s .shipped; owing = s .owing; headed = s .headed; ended = s .ended }
 
-abbrev pub withClaim : State → State
-withClaim s = record { predicates = s .predicates; claimed = true; rules = s .rules; «multiplier_lines» = s .«multiplier_lines»; head = s .head; subgoals = s .subgoals; variables = s .variables; slots = s .slots; multipliers = s .multipliers; shipped = s .shipped; ended = s .ended }
+-- the predicates that owe a rule, with one claim more on the predicate at a place, marked 1 if it is given
+abbrev pub owingWith : ℕ → ℕ → ℕ → ℕ
+owingWith owing place mark = cond (eqb mark 1) owing (bitOr owing (2 ^ place))
+
+abbrev pub withOwing : ℕ → State → State
+withOwing owing s = record { predicates = s .predicates; claimed = true; rules = s .rules; «multiplier_lines» = s .«multiplier_lines»; head = s .head; subgoals = s .subgoals; variables = s .variables; slots = s .slots; multipliers = s .multipliers; shipped = s .shipped; owing = owing; headed = s .headed; ended = s .ended }
+
+-- with a claim on the predicate at a place, under these signatures
+abbrev pub withClaim : ℕ → List ℕ → State → State
+withClaim place signatures s = withOwing (owingWith (s .owing) place (getD signatures (32 + place) 0)) s
 
 pub record ClosesP (o : Opened) (s : State) (small names₀ signatures₀ : List ℕ) (r : Closing) (names signatures : List ℕ) : Type 0 where
   pub answer : r ≡ cond (leb predicateLimit (s .predicates)) (Misclosed CountLimit) (Done (withPredicates (s .predicates + 1) s))
@@ -34,6 +43,6 @@ pub record Laid (claims₀ : List ℤ) (place : ℕ) (row : List ℤ) (arity : �
   pub above : (i : ℕ) → place + 9 ≤ i → getD claims i (pos 0) ≡ getD claims₀ i (pos 0)
 
 pub record ClosesC (o : Opened) (s : State) (row : List ℤ) (signatures₀ : List ℕ) (claims₀ : List ℤ) (r : Closing) (signatures : List ℕ) (claims : List ℤ) : Type 0 where
-  pub answer : r ≡ cond (leb claimLimit (getD signatures₀ (64 + o .predicate) 0)) (Misclosed CountLimit) (Done (withClaim s))
+  pub answer : r ≡ cond (leb claimLimit (getD signatures₀ (64 + o .predicate) 0)) (Misclosed CountLimit) (Done (withClaim (o .predicate) signatures₀ s))
   pub signaturesAre : getD signatures₀ (64 + o .predicate) 0 < claimLimit → signatures ≡ set signatures₀ (64 + o .predicate) (getD signatures₀ (64 + o .predicate) 0 + 1)
   pub claimsAre : getD signatures₀ (64 + o .predicate) 0 < claimLimit → Laid claims₀ (claimPlace (o .predicate) (getD signatures₀ (64 + o .predicate) 0)) row (getD signatures₀ (o .predicate) 0) claims

@@ -4,7 +4,7 @@ ghost use Prim.Native.Nat.{_+_, _≤_, _<_};
 ghost use lib.ListN.{length};
 ghost use Rattle.tables.specs.Tables.{SafeSignatures};
 ghost use Rattle.declarations.specs.Fields.{FieldP, FieldC};
-ghost use Rattle.declarations.specs.Ends.{ClosesP, Laid, ClosesC};
+ghost use Rattle.declarations.specs.Ends.{ClosesP, Laid, owingWith, ClosesC};
 use forms::Form;
 use numbers::Integer;
 use numbers::Natural;
@@ -14,6 +14,7 @@ use tables::Fault;
 use tables::Fielding;
 use tables::Names;
 use tables::Opened;
+use tables::PredicateSet;
 use tables::Signatures;
 use tables::State;
 
@@ -103,6 +104,17 @@ fn lay(claims: &mut Claims, at: usize, row: &[i16; 9], arity: usize)
     }
 }
 
+/// The predicates that owe a rule, with one claim more: its predicate is among them unless its mark says that it is given.
+fn owing_with(owing: PredicateSet, place: usize, mark: u8) -> PredicateSet
+    requires { ⌜ place < 32 ⌝ }
+    ensures { λ r. ⌜ r ≡ owingWith owing place mark ⌝ }
+{
+    if mark == 1 {
+        return owing;
+    }
+    tables::with_predicate(owing, place)
+}
+
 /// The end of a `C` line: the claim is put after the others on its predicate.
 pub fn close_claim(
     o: Opened,
@@ -120,9 +132,11 @@ pub fn close_claim(
         return Closing::Misclosed(Fault::CountLimit);
     }
     let arity = widths::u8_to_usize(signatures[p]);
+    let mark = signatures[32 + p];
     lay(claims, tables::claim_place(p, count), row, arity);
     signatures[64 + p] = widths::usize_to_u8(count + 1);
     let mut next = state;
     next.claimed = true;
+    next.owing = owing_with(state.owing, p, mark);
     Closing::Done(next)
 }

@@ -17,7 +17,7 @@ use Rattle.theory.specs.declared.Letter.the-variants.{G}
 use Rattle.theory.specs.Written.{Written, termsFrom, atomFrom, add}
 use Rattle.theory.specs.Residuals.{numbered}
 use Rattle.theory.specs.Facts.{meetsEvery}
-use Rattle.theory.specs.Faults.{test, firstOf, factTests, tests, fault}
+use Rattle.theory.specs.Faults.{test, firstOf, factTests, whole, tests, fault}
 use Rattle.theory.proofs.Reading.Presence.{is-empty, empty-is, filled-is}
 use Rattle.theory.proofs.Judging.LineWriting.{writes-letter}
 use Rattle.theory.proofs.Judging.Variables.{member-numbered}
@@ -34,6 +34,7 @@ use Rattle.tables.specs.Faults.{numberOf, closingNumber}
 use Rattle.tables.specs.Tables.{Tables, tables, SafeRows, Holds, Safe}
 use Rattle.tables.specs.Lines.{Passed, at, ClosedFor}
 use Rattle.tables.proofs.Outcomes.{done-misclosed, done-state, misclosed-fault}
+use Rattle.tables.proofs.PredicateSets.{key-alone}
 use Rattle.tables.proofs.Shipping.{ships-more}
 use Rattle.atoms.specs.Fields.{FieldTerm, ProgressTerms}
 use Rattle.atoms.proofs.AtomLines.{atom-ended, atom-fault, count-terms, few-terms, Finished, finished}
@@ -41,7 +42,7 @@ use Rattle.facts.specs.Ends.{metBy, withFact, ended, ClosesG}
 use Rattle.facts.proofs.Meeting.{met-is}
 
 pub g-fault : {line : Bytes} {s : State} {w : Written} {o : Opened} {atom index many : ℕ} {variables₀ variables rows₀ rows : List ℕ} {r : Fielding} {f : Fault} → Passed G line s w o → index < length (drop 2 (fieldsOf line))
-    → FieldTerm atom index (at (drop 2 (fieldsOf line)) index) many variables₀ rows₀ r variables rows → r ≡ Misread f → fault w line ≡ numberOf f
+    → FieldTerm atom index (at (drop 2 (fieldsOf line)) index) many variables₀ rows₀ r variables rows → r ≡ Misread f → fault whole w line ≡ numberOf f
 unfolding tests factTests
 g-fault {line = line} {w = w} passed inside done bad = passed .left ∙ atom-fault false (_ ∷ []) _ (fieldsOf line) (w .pack) inside done bad
 
@@ -122,8 +123,9 @@ module _ {line : Bytes} {t : Tables} {s : State} {w : Written} {o : Opened} {man
     declares = holds .declares;
     claims = holds .claims;
     claimed = holds .claimed;
-    shipped = ships-more (s .shipped) (w .pack .predicates) (w .pack .facts) (holds .shipped) fact (o .predicate) (passed .named .below) (passed .named .is)
-        (λ i less e. holds .declares .distinct i (o .predicate) (omega (arith, holds .declares .count)) (omega (arith, holds .declares .count, passed .named .below)) e);
+    shipped = ships-more (holds .shipped) fact (o .predicate) (key-alone (holds .declares) (o .predicate) (passed .named .below)) (passed .named .below) (passed .named .is);
+    owing = holds .owing;
+    headed = holds .headed;
     rules = holds .rules;
     lines = holds .lines;
     last = λ some. absurd (some (is-empty (w .pack .rules) (sym (facts-stand (w .pack)) ∙ passed .stands)));

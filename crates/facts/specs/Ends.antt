@@ -27,7 +27,7 @@ metTo claims predicate rows arity zero = true
 metTo claims predicate rows arity (suc j) = metTo claims predicate rows arity j && nonNeg (valueTo claims (claimPlace predicate j) rows arity)
 
 abbrev pub withShipped : ℕ → State → State
-withShipped set s = record { predicates = s .predicates; claimed = s .claimed; rules = s .rules; «multiplier_lines» = s .«multiplier_lines»; head = s .head; subgoals = s .subgoals; variables = s .variables; slots = s .slots; multipliers = s .multipliers; shipped = set; ended = s .ended }
+withShipped set s = record { predicates = s .predicates; claimed = s .claimed; rules = s .rules; «multiplier_lines» = s .«multiplier_lines»; head = s .head; subgoals = s .subgoals; variables = s .variables; slots = s .slots; multipliers = s .multipliers; shipped = set; owing = s .owing; headed = s .headed; ended = s .ended }
 
 -- with a fact of the predicate at a place
 abbrev pub withFact : ℕ → State → State

@@ -1,13 +1,14 @@
--- The bits of a number, bit 0 the lowest: of two numbers joined by "or", and of a number that has one bit.
+-- The bits of a number, bit 0 the lowest: of two numbers joined by "or", and of a number that has one bit. Numbers with the
+-- same bits are equal; so the bits of one are among those of another exactly if joining them adds nothing.
 use mathlib.Core.Path.{_≡_, refl, sym, _∙_, ap}
 use mathlib.Core.Bool.{Bool, true, false, _||_}
-use Prim.Native.Nat.{ℕ, zero, suc, _/_, _%_, _^_, _<_, suc-le-suc, max}
+use Prim.Native.Nat.{ℕ, zero, suc, _+_, _/_, _%_, _^_, _≤_, _<_, suc-le-suc, max}
 use native.Mathlib.Nat.{le-of-suc-le-suc, max-le, mod-lt, mul-div-cancel, mul-mod-left, pow-suc}
 use native.Mathlib.Omega.{arith}
 use lib.Arith.{digits-div, digits-mod}
 use lib.Bits.{bitOr, or-step}
 use lib.Dec.{eqb, eqb·zero-suc, eqb·suc-zero, eqb·suc-suc}
-use Rattle.groundwork.proofs.Truth.{never-both}
+use Rattle.groundwork.proofs.Truth.{never-both, by-truth, or-left}
 
 unfoldable pub bit : ℕ → ℕ → Bool
 bit x zero = eqb (x % 2) 1
@@ -54,3 +55,33 @@ one-bit zero (suc i) = no-bit i ∙ sym (eqb·suc-zero i)
 one-bit (suc p) zero =
     ap (λ (n : ℕ). eqb (n % 2) 1) (pow-suc 2 p) ∙ ap (λ (n : ℕ). eqb n 1) (mul-mod-left (2 ^ p) 2) ∙ sym (eqb·zero-suc p)
 one-bit (suc p) (suc i) = ap (λ (n : ℕ). bit (n / 2) i) (pow-suc 2 p) ∙ ap (λ (n : ℕ). bit n i) (mul-div-cancel (2 ^ p) (omega arith)) ∙ one-bit p i ∙ sym (eqb·suc-suc i p)
+
+-- ---- equal bits
+
+same-digit : (a b : ℕ) → a < 2 → b < 2 → eqb a 1 ≡ eqb b 1 → a ≡ b
+same-digit zero zero h k e = refl
+same-digit zero (suc zero) h k e = never-both e refl
+same-digit zero (suc (suc b)) h k e = absurd (omega arith)
+same-digit (suc zero) zero h k e = never-both (sym e) refl
+same-digit (suc zero) (suc zero) h k e = refl
+same-digit (suc zero) (suc (suc b)) h k e = absurd (omega arith)
+same-digit (suc (suc a)) b h k e = absurd (omega arith)
+
+same-below : (n x y : ℕ) → x ≤ n → y ≤ n → ((i : ℕ) → bit x i ≡ bit y i) → x ≡ y
+unfolding bit
+same-below zero x y h k same = omega arith
+same-below (suc n) x y h k same =
+    let last = same-digit (x % 2) (y % 2) (mod-lt x (omega arith)) (mod-lt y (omega arith)) (same 0) in
+    let rest = same-below n (x / 2) (y / 2) (omega arith) (omega arith) (λ i. same (suc i)) in
+    omega arith
+
+pub same-bits : (x y : ℕ) → ((i : ℕ) → bit x i ≡ bit y i) → x ≡ y
+same-bits x y same = same-below (x + y) x y (omega arith) (omega arith) same
+
+-- ---- the bits of x are among those of y
+
+pub bits-within : (x y : ℕ) → ((i : ℕ) → bit x i ≡ true → bit y i ≡ true) → bitOr x y ≡ y
+bits-within x y within = same-bits (bitOr x y) y (λ i. or-bit x y i ∙ by-truth (λ (b : Bool). (b ≡ true → bit y i ≡ true) → (b || bit y i) ≡ bit y i) (bit x i) (λ e h. sym (h refl)) (λ e h. refl) (within i))
+
+pub within-bits : (x y : ℕ) → bitOr x y ≡ y → (i : ℕ) → bit x i ≡ true → bit y i ≡ true
+within-bits x y e i has = sym (ap (λ (z : ℕ). bit z i) e) ∙ or-bit x y i ∙ or-left (bit x i) (bit y i) has

@@ -12,7 +12,7 @@ use Rattle.theory.specs.declared.Letter.{Letter}
 use Rattle.theory.specs.declared.Letter.the-variants.{P, C, G, H, B, M, E, NoLetter}
 use Rattle.theory.specs.Text.{Bytes, fieldsOf}
 use Rattle.theory.specs.Written.{Written}
-use Rattle.theory.specs.Faults.{fault, isClaimNumber, isMultiplier}
+use Rattle.theory.specs.Faults.{whole, fault, isClaimNumber, isMultiplier}
 use Rattle.text.specs.Scans.{part, partsFrom, Finds}
 use Rattle.text.proofs.Cuts.{parts-step, parts-done}
 use Rattle.tables.specs.declared.State.{State}
@@ -161,7 +161,7 @@ module _ {line : Bytes} {t : Tables} {s : State} {o : Opened} (safe : Safe t s) 
         -- ---- a field that is misread
 
         misread : (letter : Letter) → length (fieldsFrom line o) ≤ most letter s → FieldLeaves letter index (part line from stop) s many (t .claims) (t .slots) x₀ r x → (f : Fault) → r ≡ Misread f
-            → (w : Written) → Holds t s w → Passed letter line s w o → fault w line ≡ numberOf f
+            → (w : Written) → Holds t s w → Passed letter line s w o → fault whole w line ≡ numberOf f
         misread P few done f bad w holds passed = p-fault line s w o index many (x₀ .small) (x .small) r f passed (omega (arith, less)) (rw (placed passed) at (done .0)) bad
         misread C few done f bad w holds passed = c-fault line s w o index many (x₀ .row) (x .row) r f passed (within passed) (rw (placed passed) at (done .0)) bad
         misread G few done f bad w holds passed = g-fault passed (within passed) (rw (placed passed) at (done .0)) bad
@@ -274,7 +274,7 @@ module _ {line : Bytes} {t : Tables} {s : State} {o : Opened} (safe : Safe t s) 
           progress NoLetter few done w passed before = before
 
       pub fields-fault : {r : Fielding} (x : Stores) → FieldDone letter index (part line from stop) s many (t .claims) (t .slots) x₀ r x → (f : Fault) → r ≡ Misread f
-          → (w : Written) → Holds t s w → Passed letter line s w o → fault w line ≡ numberOf f
+          → (w : Written) → Holds t s w → Passed letter line s w o → fault whole w line ≡ numberOf f
       fields-fault x done = misread x letter few (done .of letter refl)
 
       pub fields-early : {r : Fielding} (x : Stores) → FieldDone letter index (part line from stop) s many (t .claims) (t .slots) x₀ r x → (f : Fault) → r ≡ Misread f → numberOf f ≤ 11

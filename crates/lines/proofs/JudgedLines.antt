@@ -4,7 +4,7 @@ use mathlib.Core.List.{List}
 use lib.IntN.{ℤ}
 use Rattle.theory.specs.Text.{Bytes}
 use Rattle.theory.specs.Written.{Written}
-use Rattle.theory.specs.Faults.{fault}
+use Rattle.theory.specs.Faults.{whole, fault}
 use Rattle.tables.specs.declared.State.{State}
 use Rattle.tables.specs.declared.Fault.{Fault}
 use Rattle.tables.specs.declared.Fault.the-variants.{Unjustified}
@@ -20,7 +20,7 @@ use Rattle.opening.specs.Opening.{Opens}
 use Rattle.lines.specs.Between.{LineJudged}
 
 -- nothing is asked of the tables after it
-pub refused-line : {line : Bytes} {t t₁ : Tables} {s : State} {weights : List ℤ} (f : Fault) → (numberOf f ≡ 13 → ⊥) → Summable weights (t₁ .rows) → ((w : Written) → Holds t s w → fault w line ≡ numberOf f) → LineJudged line s t (Misclosed f) t₁ weights
+pub refused-line : {line : Bytes} {t t₁ : Tables} {s : State} {weights : List ℤ} (f : Fault) → (numberOf f ≡ 13 → ⊥) → Summable weights (t₁ .rows) → ((w : Written) → Holds t s w → fault whole w line ≡ numberOf f) → LineJudged line s t (Misclosed f) t₁ weights
 refused-line f other summable tells = record {
   safe = λ next e. absurd (done-misclosed (sym e));
   summable = summable;

@@ -31,7 +31,7 @@ use Rattle.certificates.proofs.MultiplierLines.{m-summable, m-close, m-left, m-
 use Rattle.lines.specs.Steps.{Stores, Tabled, tabled, CloseNeeds, CloseLeaves, Progress}
 use Rattle.lines.specs.Between.{FieldsRead, LineJudged}
 use Rattle.lines.proofs.FieldLoop.{fieldsFrom}
-use Rattle.lines.proofs.EndLines.{e-close, e-safe}
+use Rattle.lines.proofs.EndLines.{e-close, e-fault, e-safe}
 
 claim-other : C ≡ P → ⊥
 claim-other e = let never : _≡_ {A = ℕ} 0 1 = cc in absurd (omega arith)
@@ -81,7 +81,7 @@ module _ {line : Bytes} {t : Tables} {s : State} {o : Opened} (safe : Safe t s) 
   closable P read few place due past = tt
   closable C read few place due past = (place claim-other, safe .signatures, safe .sizes .claims)
   closable G read few place due past = (place fact-other, safe .signatures, safe .claims, read .stores .rows)
-  closable H read few place due past = safe .state .rules
+  closable H read few place due past = (safe .state .rules, place head-other)
   closable B read few place due past = (place subgoal-other, safe .signatures, safe .state .slots, safe .sizes .slots)
   closable M read few place due past =
       (safe .state .head, due refl, safe .state .subgoals, safe .claims, rw (read .untouched .1) (m-summable safe (omega arith) (read .weighed)), omega (arith, safe .state .lines, safe .state .rules, safe .state .multipliers))
@@ -138,7 +138,7 @@ module _ {line : Bytes} {t : Tables} {s : State} {o : Opened} (safe : Safe t s) 
     closed E read few place due past passed done =
         let (variables, rows, clear) = read .untouched in
         leaves-none t (λ i. tables (done .1 i .names) (done .1 i .signatures) (done .1 i .claims) (variables i) (rows i) (done .1 i .slots))
-        (ap (λ (z : Tabled). z .weights) (done .1)) clear (read .stores .rows) (λ f bad e. absurd (done-misclosed (sym (done .0) ∙ bad))) (λ next good. e-safe t s next safe (sym (done .0) ∙ good))
+        (ap (λ (z : Tabled). z .weights) (done .1)) clear (read .stores .rows) (λ f bad e. omega (arith, ap numberOf (e-fault (done .0) f bad))) (λ next. e-safe t s next r safe (done .0))
         λ w holds. e-close line t s w o r holds (passed w holds) (done .0)
     closed NoLetter read few place due past passed done = record {
       safe = λ next good. absurd (done-misclosed (sym good ∙ done .0));

@@ -10,7 +10,7 @@ use Rattle.groundwork.proofs.Lists.{same-everywhere}
 use Rattle.groundwork.proofs.Truth.{by-truth, eqb-equal, eqb-different}
 use Rattle.theory.specs.Text.{Bytes, fieldsOf, linesOf}
 use Rattle.theory.specs.Written.{Written, write, writeAll, multipliersFrom}
-use Rattle.theory.specs.Faults.{fault, lastRule, residualDue}
+use Rattle.theory.specs.Faults.{whole, fault, lastRule, residualDue}
 use Rattle.theory.specs.Check.{Judgement, refused, judge}
 use Rattle.text.specs.Scans.{part, Finds}
 use Rattle.text.proofs.Cuts.{lines-done, lines-step}
@@ -38,11 +38,11 @@ stopped-fault e = cc
 
 -- ---- verdicts
 
-judge-passed : (w : Written) (k : ℕ) (l : Bytes) (ls : List Bytes) → fault w l ≡ 0 → judge w k (l ∷ ls) ≡ judge (write w l) (k + 1) ls
+judge-passed : (w : Written) (k : ℕ) (l : Bytes) (ls : List Bytes) → fault whole w l ≡ 0 → judge whole w k (l ∷ ls) ≡ judge whole (write w l) (k + 1) ls
 unfolding judge
 judge-passed w k l ls e = rw e refl
 
-judge-refused : (w : Written) (k : ℕ) (l : Bytes) (ls : List Bytes) (n : ℕ) → fault w l ≡ n → (n ≡ 0 → ⊥) → judge w k (l ∷ ls) ≡ refused w (k + 1) l n
+judge-refused : (w : Written) (k : ℕ) (l : Bytes) (ls : List Bytes) (n : ℕ) → fault whole w l ≡ n → (n ≡ 0 → ⊥) → judge whole w k (l ∷ ls) ≡ refused w (k + 1) l n
 unfolding judge
 judge-refused w k l ls n e some = rw (e, eqb-different n 0 some) refl
 
@@ -134,7 +134,7 @@ module _ {text : Bytes} {start : State} {t₀ : Tables} {s : State} {t : Tables}
             record {
               w = write w (part text at end);
               holds = after .holds next good;
-              judged = there .judged ∙ ap (judge w line) lines ∙ judge-passed w line (part text at end) _ (after .answer ∙ ap closingNumber good);
+              judged = there .judged ∙ ap (judge whole w line) lines ∙ judge-passed w line (part text at end) _ (after .answer ∙ ap closingNumber good);
               written = there .written ∙ ap (writeAll w) lines ∙ writeAll-more w (part text at end) _;
               counted = let count = rw lines at (there .counted) in omega arith;
             }
@@ -154,7 +154,7 @@ module _ {text : Bytes} {start : State} {t₀ : Tables} {s : State} {t : Tables}
             let w = there .w in
             let answer = judged .tells w (there .holds) .answer ∙ ap closingNumber bad in
             let misclosed : f ≡ Unjustified → r ≡ Misclosed Unjustified = λ e. bad ∙ ap Misclosed e in
-            let judgement : judge w₀ 0 (linesOf text) ≡ refused w (line + 1) (part text at end) (numberOf f) = there .judged ∙ ap (judge w line) lines ∙ judge-refused w line (part text at end) _ (numberOf f) answer (number-some f) in
+            let judgement : judge whole w₀ 0 (linesOf text) ≡ refused w (line + 1) (part text at end) (numberOf f) = there .judged ∙ ap (judge whole w line) lines ∙ judge-refused w line (part text at end) _ (numberOf f) answer (number-some f) in
             record {
               refused = λ g e. ap (λ (v : Judgement). v .returned) judgement ∙ rw (← stopped-fault e) (returned-as w (line + 1) (part text at end) f s (there .holds .rules)
                   (λ is. there .holds .last (judged .left w (there .holds) (misclosed is) .ruled) .multipliers));

@@ -8,7 +8,7 @@ use Rattle.theory.specs.declared.Letter.{Letter}
 use Rattle.theory.specs.declared.Letter.the-variants.{P, C, G, H, B, M, E, NoLetter}
 use Rattle.theory.specs.Text.{Bytes, fieldsOf, linesOf}
 use Rattle.theory.specs.Written.{Written, writeAll, multipliersFrom}
-use Rattle.theory.specs.Faults.{residualDue}
+use Rattle.theory.specs.Faults.{residualDue, whole}
 use Rattle.theory.specs.Check.{judge}
 use Rattle.text.specs.Scans.{partsFrom}
 use Rattle.forms.specs.declared.Form.{Form}
@@ -82,7 +82,7 @@ pub record LineJudged (line : Bytes) (s : State) (t₀ : Tables) (r : Closing) (
 pub record Reached (text : Bytes) (w₀ : Written) (s : State) (t : Tables) (line at : ℕ) : Type 0 where
   pub w : Written
   pub holds : Holds t s w
-  pub judged : judge w₀ 0 (linesOf text) ≡ judge w line (linesOf (drop at text))
+  pub judged : judge whole w₀ 0 (linesOf text) ≡ judge whole w line (linesOf (drop at text))
   pub written : writeAll w₀ (linesOf text) ≡ writeAll w (linesOf (drop at text))
   pub counted : line + length (linesOf (drop at text)) ≡ length (linesOf text)
 

@@ -8,6 +8,7 @@ use lib.ListN.{length, replicate}
 use lib.IntN.{ℤ}
 use Rattle.theory.specs.Text.{Bytes, linesOf}
 use Rattle.theory.specs.Written.{Written, writeAll}
+use Rattle.theory.specs.Faults.{whole}
 use Rattle.theory.specs.Check.{Numbers, numbers, judge}
 use Rattle.forms.specs.declared.Form.{Form}
 use Rattle.tables.specs.declared.State.{State}
@@ -41,10 +42,10 @@ pub record HoldsWith (names signatures : List ℕ) (claims : List ℤ) (s : Stat
 
 -- lines that are judged after lines that write w
 pub record LinesLoadedFor (text : Bytes) (w : Written) (r : LoadedLines) (names signatures : List ℕ) (claims : List ℤ) : Type 0 where
-  pub refused : (f : Fault) → r .ending ≡ Stopped f → judge w 0 (linesOf text) .returned ≡ faultNumbers f (r .line) (r .state .rules) (r .state .multipliers + 1)
-  pub residue : (f : Fault) → r .ending ≡ Stopped f → (f ≡ Unjustified → length (r .residual .coefficients) ≡ 16) → judge w 0 (linesOf text) .residue ≡ faultResidue f (r .residual)
+  pub refused : (f : Fault) → r .ending ≡ Stopped f → judge whole w 0 (linesOf text) .returned ≡ faultNumbers f (r .line) (r .state .rules) (r .state .multipliers + 1)
+  pub residue : (f : Fault) → r .ending ≡ Stopped f → (f ≡ Unjustified → length (r .residual .coefficients) ≡ 16) → judge whole w 0 (linesOf text) .residue ≡ faultResidue f (r .residual)
   pub lines : r .ending ≡ AllPass → r .line ≡ length (linesOf text)
-  pub passed : r .ending ≡ AllPass → judge w 0 (linesOf text) ≡ judge (writeAll w (linesOf text)) (r .line) []
+  pub passed : r .ending ≡ AllPass → judge whole w 0 (linesOf text) ≡ judge whole (writeAll w (linesOf text)) (r .line) []
   pub holds : r .ending ≡ AllPass → HoldsWith names signatures claims (r .state) (writeAll w (linesOf text))
 
 pub record LoadsLines (text : Bytes) (start : State) (t₀ : Tables) (r : LoadedLines) (names signatures : List ℕ) (claims : List ℤ) : Type 0 where

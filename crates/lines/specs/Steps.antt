@@ -1,8 +1,10 @@
 -- The steps of a line by its letter: what a field and the line's end need and leave. A letter's own room says what its lines do; here stands which tables each touches.
 use mathlib.Core.Path.{_≡_}
-use mathlib.Core.Bool.{true}
+use mathlib.Core.Bool.{true, cond, not}
 use mathlib.Core.List.{List, []}
 use Prim.Native.Nat.{ℕ, _+_, _*_, _≤_, _<_}
+use lib.Bits.{bitOr}
+use lib.Dec.{eqb}
 use lib.IntN.{ℤ}
 use lib.ListN.{length, getD, drop}
 use Rattle.theory.specs.declared.Letter.{Letter}
@@ -11,7 +13,7 @@ use Rattle.theory.specs.Text.{Bytes, fieldsOf}
 use Rattle.theory.specs.Written.{Written}
 use Rattle.numbers.specs.Zeros.{Zeros}
 use Rattle.tables.specs.declared.State.{State}
-use Rattle.tables.specs.declared.Fault.the-variants.{Letter as Misplaced}
+use Rattle.tables.specs.declared.Fault.the-variants.{Letter as Misplaced, Headless}
 use Rattle.tables.specs.declared.Opened.{Opened}
 use Rattle.tables.specs.declared.Fielding.{Fielding}
 use Rattle.tables.specs.declared.Closing.{Closing}
@@ -117,14 +119,18 @@ abbrev pub tabled : List ℕ → List ℕ → List ℤ → List ℕ → List ℤ
 tabled names signatures claims slots weights = record { names = names; signatures = signatures; claims = claims; slots = slots; weights = weights }
 
 abbrev pub withEnd : State → State
-withEnd s = record { predicates = s .predicates; claimed = s .claimed; rules = s .rules; «multiplier_lines» = s .«multiplier_lines»; head = s .head; subgoals = s .subgoals; variables = s .variables; slots = s .slots; multipliers = s .multipliers; shipped = s .shipped; ended = true }
+withEnd s = record { predicates = s .predicates; claimed = s .claimed; rules = s .rules; «multiplier_lines» = s .«multiplier_lines»; head = s .head; subgoals = s .subgoals; variables = s .variables; slots = s .slots; multipliers = s .multipliers; shipped = s .shipped; owing = s .owing; headed = s .headed; ended = true }
+
+-- the end of an `E` line: a headless predicate, or done
+pub record ClosesE (s : State) (r : Closing) : Type 0 where
+  pub answer : r ≡ cond (not (eqb (bitOr (s .owing) (s .headed)) (s .headed))) (Misclosed Headless) (Done (withEnd s))
 
 -- what the end of a line needs
 abbrev pub CloseNeeds : Letter → Opened → State → List ℕ → Tabled → Type 0
 CloseNeeds P o s rows y = Unit {0}
 CloseNeeds C o s rows y = (o .predicate < 32) × SafeSignatures (y .signatures) × (length (y .claims) ≡ 4608)
 CloseNeeds G o s rows y = (o .predicate < 32) × SafeSignatures (y .signatures) × SafeClaims (y .claims) × SafeRows rows
-CloseNeeds H o s rows y = s .rules ≤ 64
+CloseNeeds H o s rows y = (s .rules ≤ 64) × (o .predicate < 32)
 CloseNeeds B o s rows y = (o .predicate < 32) × SafeSignatures (y .signatures) × (s .slots ≤ 16 * s .subgoals) × (length (y .slots) ≡ 256)
 CloseNeeds M o s rows y = (s .head < 32) × (s .multipliers < 16) × (s .subgoals ≤ 8) × SafeClaims (y .claims) × Summable (y .weights) rows × (s .«multiplier_lines» ≤ 1040)
 CloseNeeds E o s rows y = Unit {0}
@@ -138,7 +144,7 @@ CloseLeaves G o s many small row rows y₀ r y = ClosesG o s many (y₀ .signatu
 CloseLeaves H o s many small row rows y₀ r y = ClosesH o s many r × (y ≡ y₀)
 CloseLeaves B o s many small row rows y₀ r y = ClosesB o s many (y₀ .signatures) (y₀ .slots) r (y .slots) × (y ≡ tabled (y₀ .names) (y₀ .signatures) (y₀ .claims) (y .slots) (y₀ .weights))
 CloseLeaves M o s many small row rows y₀ r y = ClosesM s (y₀ .claims) (y₀ .weights) rows r (y .weights) × (y ≡ tabled (y₀ .names) (y₀ .signatures) (y₀ .claims) (y₀ .slots) (y .weights))
-CloseLeaves E o s many small row rows y₀ r y = (r ≡ Done (withEnd s)) × (y ≡ y₀)
+CloseLeaves E o s many small row rows y₀ r y = ClosesE s r × (y ≡ y₀)
 CloseLeaves NoLetter o s many small row rows y₀ r y = (r ≡ Misclosed Misplaced) × (y ≡ y₀)
 
 pub record CloseReady (letter : Letter) (o : Opened) (s : State) (rows : List ℕ) (y : Tabled) : Type 0 where

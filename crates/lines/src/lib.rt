@@ -3,9 +3,8 @@ ghost use mathlib.Core.Path.{_≡_};
 ghost use Prim.Native.Nat.{_≤_};
 ghost use lib.ListN.{length};
 ghost use Rattle.words.specs.Classes.{Classes};
-ghost use Rattle.tables.specs.declared.Closing.the-variants.{Done};
 ghost use Rattle.tables.specs.Tables.{Safe};
-ghost use Rattle.lines.specs.Steps.{stores, FieldReady, FieldDone, Skips, variablesBefore, tabled, withEnd, CloseReady, CloseDone};
+ghost use Rattle.lines.specs.Steps.{stores, FieldReady, FieldDone, Skips, variablesBefore, tabled, ClosesE, CloseReady, CloseDone};
 ghost use Rattle.lines.specs.LineLoading.{unruled, LoadsLines};
 use forms::Form;
 use tables::Claims;
@@ -71,10 +70,13 @@ fn field(
     }
 }
 
-/// The end of an `E` line.
+/// The end of an `E` line: every ruled predicate with a claim heads a rule.
 fn close_end(state: State) -> Closing
-    ensures { λ r. ⌜ r ≡ Done (withEnd state) ⌝ }
+    ensures { λ r. ⌜ ClosesE state r ⌝ }
 {
+    if !tables::is_within(state.owing, state.headed) {
+        return Closing::Misclosed(Fault::Headless);
+    }
     let mut next = state;
     next.ended = true;
     Closing::Done(next)

@@ -19,7 +19,7 @@ use Rattle.tables.specs.Faults.{numberOf}
 use Rattle.tables.specs.Lines.{openingTests}
 use Rattle.opening.specs.Opening.{HasName, Refers, Nameless, besides, barredBy}
 use Rattle.theory.proofs.Judging.Tests.{Clear, first-passed, first-found, first-clear}
-use Rattle.theory.specs.Faults.{Test, test, firstOf, arityIn, givenIn, ruledIn, lastRule, predicateTests, claimTests, atomTests, factTests, headTests, subgoalTests, multiplierTests, tests}
+use Rattle.theory.specs.Faults.{Test, test, firstOf, arityIn, givenIn, ruledIn, lastRule, predicateTests, claimTests, atomTests, factTests, headTests, subgoalTests, multiplierTests, endTests, whole, tests}
 
 -- ---- by letter
 
@@ -126,7 +126,7 @@ module _ (fields : List Bytes) (p : Pack) where
 
   -- ---- one test after another
 
-  name-tests : {l : Letter} → HasName l → tests l fields p ≡ test 7 (not (isName (field 1 fields))) ∷ test 8 (findsEight l fields p) ∷ afterEight l fields p ++ (test 9 (isMiscounted l fields p) ∷ drop (openingTests l) (tests l fields p))
+  name-tests : {l : Letter} → HasName l → tests whole l fields p ≡ test 7 (not (isName (field 1 fields))) ∷ test 8 (findsEight l fields p) ∷ afterEight l fields p ++ (test 9 (isMiscounted l fields p) ∷ drop (openingTests l) (tests whole l fields p))
   unfolding tests predicateTests claimTests atomTests factTests headTests subgoalTests
   name-tests HasName.predicate = refl
   name-tests HasName.claim = refl
@@ -134,8 +134,8 @@ module _ (fields : List Bytes) (p : Pack) where
   name-tests HasName.head = refl
   name-tests HasName.subgoal = refl
 
-  nameless-tests : {l : Letter} → Nameless l → tests l fields p ≡ test 9 (isMiscounted l fields p) ∷ drop 1 (tests l fields p)
-  unfolding tests multiplierTests
+  nameless-tests : {l : Letter} → Nameless l → tests whole l fields p ≡ test 9 (isMiscounted l fields p) ∷ drop 1 (tests whole l fields p)
+  unfolding tests multiplierTests endTests
   nameless-tests Nameless.multipliers = refl
   nameless-tests Nameless.end = refl
 
@@ -147,42 +147,42 @@ module _ (fields : List Bytes) (p : Pack) where
     counted e = ap not (equal-eqb (length fields) (fieldsDue l fields p) e)
 
     module _ (named : HasName l) where
-      pub fault-seven : isName (field 1 fields) ≡ false → firstOf (tests l fields p) ≡ 7
+      pub fault-seven : isName (field 1 fields) ≡ false → firstOf (tests whole l fields p) ≡ 7
       fault-seven unnamed = ap firstOf (name-tests named) ∙ first-found 7 _ _ (ap not unnamed)
 
       module _ (isNamed : isName (field 1 fields) ≡ true) where
-        past-seven : firstOf (tests l fields p) ≡ firstOf (test 8 (findsEight l fields p) ∷ afterEight l fields p ++ (test 9 (isMiscounted l fields p) ∷ drop (openingTests l) (tests l fields p)))
+        past-seven : firstOf (tests whole l fields p) ≡ firstOf (test 8 (findsEight l fields p) ∷ afterEight l fields p ++ (test 9 (isMiscounted l fields p) ∷ drop (openingTests l) (tests whole l fields p)))
         past-seven = ap firstOf (name-tests named) ∙ first-passed 7 _ _ (ap not isNamed)
 
-        pub fault-eight : findsEight l fields p ≡ true → firstOf (tests l fields p) ≡ 8
+        pub fault-eight : findsEight l fields p ≡ true → firstOf (tests whole l fields p) ≡ 8
         fault-eight eight = past-seven ∙ first-found 8 _ _ eight
 
         module _ (eight : findsEight l fields p ≡ false) where
-          past-eight : firstOf (tests l fields p) ≡ firstOf (afterEight l fields p ++ (test 9 (isMiscounted l fields p) ∷ drop (openingTests l) (tests l fields p)))
+          past-eight : firstOf (tests whole l fields p) ≡ firstOf (afterEight l fields p ++ (test 9 (isMiscounted l fields p) ∷ drop (openingTests l) (tests whole l fields p)))
           past-eight = past-seven ∙ first-passed 8 _ _ eight
 
           module _ (clear : Clear (afterEight l fields p)) where
-            before-nine : firstOf (tests l fields p) ≡ firstOf (test 9 (isMiscounted l fields p) ∷ drop (openingTests l) (tests l fields p))
+            before-nine : firstOf (tests whole l fields p) ≡ firstOf (test 9 (isMiscounted l fields p) ∷ drop (openingTests l) (tests whole l fields p))
             before-nine = past-eight ∙ first-clear (afterEight l fields p) _ clear
 
-            pub fault-nine : (length fields ≡ fieldsDue l fields p → ⊥) → firstOf (tests l fields p) ≡ 9
+            pub fault-nine : (length fields ≡ fieldsDue l fields p → ⊥) → firstOf (tests whole l fields p) ≡ 9
             fault-nine count = before-nine ∙ first-found 9 _ _ (miscounted count)
 
-            pub past-nine : length fields ≡ fieldsDue l fields p → firstOf (tests l fields p) ≡ firstOf (drop (openingTests l) (tests l fields p))
+            pub past-nine : length fields ≡ fieldsDue l fields p → firstOf (tests whole l fields p) ≡ firstOf (drop (openingTests l) (tests whole l fields p))
             past-nine count = before-nine ∙ first-passed 9 _ _ (counted count)
 
     module _ (nameless : Nameless l) where
-      pub fault-nine-alone : (length fields ≡ fieldsDue l fields p → ⊥) → firstOf (tests l fields p) ≡ 9
+      pub fault-nine-alone : (length fields ≡ fieldsDue l fields p → ⊥) → firstOf (tests whole l fields p) ≡ 9
       fault-nine-alone count = ap firstOf (nameless-tests nameless) ∙ first-found 9 _ _ (miscounted count)
 
-      pub past-nine-alone : length fields ≡ fieldsDue l fields p → firstOf (tests l fields p) ≡ firstOf (drop 1 (tests l fields p))
+      pub past-nine-alone : length fields ≡ fieldsDue l fields p → firstOf (tests whole l fields p) ≡ firstOf (drop 1 (tests whole l fields p))
       past-nine-alone count = ap firstOf (nameless-tests nameless) ∙ first-passed 9 _ _ (counted count)
 
 -- a predicate that the line may not name: 8 for a head, 20 for a fact
-pub fault-barred : (fields : List Bytes) (p : Pack) (q : Predicate) {l : Letter} → Refers l → isName (field 1 fields) ≡ true → foundIn l fields p ≡ some q → isBarred l (some q) ≡ true → firstOf (tests l fields p) ≡ numberOf (barredBy l)
+pub fault-barred : (fields : List Bytes) (p : Pack) (q : Predicate) {l : Letter} → Refers l → isName (field 1 fields) ≡ true → foundIn l fields p ≡ some q → isBarred l (some q) ≡ true → firstOf (tests whole l fields p) ≡ numberOf (barredBy l)
 unfolding isSome
 fault-barred fields p q Refers.claim isNamed e barred = never-both barred refl
-fault-barred fields p q Refers.fact isNamed e barred = past-eight fields p G HasName.fact isNamed (rw e) ∙ first-found 20 (ruledIn (foundIn G fields p)) (test 9 (isMiscounted G fields p) ∷ drop 4 (tests G fields p)) (rw e barred)
+fault-barred fields p q Refers.fact isNamed e barred = past-eight fields p G HasName.fact isNamed (rw e) ∙ first-found 20 (ruledIn (foundIn G fields p)) (test 9 (isMiscounted G fields p) ∷ drop 4 (tests whole G fields p)) (rw e barred)
 fault-barred fields p q Refers.head isNamed e barred = fault-eight fields p H HasName.head isNamed (rw e barred)
 fault-barred fields p q Refers.subgoal isNamed e barred = never-both barred refl
 

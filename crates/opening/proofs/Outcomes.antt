@@ -9,7 +9,7 @@ use Rattle.theory.specs.declared.Letter.{Letter}
 use Rattle.theory.specs.declared.Letter.the-variants.{P, M}
 use Rattle.theory.specs.Text.{Bytes, fieldsOf}
 use Rattle.theory.specs.Written.{lineLetter, Written}
-use Rattle.theory.specs.Faults.{firstOf, isUnfit, mayStand, tests, fault}
+use Rattle.theory.specs.Faults.{firstOf, isUnfit, mayStand, whole, tests, fault}
 use Rattle.text.specs.Scans.{partsFrom}
 use Rattle.words.specs.declared.Words.{Words}
 use Rattle.tables.specs.declared.State.{State}
@@ -32,10 +32,10 @@ module _ (f : Fault) {line : Bytes} {s : State} where
   refused-safe : (o : Opened) → Misopened f ≡ Line o → SafeOpened line s o
   refused-safe o e = absurd (line-misopened (sym e))
 
-  refused-for : (w : Written) → fault w line ≡ numberOf f → OpenedFor line s w (Misopened f)
+  refused-for : (w : Written) → fault whole w line ≡ numberOf f → OpenedFor line s w (Misopened f)
   refused-for w found = record { refused = λ g e. found ∙ ap numberOf (misopened-fault e); passed = λ o e. absurd (line-misopened (sym e)) }
 
-  pub refuses-line : (numberOf f ≡ 13 → ⊥) → {names signatures : List ℕ} → ((w : Written) → Outline names signatures s w → fault w line ≡ numberOf f) → Opens line names signatures s (Misopened f)
+  pub refuses-line : (numberOf f ≡ 13 → ⊥) → {names signatures : List ℕ} → ((w : Written) → Outline names signatures s w → fault whole w line ≡ numberOf f) → Opens line names signatures s (Misopened f)
   refuses-line other finds = record { safe = refused-safe; other = refused-other f other; tells = λ w outline. refused-for w (finds w outline) }
 
 -- ---- passed
@@ -49,19 +49,19 @@ pub record Keeps (l : Letter) (line : Bytes) (s : State) (predicate from : ℕ) 
 
 -- and what it needs of those
 pub record Clears (l : Letter) (line : Bytes) (s : State) (w : Written) (o : Opened) : Type 0 where
-  pub left : firstOf (tests l (fieldsOf line) (w .pack)) ≡ firstOf (drop (openingTests l) (tests l (fieldsOf line) (w .pack)))
+  pub left : firstOf (tests whole l (fieldsOf line) (w .pack)) ≡ firstOf (drop (openingTests l) (tests whole l (fieldsOf line) (w .pack)))
   pub named : NamedFor l line s w o
 
 abbrev pub opened : Letter → ℕ → Words → ℕ → Opened
 opened l predicate words from = record { letter = l; predicate = predicate; words = words; from = from }
 
 -- the letter's own tests decide
-own-tests : (l : Letter) (line : Bytes) (w : Written) → isUnfit line ≡ false → w .ended ≡ false → mayStand (w .pack) l ≡ true → lineLetter line ≡ l → fault w line ≡ firstOf (tests l (fieldsOf line) (w .pack))
+own-tests : (l : Letter) (line : Bytes) (w : Written) → isUnfit line ≡ false → w .ended ≡ false → mayStand (w .pack) l ≡ true → lineLetter line ≡ l → fault whole w line ≡ firstOf (tests whole l (fieldsOf line) (w .pack))
 own-tests l line w fit unended stands is =
-    past-five w line fit unended (ap (mayStand (w .pack)) is ∙ stands) ∙ ap (λ (m : Letter). firstOf (tests m (fieldsOf line) (w .pack))) is
+    past-five w line fit unended (ap (mayStand (w .pack)) is ∙ stands) ∙ ap (λ (m : Letter). firstOf (tests whole m (fieldsOf line) (w .pack))) is
 
 module _ (l : Letter) {line : Bytes} {names signatures : List ℕ} {s : State} where
-  pub refuses : (f : Fault) → (numberOf f ≡ 13 → ⊥) → ((w : Written) → Outline names signatures s w → mayStand (w .pack) l ≡ true → firstOf (tests l (fieldsOf line) (w .pack)) ≡ numberOf f)
+  pub refuses : (f : Fault) → (numberOf f ≡ 13 → ⊥) → ((w : Written) → Outline names signatures s w → mayStand (w .pack) l ≡ true → firstOf (tests whole l (fieldsOf line) (w .pack)) ≡ numberOf f)
       → OpensLetter l line names signatures s (Misopened f)
   refuses f other finds = record {
     safe = refused-safe f;

@@ -9,7 +9,7 @@ use Rattle.theory.specs.declared.Letter.{Letter}
 use Rattle.theory.specs.declared.Letter.the-variants.{P, C, G, H, B, M, E, NoLetter}
 use Rattle.theory.specs.Text.{Bytes, isName, fieldsOf}
 use Rattle.theory.specs.Written.{lineLetter, field, Written}
-use Rattle.theory.specs.Faults.{isUnfit, isComplete, mayStand, fault}
+use Rattle.theory.specs.Faults.{isUnfit, isComplete, mayStand, whole, fault}
 use Rattle.text.specs.Scans.{partsFrom}
 use Rattle.words.specs.Words.{wordsOf, StandsAt}
 use Rattle.tables.specs.declared.State.{State}
@@ -103,7 +103,7 @@ pub record NameRead (line : Bytes) (names : List ℕ) (known : ℕ) (r : Naming)
   pub none : r ≡ NoName → isName (field 1 (fieldsOf line)) ≡ false
 
 pub record OpenedFor (line : Bytes) (s : State) (w : Written) (r : Opening) : Type 0 where
-  pub refused : (f : Fault) → r ≡ Misopened f → fault w line ≡ numberOf f
+  pub refused : (f : Fault) → r ≡ Misopened f → fault whole w line ≡ numberOf f
   pub passed : (o : Opened) → r ≡ Line o → Passed (o .letter) line s w o
 
 pub record Opens (line : Bytes) (names signatures : List ℕ) (s : State) (r : Opening) : Type 0 where

@@ -8,8 +8,10 @@ use lib.ListN.{length-replicate}
 use Rattle.groundwork.proofs.Lists.{same-everywhere}
 use Rattle.theory.specs.Lists.{isEmpty}
 use Rattle.theory.specs.Written.{nothing}
+use Rattle.theory.specs.Faults.{owesRule, headsRule}
 use Rattle.theory.specs.Check.{multiplierLines}
 use Rattle.tables.specs.declared.State.{State}
+use Rattle.tables.proofs.PredicateSets.{set-nothing}
 use Rattle.tables.proofs.Shipping.{ships-nothing}
 use Rattle.tables.specs.Tables.{Tables, Holds, slotsOf, Safe}
 use Rattle.packs.specs.Loading.{begun, fresh}
@@ -33,7 +35,9 @@ fresh-holds =
       declares = record { count = refl; words = λ i below. absurd (omega arith); named = λ i below. absurd (omega arith); arity = λ i below. absurd (omega arith); kind = λ i below. absurd (omega arith); distinct = λ i j below other same. absurd (omega arith) };
       claims = record { count = λ i below. absurd (omega arith); none = λ i above below. same-everywhere {A = ℕ} 0 96 (64 + i); at = λ i j below other. absurd (omega arith); full = λ i j below other. absurd (omega arith) };
       claimed = refl;
-      shipped = ships-nothing [];
+      shipped = ships-nothing;
+      owing = set-nothing (owesRule []);
+      headed = set-nothing (headsRule []);
       rules = refl;
       lines = refl;
       last = λ some. absurd (some refl);

@@ -12,7 +12,8 @@ use Rattle.groundwork.proofs.Truth.{by-truth, never-both, eqb-equal}
 use Rattle.theory.specs.Lists.{over}
 use Rattle.theory.specs.Text.{Bytes, linesOf}
 use Rattle.theory.specs.Written.{nothing}
-use Rattle.theory.specs.Check.{Numbers, Judgement, numbers, plain, judge, isFinished, verdictOf, checkOf}
+use Rattle.theory.specs.Faults.{whole}
+use Rattle.theory.specs.Check.{Numbers, Judgement, numbers, plain, judge, isFinished, judgementOf, verdictOf, checkOf}
 use Rattle.theory.specs.Answers.{numbersOf, refusalNumbers}
 use Rattle.theory.specs.declared.Refusal.{Refusal}
 use Rattle.theory.specs.declared.Verdict.the-variants.{Refused}
@@ -56,15 +57,15 @@ none-unfinished [] size = refl
 none-unfinished (b ∷ bs) size = absurd (omega arith)
 
 pub long-text : (text : Bytes) → 32768 < length text → verdictOf text ≡ plain (numbers 2 0 0 0)
-unfolding verdictOf
+unfolding judgementOf
 long-text text long = rw (lt-ltb _ _ long) refl
 
 pub unfinished-text : (text : Bytes) → length text ≤ 32768 → isFinished text ≡ false → verdictOf text ≡ plain (numbers 3 0 0 0)
-unfolding verdictOf
+unfolding judgementOf
 unfinished-text text short open-end = rw (le-ltb _ _ short, open-end) refl
 
-pub judged-text : (text : Bytes) → length text ≤ 32768 → isFinished text ≡ true → verdictOf text ≡ judge nothing 0 (linesOf text)
-unfolding verdictOf
+pub judged-text : (text : Bytes) → length text ≤ 32768 → isFinished text ≡ true → verdictOf text ≡ judge whole nothing 0 (linesOf text)
+unfolding judgementOf
 judged-text text short finished = rw (le-ltb _ _ short, finished) refl
 
 -- ---- refusals
@@ -100,7 +101,7 @@ module _ (text : Bytes) (short : length text ≤ 32768) (finished : isFinished t
   loaded : LinesLoadedFor text nothing l names signatures claims
   loaded = loads .tells nothing (subst⁻¹ (λ (x : State). Holds t₀ x nothing) isBegun (subst⁻¹ (λ (x : Tables). Holds x begun nothing) isFresh fresh-holds))
 
-  verdict : verdictOf text ≡ judge nothing 0 (linesOf text)
+  verdict : verdictOf text ≡ judge whole nothing 0 (linesOf text)
   verdict = judged-text text short finished
 
   -- a line is refused

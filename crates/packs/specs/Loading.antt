@@ -18,7 +18,7 @@ use Rattle.packs.specs.declared.Loaded.{Loaded}
 
 -- the state before any line
 abbrev pub begun : State
-begun = record { predicates = 0; claimed = false; rules = 0; «multiplier_lines» = 0; head = 0; subgoals = 0; variables = 0; slots = 0; multipliers = 0; shipped = 0; ended = false }
+begun = record { predicates = 0; claimed = false; rules = 0; «multiplier_lines» = 0; head = 0; subgoals = 0; variables = 0; slots = 0; multipliers = 0; shipped = 0; owing = 0; headed = 0; ended = false }
 
 -- the tables before any line: zeros
 abbrev pub fresh : Tables

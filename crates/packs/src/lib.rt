@@ -35,6 +35,8 @@ fn start() -> State
         slots: 0,
         multipliers: 0,
         shipped: 0,
+        owing: 0,
+        headed: 0,
         ended: false,
     }
 }
@@ -56,6 +58,7 @@ fn refusal(fault: Fault, line: u16, rule: u8, claim: u8) -> Refusal
         Fault::RuledFact => Refusal::RuledFact(line),
         Fault::NotGround => Refusal::NotGround(line),
         Fault::UnmetClaim => Refusal::UnmetClaim(line),
+        Fault::Headless => Refusal::Headless(line),
     }
 }
 
@@ -110,6 +113,7 @@ fn is_unjustified(fault: Fault) -> bool
         Fault::RuledFact => false,
         Fault::NotGround => false,
         Fault::UnmetClaim => false,
+        Fault::Headless => false,
     }
 }
 

@@ -2,7 +2,8 @@
 use mathlib.Core.Path.{_≡_, sym, _∙_}
 use mathlib.Core.Bool.{Bool, true, false, cond}
 use mathlib.Core.List.{List}
-use Prim.Native.Nat.{ℕ, _+_, _≤_, _<_}
+use Prim.Native.Nat.{ℕ, _+_, _^_, _≤_, _<_}
+use lib.Bits.{bitOr}
 use lib.Dec.{leb, ltb}
 use lib.ListN.{getD}
 use Rattle.groundwork.proofs.Truth.{never-both, leb-gt, ltb-ge, or-not-left, or-not-right}
@@ -14,7 +15,7 @@ use Rattle.tables.specs.declared.Fault.the-variants.{CountLimit}
 use Rattle.tables.specs.declared.Closing.{Closing}
 use Rattle.tables.specs.declared.Closing.the-variants.{Done, Misclosed}
 use Rattle.tables.proofs.Outcomes.{line-passes, line-fails}
-use Rattle.rules.specs.Ends.{withHead, withSubgoal, isPast, ClosesH, SlotsAdded, ClosesB}
+use Rattle.rules.specs.Ends.{withRule, withSubgoal, isPast, ClosesH, SlotsAdded, ClosesB}
 
 -- what is within both limits, and what the test and the answer tell of it
 pub record Within (limit n many : ℕ) : Type 0 where
@@ -45,8 +46,8 @@ module _ (o : Opened) (s : State) (many : ℕ) (past : Bool) where
     pub head-refused : past ≡ true → ClosesH o s many (Misclosed CountLimit)
     head-refused e = record { answer = rw (sym test ∙ e) }
 
-    pub head-done : past ≡ false → ClosesH o s many (Done (withHead (o .predicate) many s))
-    head-done e = record { answer = rw (sym test ∙ e) }
+    pub head-done : past ≡ false → {headed : ℕ} → headed ≡ bitOr (s .headed) (2 ^ o .predicate) → ClosesH o s many (Done (withRule (o .predicate) headed many s))
+    head-done e is = record { answer = rw (sym test ∙ e, is) }
 
   module _ (signatures slots₀ : List ℕ) (test : past ≡ isPast subgoalLimit (s .subgoals) many) where
     pub subgoal-refused : past ≡ true → ClosesB o s many signatures slots₀ (Misclosed CountLimit) slots₀

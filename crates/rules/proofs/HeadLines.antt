@@ -12,7 +12,7 @@ use Rattle.theory.specs.Packs.{Rule, headAlone, onRules, atomKey, ruleLimit}
 use Rattle.theory.specs.declared.Letter.the-variants.{H}
 use Rattle.theory.specs.Written.{Written, atomFrom, termsFrom, add}
 use Rattle.theory.specs.Residuals.{numbered, atomsVariables, ruleVariables}
-use Rattle.theory.specs.Faults.{noRule, firstOf, headTests, tests, fault}
+use Rattle.theory.specs.Faults.{noRule, firstOf, headTests, whole, tests, fault}
 use Rattle.theory.proofs.Judging.LastRule.{lastOf-end}
 use Rattle.theory.proofs.Judging.LineWriting.{writes-letter}
 use Rattle.theory.proofs.Judging.RuleCounts.{multiplierLines-end}
@@ -28,13 +28,14 @@ use Rattle.tables.specs.Faults.{numberOf}
 use Rattle.tables.specs.Tables.{Tables, tables, slotsOf, SafeRows, RuleStands, Holds, Safe}
 use Rattle.tables.specs.Lines.{OldPredicate, Passed, at, ClosedFor}
 use Rattle.tables.proofs.Outcomes.{line-number}
+use Rattle.tables.proofs.PredicateSets.{key-alone, set-ending}
 use Rattle.atoms.specs.Fields.{FieldTerm, ProgressTerms}
 use Rattle.atoms.proofs.AtomLines.{atom-ended, atom-fault, count-terms, few-terms, Finished, finished}
 use Rattle.rules.specs.Ends.{withHead, isPast, ClosesH}
 use Rattle.rules.proofs.Ends.{limits-kept, limit-broken}
 
 pub h-fault : {line : Bytes} {s : State} {w : Written} {o : Opened} {atom index many : ℕ} {variables₀ variables rows₀ rows : List ℕ} {r : Fielding} {f : Fault} → Passed H line s w o → index < length (drop 2 (fieldsOf line))
-    → FieldTerm atom index (at (drop 2 (fieldsOf line)) index) many variables₀ rows₀ r variables rows → r ≡ Misread f → fault w line ≡ numberOf f
+    → FieldTerm atom index (at (drop 2 (fieldsOf line)) index) many variables₀ rows₀ r variables rows → r ≡ Misread f → fault whole w line ≡ numberOf f
 unfolding tests headTests
 h-fault {line = line} {w = w} passed inside done bad = passed .left ∙ atom-fault _ [] _ (fieldsOf line) (w .pack) inside done bad
 
@@ -79,6 +80,8 @@ module _ {line : Bytes} {t : Tables} {s : State} {w : Written} {o : Opened} {man
     claims = holds .claims;
     claimed = holds .claimed;
     shipped = holds .shipped;
+    owing = holds .owing;
+    headed = set-ending (λ (r : Rule). atomKey (r .head)) (w .pack .rules) (ruleBegun (fieldsOf line)) (holds .headed) (o .predicate) (key-alone (holds .declares) (o .predicate) (named .below)) (named .below) (named .is);
     rules = omega (arith, holds .rules, length-end (w .pack .rules) (ruleBegun (fieldsOf line)));
     lines = omega (arith, holds .lines, multiplierLines-end (w .pack .rules) (ruleBegun (fieldsOf line)));
     last = λ unempty. rw (lastOf-end noRule (w .pack .rules) (ruleBegun (fieldsOf line))) head-stands;

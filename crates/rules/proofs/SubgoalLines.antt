@@ -16,7 +16,7 @@ use Rattle.theory.specs.Packs.{Atom, Rule, Pack, onSubgoals, onRules, atomKey, 
 use Rattle.theory.specs.declared.Letter.the-variants.{B}
 use Rattle.theory.specs.Written.{Written, onLast, atomFrom, termsFrom, add}
 use Rattle.theory.specs.Residuals.{numbered, atomsVariables, ruleVariables}
-use Rattle.theory.specs.Faults.{noRule, firstOf, isTerm, lastRule, mayStand, subgoalTests, tests, fault}
+use Rattle.theory.specs.Faults.{noRule, firstOf, isTerm, lastRule, mayStand, subgoalTests, whole, tests, fault}
 use Rattle.theory.proofs.Judging.LastRule.{last-changed}
 use Rattle.theory.proofs.Judging.LineWriting.{writes-letter}
 use Rattle.theory.proofs.Judging.RuleCounts.{length-onLast, multiplierLines-subgoal}
@@ -36,6 +36,7 @@ use Rattle.tables.specs.Faults.{numberOf, closingNumber}
 use Rattle.tables.specs.Tables.{Tables, tables, SafeRows, AtomStands, noAtom, subgoalAt, SlotStands, RuleStands, Holds, Safe}
 use Rattle.tables.specs.Lines.{OldPredicate, Passed, at, ClosedFor}
 use Rattle.tables.proofs.Outcomes.{line-number}
+use Rattle.tables.proofs.PredicateSets.{set-changed}
 use Rattle.atoms.specs.Fields.{subgoalAtom, FieldTerm}
 use Rattle.atoms.proofs.StatedAtoms.{subgoal-next}
 use Rattle.atoms.proofs.TermFields.{t-read}
@@ -68,7 +69,7 @@ b-field {line = line} {s = s} {index = index} place inside size before done fine
 }
 
 pub b-fault : {line : Bytes} {s : State} {w : Written} {o : Opened} {atom index many : ℕ} {variables₀ variables rows₀ rows : List ℕ} {r : Fielding} {f : Fault} → Passed B line s w o → index < length (drop 2 (fieldsOf line))
-    → FieldTerm atom index (at (drop 2 (fieldsOf line)) index) many variables₀ rows₀ r variables rows → r ≡ Misread f → fault w line ≡ numberOf f
+    → FieldTerm atom index (at (drop 2 (fieldsOf line)) index) many variables₀ rows₀ r variables rows → r ≡ Misread f → fault whole w line ≡ numberOf f
 unfolding tests subgoalTests
 b-fault {line = line} {w = w} passed inside done bad = passed .left ∙ atom-fault _ [] _ (fieldsOf line) (w .pack) inside done bad
 
@@ -168,6 +169,8 @@ module _ (line : Bytes) (w : Written) where
       claims = holds .claims;
       claimed = holds .claimed;
       shipped = holds .shipped;
+      owing = holds .owing;
+      headed = set-changed (onSubgoals (ending (atomFrom (fieldsOf line)))) (λ r. refl) (w .pack .rules) (holds .headed);
       rules = holds .rules ∙ sym (length-onLast (onSubgoals (ending added)) (w .pack .rules));
       lines = holds .lines ∙ sym (multiplierLines-subgoal added (w .pack .rules));
       last = λ h. rw (last-changed (onSubgoals (ending added)) noRule (w .pack .rules) unempty) subgoal-stands;

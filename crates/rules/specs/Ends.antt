@@ -2,7 +2,8 @@
 use mathlib.Core.Path.{_≡_}
 use mathlib.Core.Bool.{Bool, false, cond, _||_}
 use mathlib.Core.List.{List}
-use Prim.Native.Nat.{ℕ, _+_, _<_}
+use Prim.Native.Nat.{ℕ, _+_, _^_, _<_}
+use lib.Bits.{bitOr}
 use lib.Dec.{leb, ltb}
 use lib.ListN.{length, getD}
 use Rattle.theory.specs.Packs.{ruleLimit, subgoalLimit, variableLimit}
@@ -13,11 +14,15 @@ use Rattle.tables.specs.declared.Closing.{Closing}
 use Rattle.tables.specs.declared.Closing.the-variants.{Done, Misclosed}
 use Rattle.tables.specs.Tables.{claimPlace}
 
+abbrev pub withRule : ℕ → ℕ → ℕ → State → State
+withRule head headed variables s = record { predicates = s .predicates; claimed = s .claimed; rules = s .rules + 1; «multiplier_lines» = s .«multiplier_lines»; head = head; subgoals = 0; variables = variables; slots = 0; multipliers = 0; shipped = s .shipped; owing = s .owing; headed = headed; ended = s .ended }
+
+-- with a rule whose head is of the predicate at a place
 abbrev pub withHead : ℕ → ℕ → State → State
-withHead head variables s = record { predicates = s .predicates; claimed = s .claimed; rules = s .rules + 1; «multiplier_lines» = s .«multiplier_lines»; head = head; subgoals = 0; variables = variables; slots = 0; multipliers = 0; shipped = s .shipped; ended = s .ended }
+withHead head variables s = withRule head (bitOr (s .headed) (2 ^ head)) variables s
 
 abbrev pub withSubgoal : ℕ → ℕ → State → State
-withSubgoal slots variables s = record { predicates = s .predicates; claimed = s .claimed; rules = s .rules; «multiplier_lines» = s .«multiplier_lines»; head = s .head; subgoals = s .subgoals + 1; variables = variables; slots = slots; multipliers = s .multipliers; shipped = s .shipped; ended = s .ended }
+withSubgoal slots variables s = record { predicates = s .predicates; claimed = s .claimed; rules = s .rules; «multiplier_lines» = s .«multiplier_lines»; head = s .head; subgoals = s .subgoals + 1; variables = variables; slots = slots; multipliers = s .multipliers; shipped = s .shipped; owing = s .owing; headed = s .headed; ended = s .ended }
 
 -- past a limit of rules or subgoals, or that of a rule's variables
 abbrev pub isPast : ℕ → ℕ → ℕ → Bool

@@ -21,7 +21,7 @@ fn is_past(limit: usize, n: usize, many: usize) -> bool
 
 /// The end of an `H` line: a rule begins.
 pub fn close_head(o: Opened, state: State, many: usize) -> Closing
-    requires { ⌜ state .rules ≤ 64 ⌝ }
+    requires { ⌜ (state .rules ≤ 64) × (o .predicate < 32) ⌝ }
     ensures { λ r. ⌜ ClosesH o state many r ⌝ }
 {
     if is_past(64, state.rules, many) {
@@ -30,6 +30,7 @@ pub fn close_head(o: Opened, state: State, many: usize) -> Closing
     let mut next = state;
     next.rules = state.rules + 1;
     next.head = o.predicate;
+    next.headed = tables::with_predicate(state.headed, o.predicate);
     next.subgoals = 0;
     next.variables = many;
     next.slots = 0;

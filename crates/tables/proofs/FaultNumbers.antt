@@ -2,7 +2,7 @@
 use mathlib.Core.Path.{_≡_, refl}
 use native.Mathlib.Omega.{arith}
 use Rattle.tables.specs.declared.Fault.{Fault}
-use Rattle.tables.specs.declared.Fault.the-variants.{UnfitLine, Letter, Name, Declaration, FieldCount, Number, NoTerm, CountLimit, Unjustified, RuledFact, NotGround, UnmetClaim}
+use Rattle.tables.specs.declared.Fault.the-variants.{UnfitLine, Letter, Name, Declaration, FieldCount, Number, NoTerm, CountLimit, Unjustified, RuledFact, NotGround, UnmetClaim, Headless}
 use Rattle.tables.specs.Faults.{numberOf}
 
 pub thirteen : (f : Fault) → numberOf f ≡ 13 → f ≡ Unjustified
@@ -18,6 +18,7 @@ thirteen Unjustified e = refl
 thirteen RuledFact e = absurd (omega arith)
 thirteen NotGround e = absurd (omega arith)
 thirteen UnmetClaim e = absurd (omega arith)
+thirteen Headless e = absurd (omega arith)
 
 pub number-some : (f : Fault) → numberOf f ≡ 0 → ⊥
 number-some UnfitLine e = omega arith
@@ -32,3 +33,4 @@ number-some Unjustified e = omega arith
 number-some RuledFact e = omega arith
 number-some NotGround e = omega arith
 number-some UnmetClaim e = omega arith
+number-some Headless e = omega arith

@@ -10,7 +10,7 @@ use Rattle.theory.specs.declared.Letter.the-variants.{P, C, G, H, B, M, E, NoLe
 use Rattle.theory.specs.Text.{Bytes, isName, fieldsOf}
 use Rattle.theory.specs.Packs.{Key, keyOf, claimKey, atomKey, declaredAs}
 use Rattle.theory.specs.Written.{lineLetter, field, predicateFrom, claimFrom, atomFrom, Written, write}
-use Rattle.theory.specs.Faults.{firstOf, mayStand, tests, fault}
+use Rattle.theory.specs.Faults.{firstOf, mayStand, whole, tests, fault}
 use Rattle.text.specs.Scans.{partsFrom}
 use Rattle.words.specs.Words.{wordsOf}
 use Rattle.tables.specs.declared.State.{State}
@@ -86,7 +86,7 @@ pub record Passed (letter : Letter) (line : Bytes) (s : State) (w : Written) (o 
   pub short : length line ≤ 1024
   pub unended : w .ended ≡ false
   pub stands : mayStand (w .pack) letter ≡ true
-  pub left : fault w line ≡ firstOf (drop (openingTests letter) (tests letter (fieldsOf line) (w .pack)))
+  pub left : fault whole w line ≡ firstOf (drop (openingTests letter) (tests whole letter (fieldsOf line) (w .pack)))
   pub rest : partsFrom 44 line (o .from) ≡ drop (skipped letter) (fieldsOf line)
   pub named : NamedFor letter line s w o
 
@@ -106,5 +106,5 @@ at fs i = getD fs i []
 
 -- a line that is read whole, after lines that write w: its fault, and the tables after it
 pub record ClosedFor (line : Bytes) (w : Written) (r : Closing) (t : Tables) : Type 0 where
-  pub answer : fault w line ≡ closingNumber r
+  pub answer : fault whole w line ≡ closingNumber r
   pub holds : (next : State) → r ≡ Done next → Holds t next (write w line)

@@ -1,20 +1,20 @@
 -- The tables and the state, and how they stand for what the lines so far write.
 use mathlib.Core.Path.{_≡_}
-use mathlib.Core.Bool.{Bool, true, false, cond, not, _||_}
-use mathlib.Core.List.{List, [], _∷_}
+use mathlib.Core.Bool.{Bool, true, false, cond, not}
+use mathlib.Core.List.{List, []}
 use Prim.Native.Nat.{ℕ, zero, suc, _+_, _*_, _≤_, _<_}
 use lib.Dec.{eqb}
 use lib.IntN.{ℤ, pos, natAbs}
 use lib.ListN.{length, getD}
 use Rattle.groundwork.proofs.Bits.{bit}
-use Rattle.theory.specs.Lists.{isEmpty}
+use Rattle.theory.specs.Lists.{any, isEmpty}
 use Rattle.theory.specs.Text.{Bytes, isName}
 use Rattle.theory.specs.Terms.{Term, Terms, variable, nil, cons, arity, structural}
 use Rattle.theory.specs.Forms.{zeroForm, formOf}
 use Rattle.theory.specs.Packs.{Kind, given, ruled, Predicate, Claim, Atom, Rule, Pack, Key, sameKey, keyOf, atomKey, claimsOn, claimsOnAll, noClaim}
 use Rattle.theory.specs.Written.{Written}
 use Rattle.theory.specs.Residuals.{claimForm, subgoalForms, ruleVariables}
-use Rattle.theory.specs.Faults.{lastRule}
+use Rattle.theory.specs.Faults.{lastRule, owesRule, headsRule}
 use Rattle.theory.specs.Check.{multiplierLines}
 use Rattle.words.specs.Words.{wordsOf, wordsAt}
 use Rattle.terms.specs.Rows.{Holds as HoldsVariables}
@@ -100,6 +100,17 @@ pub record Declares (names signatures : List ℕ) (known : ℕ) (ps : List Predi
   pub kind : (i : ℕ) → i < known → getD signatures (32 + i) 0 ≡ flag (predicateAt ps i .kind)
   pub distinct : (i j : ℕ) → i < known → j < known → keyOf (predicateAt ps i) ≡ keyOf (predicateAt ps j) → i ≡ j
 
+-- ## Sets of predicates
+
+-- a set has the predicates that pass a test, and no others
+pub record SetOf (test : Predicate → Bool) (ps : List Predicate) (set : ℕ) : Type 0 where
+  pub has : (i : ℕ) → i < length ps → bit set i ≡ test (predicateAt ps i)
+  pub none : (i : ℕ) → length ps ≤ i → bit set i ≡ false
+
+-- whether a claim, a fact or a rule in a list is of a predicate, by the key of each
+abbrev pub hasKeyIn : {A : Type 0} → (A → Key) → List A → Predicate → Bool
+hasKeyIn keyIn l x = any (λ a. sameKey (keyOf x) (keyIn a)) l
+
 -- ## Claims
 
 -- a claim's numbers from a place of the table on, zeros after the last
@@ -115,15 +126,10 @@ pub record HoldsClaims (signatures : List ℕ) (claims : List ℤ) (ps : List Pr
 
 -- ## Facts that come with the pack
 
--- whether a fact is of the predicate under a key
-unfoldable pub hasFact : Key → List Atom → Bool
-hasFact k [] = false
-hasFact k (f ∷ fs) = sameKey k (atomKey f) || hasFact k fs
-
 -- the set of the predicates that have a fact
 pub record Ships (set : ℕ) (ps : List Predicate) (facts : List Atom) : Type 0 where
   pub none : eqb set 0 ≡ isEmpty facts
-  pub has : (i : ℕ) → i < length ps → bit set i ≡ hasFact (keyOf (predicateAt ps i)) facts
+  pub is : SetOf (hasKeyIn atomKey facts) ps set
 
 -- ## The last rule
 
@@ -178,6 +184,8 @@ pub record Holds (t : Tables) (s : State) (w : Written) : Type 0 where
   pub claims : HoldsClaims (t .signatures) (t .claims) (w .pack .predicates) (w .pack .claims)
   pub claimed : s .claimed ≡ not (isEmpty (w .pack .claims))
   pub shipped : Ships (s .shipped) (w .pack .predicates) (w .pack .facts)
+  pub owing : SetOf (owesRule (w .pack .claims)) (w .pack .predicates) (s .owing)
+  pub headed : SetOf (headsRule (w .pack .rules)) (w .pack .predicates) (s .headed)
   pub rules : s .rules ≡ length (w .pack .rules)
   pub lines : s .«multiplier_lines» ≡ multiplierLines (w .pack .rules)
   pub last : (w .pack .rules ≡ [] → ⊥) → RuleStands t s (w .pack) (lastRule (w .pack))

@@ -5,6 +5,7 @@
 ghost use mathlib.Core.Path.{_≡_};
 ghost use Prim.Native.Nat.{_≤_, _<_, _^_};
 ghost use lib.Bits.{bitOr};
+ghost use lib.Dec.{eqb};
 ghost use Rattle.tables.specs.Tables.{claimPlace, rowPlace};
 use theory::Letter;
 use words::Words;
@@ -62,9 +63,23 @@ pub fn with_predicate(set: PredicateSet, place: usize) -> PredicateSet
     set | (1u64 << place)
 }
 
-/// The scalars that go with the tables. The flags stand last: gaps after them, between the numbers, make copies slow.
+/// Whether each predicate of a set is in another.
+pub fn is_within(set: PredicateSet, other: PredicateSet) -> bool
+    ensures { λ r. ⌜ r ≡ eqb (bitOr set other) other ⌝ }
+{
+    (set | other) == other
+}
+
+/// The scalars that go with the tables. Their order matters for speed: the flags stand last, since gaps after them, between
+/// the numbers, make copies slow, and what seldom changes stands in front.
 pub struct State {
     pub predicates: usize,
+    /// The predicates that have a fact.
+    pub shipped: PredicateSet,
+    /// The ruled predicates that have a claim: each has to head a rule.
+    pub owing: PredicateSet,
+    /// The predicates that head a rule.
+    pub headed: PredicateSet,
     pub rules: usize,
     pub multiplier_lines: usize,
     /// Of the last rule: its head's predicate, subgoals, variables, claims on subgoals, and `M` lines so far.
@@ -73,8 +88,6 @@ pub struct State {
     pub variables: usize,
     pub slots: usize,
     pub multipliers: usize,
-    /// The predicates that have a fact.
-    pub shipped: PredicateSet,
     /// Whether there is a claim.
     pub claimed: bool,
     pub ended: bool,
@@ -94,6 +107,7 @@ pub enum Fault {
     RuledFact,
     NotGround,
     UnmetClaim,
+    Headless,
 }
 
 /// A line whose tests up to the count of fields are done: what the fields and the line's end need.

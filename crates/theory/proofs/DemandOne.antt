@@ -16,8 +16,8 @@ use Rattle.theory.specs.Forms.{Form}
 use Rattle.theory.specs.Packs.{Pack, variableLimit, textLimit}
 use Rattle.theory.specs.Written.{lineLetter, Written, nothing, writeAll, packOf, multipliersFrom}
 use Rattle.theory.specs.Residuals.{areaNeeded, residualNumbers}
-use Rattle.theory.specs.Faults.{fault, lastRule, headClaims, mayStand, residualDue}
-use Rattle.theory.specs.Check.{Judgement, plain, numbers, multiplierLines, refused, checked, checkOf, Checked, verdictOf, isFinished, judge}
+use Rattle.theory.specs.Faults.{whole, fault, lastRule, headClaims, mayStand, residualDue}
+use Rattle.theory.specs.Check.{Judgement, plain, numbers, multiplierLines, refused, checked, checkOf, Checked, judgementOf, verdictOf, isFinished, judge}
 use Rattle.theory.specs.Outcomes.{AllFine, Judged, FirstFault, residualFor, Unjustified, Outcome, faulty, accepted, unjustified, noEnd, shortArea, longText, unfinished}
 use Rattle.theory.specs.Promises.{DemandOne}
 use Rattle.theory.proofs.Judging.Completeness.{due-from-incomplete}
@@ -40,11 +40,11 @@ unfolding residualDue
 due-length p ms = seventeen _ _
 
 -- a 13 is found on a line of multipliers that is due
-claim-due : (w : Written) (l : Bytes) → fault w l ≡ 13 → length (lastRule (w .pack) .multipliers) < length (headClaims (w .pack))
+claim-due : (w : Written) (l : Bytes) → fault whole w l ≡ 13 → length (lastRule (w .pack) .multipliers) < length (headClaims (w .pack))
 unfolding mayStand
 claim-due w l e =
-    let place = past-place w l 13 e (λ h. omega arith) (λ h. omega arith) in
-    let isM = thirteen-is-m (lineLetter l) (fieldsOf l) (w .pack) (place .found) in
+    let place = past-place whole w l 13 e (λ h. omega arith) (λ h. omega arith) in
+    let isM = thirteen-is-m whole (lineLetter l) (fieldsOf l) (w .pack) (place .found) in
     due-from-incomplete (w .pack) (not-true _ (rw isM at (place .stands)))
 
 -- ---- the outcomes
@@ -54,8 +54,8 @@ module _ (text : Bytes) (area : List ℤ) where
   abbrev Told : Judgement → Type 0
   Told j = Outcome text area (checked (j .returned) (over (j .residue) area))
 
-  refused-tells : Judged text area → (before : List Bytes) (l : Bytes) (after : List Bytes) → linesOf text ≡ before ++ l ∷ after → AllFine nothing before
-      → (fault (writeAll nothing before) l ≡ 0 → ⊥) → Told (refused (writeAll nothing before) (length before + 1) l (fault (writeAll nothing before) l))
+  refused-tells : Judged text area → (before : List Bytes) (l : Bytes) (after : List Bytes) → linesOf text ≡ before ++ l ∷ after → AllFine whole nothing before
+      → (fault whole (writeAll nothing before) l ≡ 0 → ⊥) → Told (refused (writeAll nothing before) (length before + 1) l (fault whole (writeAll nothing before) l))
   unfolding refused
   refused-tells judged before l after are fine has = go (eqb n 13) refl
     where
@@ -63,7 +63,7 @@ module _ (text : Bytes) (area : List ℤ) where
       w = writeAll nothing before
 
       n : ℕ
-      n = fault w l
+      n = fault whole w l
 
       first : FirstFault text n (length before + 1)
       first = record { before = before; faulty = l; after = after; are = are; place = refl; fine = fine; has = refl; isFault = has }
@@ -84,7 +84,7 @@ module _ (text : Bytes) (area : List ℤ) where
           (sym (due-length (w .pack) (multipliersFrom (fieldsOf l)))) (unjustified judged (unjust (eqb-equal n 13 e)))
       go false e = faulty judged first (eqb-unequal n 13 e)
 
-  end-tells : Judged text area → AllFine nothing (linesOf text) → Told (atEnd (writeAll nothing (linesOf text)) (length (linesOf text)))
+  end-tells : Judged text area → AllFine whole nothing (linesOf text) → Told (atEnd (writeAll nothing (linesOf text)) (length (linesOf text)))
   unfolding packOf
   end-tells judged fine = go (writeAll nothing (linesOf text) .ended) refl
     where
@@ -93,22 +93,22 @@ module _ (text : Bytes) (area : List ℤ) where
       go true e = accepted judged fine e
       go false e = noEnd judged fine e
 
-  lines-tell : Judged text area → {j : Judgement} → JudgedAs nothing 0 (linesOf text) j → Told j
+  lines-tell : Judged text area → {j : Judgement} → JudgedAs whole nothing 0 (linesOf text) j → Told j
   lines-tell judged (all-fine fine) = subst (λ (k : ℕ). Told (atEnd (writeAll nothing (linesOf text)) k)) (sym (zero-add _)) (end-tells judged fine)
   lines-tell judged (fault-at before l after are fine has) =
       let w = writeAll nothing before in
-      subst (λ (k : ℕ). Told (refused w (k + 1) l (fault w l))) (sym (zero-add (length before))) (refused-tells judged before l after are fine has)
+      subst (λ (k : ℕ). Told (refused w (k + 1) l (fault whole w l))) (sym (zero-add (length before))) (refused-tells judged before l after are fine has)
 
   outcome : Outcome text area (checkOf text area)
-  unfolding checkOf verdictOf
+  unfolding checkOf judgementOf
   outcome = room (ltb (length area) areaNeeded) refl
     where
-      finished : areaNeeded ≤ length area → length text ≤ textLimit → (b : Bool) → isFinished text ≡ b → Told (cond b (judge nothing 0 (linesOf text)) (plain (numbers 3 0 0 0)))
-      finished h k true e = lines-tell (record { room = h; short = k; finished = e }) (judged-as nothing 0 (linesOf text))
+      finished : areaNeeded ≤ length area → length text ≤ textLimit → (b : Bool) → isFinished text ≡ b → Told (cond b (judge whole nothing 0 (linesOf text)) (plain (numbers 3 0 0 0)))
+      finished h k true e = lines-tell (record { room = h; short = k; finished = e }) (judged-as whole nothing 0 (linesOf text))
       finished h k false e = unfinished h k e
 
       long : areaNeeded ≤ length area → (b : Bool) → ltb textLimit (length text) ≡ b
-          → Told (cond b (plain (numbers 2 0 0 0)) (cond (isFinished text) (judge nothing 0 (linesOf text)) (plain (numbers 3 0 0 0))))
+          → Told (cond b (plain (numbers 2 0 0 0)) (cond (isFinished text) (judge whole nothing 0 (linesOf text)) (plain (numbers 3 0 0 0))))
       long h true e = longText h (ltb-lt textLimit (length text) e)
       long h false e = finished h (ltb-ge textLimit (length text) e) (isFinished text) refl
 

@@ -1,30 +1,25 @@
 -- Demand 3, from a text's bytes to all that can be derived.
-use mathlib.Core.Path.{_≡_, refl, sym, _∙_, ap}
-use mathlib.Core.List.{List}
+use mathlib.Core.Path.{refl, sym, _∙_, ap}
 use Prim.Native.Char.{code}
-use lib.IntN.{ℤ}
 use Rattle.theory.specs.Text.{Bytes}
 use Rattle.theory.specs.Packs.{Pack, Atom}
 use Rattle.theory.specs.Written.{packOf}
-use Rattle.theory.specs.Check.{Numbers, checkOf}
+use Rattle.theory.specs.Check.{Numbers}
 use Rattle.theory.specs.Reserve.{queryOf, fields}
 use Rattle.theory.specs.Derivations.{GivenFact, ShippedFact, Derivable}
 use Rattle.theory.specs.Answers.{numbersOf, reservedFields}
 use Rattle.theory.specs.Promises.{GivenMeet, ClaimsKept, AnswersKept, Kept, DemandThree}
-use Rattle.theory.proofs.Judging.Acceptance.{AcceptedPack, accepted-pack, accepted-written, check-accepts}
+use Rattle.theory.proofs.Judging.Acceptance.{AcceptedPack, accepted-pack, checked-pack}
 use Rattle.theory.proofs.Soundness.Derivable.{derivable-meets, derivable-is-fact}
 use Rattle.theory.proofs.Reserving.Reservations.{bound-exactly, impossible-exactly}
 use Rattle.theory.proofs.Reserving.ReserveAnswers.{answered, asks}
 use Rattle.theory.proofs.Reserving.ReserveSound.{bound-kept, none-such}
 use Rattle.theory.proofs.Words.{words-kept}
 
-from-check : (text : Bytes) (area : List ℤ) → checkOf text area .returned .number ≡ 0 → AcceptedPack text
-from-check text area e = let a = check-accepts text area e in accepted-written text (a .pack) (a .isWritten) (a .fits) (a .justified)
-
 -- (the premise on given facts is asked only of a pack that is accepted)
 claims-kept : (text : Bytes) (Given : Atom → Type 0) → (AcceptedPack text → GivenMeet text Given) → ClaimsKept text Given
 claims-kept text Given given = record {
-  claimsMet = λ area e. let s = from-check text area e in derivable-meets p Given (given s) (s .justified);
+  claimsMet = λ area e. let s = checked-pack text area e in derivable-meets p Given (given s) (s .justified);
   boundKept = λ query bound claim e.
       let a = answered text query (fields (code "B") bound claim) refl e in
       let s = accepted-pack text (a .accepted) in

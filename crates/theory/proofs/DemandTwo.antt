@@ -1,4 +1,4 @@
--- Demand 2: which packs check accepts, and which bounds reserve gives.
+-- Demand 2: which packs check accepts, also but for 24, and which bounds reserve gives.
 use mathlib.Core.Path.{_≡_, refl, _∙_}
 use mathlib.Core.Bool.{false}
 use mathlib.Core.Logic.{_↔_}
@@ -6,10 +6,12 @@ use Prim.Native.Char.{code}
 use lib.Dec.{eqb}
 use Rattle.theory.specs.Text.{Bytes}
 use Rattle.theory.specs.Written.{packOf}
+use Rattle.theory.specs.Faults.{whole}
 use Rattle.theory.specs.Reserve.{queryOf, Fields, fields, reservation, answerOf, reserveOf}
 use Rattle.theory.specs.SmallestBound.{BoundGiven, ImpossibleBy, NoneUsable}
-use Rattle.theory.specs.Promises.{Answerable, DemandTwo}
-use Rattle.theory.proofs.Judging.Acceptance.{check-accepts, acceptable-checks}
+use Rattle.theory.specs.Promises.{Answerable, DemandTwo, ButForHeads}
+use Rattle.theory.proofs.Judging.Acceptance.{check-accepts, acceptable-checks, accepts-but-for-heads, but-for-heads-accepts}
+use Rattle.theory.proofs.Judging.ButForHeads.{judgements-agree, no-judgement-24}
 use Rattle.theory.proofs.Reserving.Reservations.{bound-exactly, impossible-exactly, none-exactly}
 use Rattle.theory.proofs.Reserving.ReserveAnswers.{answered}
 
@@ -32,4 +34,11 @@ demand-two text = record {
   bound = λ query b n. exactly text query (fields (code "B") b n) (BoundGiven (packOf text) (queryOf query) b n) refl (bound-exactly (packOf text) (queryOf query) b n);
   impossible = λ query n. exactly text query (fields (code "I") 0 n) (ImpossibleBy (packOf text) (queryOf query) n) refl (impossible-exactly (packOf text) (queryOf query) n);
   noBound = λ query. exactly text query (fields (code "N") 0 0) (NoneUsable (packOf text) (queryOf query)) refl (none-exactly (packOf text) (queryOf query));
+}
+
+pub but-for-heads : (text : Bytes) → ButForHeads text
+but-for-heads text = record {
+  accepted = (accepts-but-for-heads text, but-for-heads-accepts text);
+  never = no-judgement-24 whole text;
+  agrees = judgements-agree whole text;
 }

@@ -1,5 +1,5 @@
--- The starred examples of document 01 as one table, and those of 02's 1/14 and 2/14 as others: the definitions compute every
--- answer.
+-- The starred examples of document 01 as one table, and those of 02's 1/14, 2/14 and 3/14 as others: the definitions compute
+-- every answer.
 use mathlib.Core.Path.{_≡_, refl, sym, ap, subst}
 use mathlib.Core.List.{List, [], _∷_, _++_, map, flatMap, flatten, List·Memᴰ·head, List·Memᴰ·eq-of-singleton}
 use Prim.Native.Nat.{ℕ}
@@ -8,7 +8,7 @@ use native.Mathlib.Omega.{arith}
 use Prim.Native.String.{String}
 use lib.IntN.{ℤ, pos, negsuc}
 use lib.ListN.{replicate}
-use Rattle.theory.specs.Lists.{_∈_, total, every, isSome, isEmpty}
+use Rattle.theory.specs.Lists.{_∈_, total, every, any, isSome, isEmpty}
 use Rattle.theory.specs.Text.{Bytes, bytes, same, among, partsAt, joined, linesOf, isNameByte, isWord, valueAfter, isDecimal, natural, negated, integer, lastDigits, decimal}
 use Rattle.theory.specs.Terms.{variable, nil, cons, arity, symbolFrom, symbolIn, tokenOf, firstTerms, after, afterAll, termsOf, theOnly, readTerm, structural, flagged, size, counted, variables, occurrences}
 use Rattle.theory.specs.Forms.{zeroForm, plus, times, minus, constantForm, formOf}
@@ -16,8 +16,8 @@ use Rattle.theory.specs.Packs.{given, Predicate, Atom, Rule, textOf, fro
 use Rattle.theory.specs.Written.{letterOf, termsFrom, kindFrom, predicateFrom, claimFrom, atomFrom, multipliersFrom, nothing, onLast, add, write, writeAll, packOf}
 use Rattle.theory.specs.Residuals.{weighted, claimForm, subgoalForms, combined, residual, numbered, atomsVariables, ruleVariables, residualNumbers, isJustified}
 use Rattle.theory.specs.Facts.{weightedSizes, isMet}
-use Rattle.theory.specs.Faults.{firstOf, isUnfit, arityIn, isGiven, givenIn, ruledIn, noRule, lastOf, mayStand, residualDue, predicateTests, claimTests, atomTests, factTests, headTests, subgoalTests, multiplierTests, tests, fault}
-use Rattle.theory.specs.Check.{numbers, Checked, multiplierLines, refused, judge, isFinished, verdictOf, checkOf}
+use Rattle.theory.specs.Faults.{firstOf, isUnfit, arityIn, isGiven, givenIn, ruledIn, noRule, lastOf, mayStand, residualDue, predicateTests, claimTests, atomTests, factTests, headTests, subgoalTests, multiplierTests, endTests, tests, fault}
+use Rattle.theory.specs.Check.{numbers, Checked, multiplierLines, refused, judge, isFinished, judgementOf, checkOf}
 use Rattle.theory.specs.Measure.{Measured, measured, measureTerm, measureOf}
 use Rattle.theory.specs.Pages.{Paged, paged, afterVerdict}
 use Rattle.theory.specs.Sheet.{spaces, rightAligned, leftAligned, columns, sheetLine, sheetLines, sheet, sheetOf}
@@ -39,7 +39,7 @@ pub data Answer : Type 0 where
   filed : Paged → Answer
 
 unfoldable pub answerTo : Example → Answer
-unfolding bytes same among every partsAt joined linesOf isNameByte isWord valueAfter isDecimal natural negated integer arity symbolFrom symbolIn tokenOf firstTerms after afterAll termsOf theOnly readTerm structural flagged total flatten size counted variables occurrences zeroForm plus times minus constantForm formOf key sameKey declaredAs claimsOn letterOf termsFrom kindFrom predicateFrom claimFrom atomFrom multipliersFrom nothing onLast add write writeAll packOf weighted claimForm subgoalForms combined residual numbered atomsVariables ruleVariables residualNumbers isJustified weightedSizes isMet firstOf isSome isUnfit arityIn isGiven givenIn ruledIn isEmpty noRule lastOf fromRules fromFacts fromClaims ruleLines claimLine factLine headLine mayStand noClaim residualDue predicateTests claimTests atomTests factTests headTests subgoalTests multiplierTests tests fault multiplierLines refused judge isFinished verdictOf checkOf measureTerm measureOf sizeFrom queryFrom queryOf queryFault unknownsAtMostZero knownPart isUsable numerator boundBy usableFrom impossibles smallest bounded impossibleOr reservation refusal answerOf reserveOf flatMap textOf decimal lastDigits spaces rightAligned leftAligned columns sheetLine sheetLines sheet afterVerdict sheetOf
+unfolding bytes same among every any partsAt joined linesOf isNameByte isWord valueAfter isDecimal natural negated integer arity symbolFrom symbolIn tokenOf firstTerms after afterAll termsOf theOnly readTerm structural flagged total flatten size counted variables occurrences zeroForm plus times minus constantForm formOf key sameKey declaredAs claimsOn letterOf termsFrom kindFrom predicateFrom claimFrom atomFrom multipliersFrom nothing onLast add write writeAll packOf weighted claimForm subgoalForms combined residual numbered atomsVariables ruleVariables residualNumbers isJustified weightedSizes isMet firstOf isSome isUnfit arityIn isGiven givenIn ruledIn isEmpty noRule lastOf fromRules fromFacts fromClaims ruleLines claimLine factLine headLine mayStand noClaim residualDue predicateTests claimTests atomTests factTests headTests subgoalTests multiplierTests endTests tests fault multiplierLines refused judge isFinished judgementOf checkOf measureTerm measureOf sizeFrom queryFrom queryOf queryFault unknownsAtMostZero knownPart isUsable numerator boundBy usableFrom impossibles smallest bounded impossibleOr reservation refusal answerOf reserveOf flatMap textOf decimal lastDigits spaces rightAligned leftAligned columns sheetLine sheetLines sheet afterVerdict sheetOf
 answerTo (check pack area) = checked (checkOf (bytes pack) area)
 answerTo (reserve pack query) = reserved (reserveOf (bytes pack) (bytes query))
 answerTo (measure term) = sized (measureOf (bytes term))
@@ -167,3 +167,28 @@ withSheets =
 pub sheets-are-met : TableMet withSheets
 unfolding answerTo
 sheets-are-met = record { answers = refl; besides = (tt, (tt, (tt, (tt, (tt, tt))))) }
+
+-- ---- 02, 3/14: a misspelt head
+
+-- the buyer's: `trail` has the claim, and `trial` the rules
+abbrev pub misspelt : String
+misspelt = "P,next,2,G\nP,trail,2,R\nP,trial,2,R\nC,next,0,1,-1\nC,trail,0,1,-1\nH,trial,X,Y\nB,next,X,Y\nE\n"
+
+-- refused, whatever is asked; a given predicate, and one without a claim, need no rule; a field too many on the `E` line, and
+-- a line after it; one of two that heads none, the second or the first
+abbrev pub withHeads : List Row
+withHeads =
+    (check misspelt before gives unchanged 24 8 0 0)
+    ∷ (reserve misspelt "next,1,-,2" gives reserved (fields (code "R") 24 0))
+    ∷ (sheetOn misspelt (dots 3) gives filed (paged (numbers 24 8 0 0) (dots 3)))
+    ∷ (check "P,k,1,G\nC,k,0,1\nE\n" before gives unchanged 0 3 0 0)
+    ∷ (check "P,k,1,R\nE\n" before gives unchanged 0 2 0 0)
+    ∷ (check "P,k,1,R\nC,k,0,1\nE,\n" before gives unchanged 9 3 0 0)
+    ∷ (check "P,k,1,R\nC,k,0,1\nE\nE\n" before gives unchanged 24 3 0 0)
+    ∷ (check "P,j,0,R\nP,k,0,R\nC,j,0\nC,k,0\nH,j\nM\nE\n" before gives unchanged 24 7 0 0)
+    ∷ (check "P,j,0,R\nP,k,0,R\nC,j,0\nC,k,0\nH,k\nM\nE\n" before gives unchanged 24 7 0 0)
+    ∷ []
+
+pub heads-are-met : TableMet withHeads
+unfolding answerTo
+heads-are-met = record { answers = refl; besides = (tt, (tt, (tt, (tt, (tt, (tt, (tt, (tt, (tt, tt))))))))) }

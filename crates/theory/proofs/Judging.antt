@@ -6,6 +6,7 @@ pub mod RuleCounts
 pub mod Keys
 pub mod ClaimsOn
 pub mod Completeness
+pub mod Heads
 pub mod Variables
 pub mod RuleVariables
 -- runs of lines, as what they add, and packs within the limits
@@ -33,6 +34,7 @@ pub mod JudgedLines
 pub mod PackReading
 pub mod JudgedRuns
 pub mod FineRuns
+pub mod ButForHeads
 pub mod Acceptance
 pub mod VerdictRange
 pub mod Locality

@@ -1,9 +1,9 @@
--- Document 01, the tables of "What check returns" and "Reserving", with 02's 1/14 and 2/14: the numbers and values of each case of an answer.
+-- Document 01, the tables of "What check returns" and "Reserving", with 02's 1/14, 2/14 and 3/14: the numbers and values of each case of an answer.
 use mathlib.Core.Option.{Option, some, none}
 use Prim.Native.Nat.{ℕ}
 use Prim.Native.Char.{code}
 use Rattle.theory.specs.declared.Refusal.{Refusal}
-use Rattle.theory.specs.declared.Refusal.the-variants.{ShortArea, LongText, UnfinishedText, UnfitLine, Letter, NoEnd, Name, Declaration, FieldCount, Number, NoTerm, CountLimit, Unjustified, RuledFact, NotGround, UnmetClaim}
+use Rattle.theory.specs.declared.Refusal.the-variants.{ShortArea, LongText, UnfinishedText, UnfitLine, Letter, NoEnd, Name, Declaration, FieldCount, Number, NoTerm, CountLimit, Unjustified, RuledFact, NotGround, UnmetClaim, Headless}
 use Rattle.theory.specs.declared.Verdict.{Verdict}
 use Rattle.theory.specs.declared.Verdict.the-variants.{Accepted, Refused}
 use Rattle.theory.specs.declared.QueryRefusal.{QueryRefusal}
@@ -35,6 +35,7 @@ refusalNumbers (Unjustified l r c) = numbers 13 l r c
 refusalNumbers (RuledFact l) = numbers 20 l 0 0
 refusalNumbers (NotGround l) = numbers 21 l 0 0
 refusalNumbers (UnmetClaim l) = numbers 22 l 0 0
+refusalNumbers (Headless l) = numbers 24 l 0 0
 
 -- Check's four numbers.
 abbrev pub numbersOf : Verdict → Numbers

@@ -10,7 +10,7 @@ use Rattle.theory.specs.Lists.{over}
 use Rattle.theory.specs.Text.{Bytes, fieldsOf, linesOf}
 use Rattle.theory.specs.Packs.{Rule, textLimit}
 use Rattle.theory.specs.Written.{Written, nothing, write, multipliersFrom}
-use Rattle.theory.specs.Faults.{fault, lastRule, residualDue}
+use Rattle.theory.specs.Faults.{Manner, whole, fault, lastRule, residualDue}
 use Rattle.theory.specs.Residuals.{areaNeeded}
 
 -- the four numbers that check returns
@@ -41,10 +41,10 @@ refused w k l n = cond (eqb n 13)
     (record { returned = numbers 13 k (length (w .pack .rules)) (length (lastRule (w .pack) .multipliers) + 1); residue = residualDue (w .pack) (multipliersFrom (fieldsOf l)) })
     (plain (numbers n k 0 0))
 
--- The judgement of lines, after k lines that write w: the first that has a fault decides. Accepted: lines, rules, `M` lines.
-unfoldable pub judge : Written → ℕ → List Bytes → Judgement
-judge w k [] = cond (w .ended) (plain (numbers 0 k (length (w .pack .rules)) (multiplierLines (w .pack .rules)))) (plain (numbers 6 0 0 0))
-judge w k (l ∷ ls) = cond (eqb (fault w l) 0) (judge (write w l) (k + 1) ls) (refused w (k + 1) l (fault w l))
+-- The judgement of lines in some manner, after k lines that write w: the first that has a fault decides. Accepted: lines, rules, `M` lines.
+unfoldable pub judge : Manner → Written → ℕ → List Bytes → Judgement
+judge m w k [] = cond (w .ended) (plain (numbers 0 k (length (w .pack .rules)) (multiplierLines (w .pack .rules)))) (plain (numbers 6 0 0 0))
+judge m w k (l ∷ ls) = cond (eqb (fault m w l) 0) (judge m (write w l) (k + 1) ls) (refused w (k + 1) l (fault m w l))
 
 -- the last byte is 10
 unfoldable pub isFinished : Bytes → Bool
@@ -52,11 +52,15 @@ isFinished [] = false
 isFinished (b ∷ []) = eqb b 10
 isFinished (b ∷ c ∷ bs) = isFinished (c ∷ bs)
 
--- the verdict on a pack, whatever the area
-unfoldable pub verdictOf : Bytes → Judgement
-verdictOf text =
+-- the judgement of a text in some manner
+unfoldable pub judgementOf : Manner → Bytes → Judgement
+judgementOf m text =
     cond (ltb textLimit (length text)) (plain (numbers 2 0 0 0))
-    (cond (isFinished text) (judge nothing 0 (linesOf text)) (plain (numbers 3 0 0 0)))
+    (cond (isFinished text) (judge m nothing 0 (linesOf text)) (plain (numbers 3 0 0 0)))
+
+-- the verdict on a pack, whatever the area
+abbrev pub verdictOf : Bytes → Judgement
+verdictOf text = judgementOf whole text
 
 -- check's refusal of a text, which the other calls over packs pass on with all its numbers; none where it is accepted
 unfoldable pub refusalOf : Bytes → Option Numbers

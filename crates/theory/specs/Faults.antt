@@ -1,4 +1,4 @@
--- Document 01, the table of "What check returns", with 02's 1/14: what is wrong with a line, given what the lines before it write.
+-- Document 01, the table of "What check returns", with 02's 1/14 and 3/14: what is wrong with a line, given what the lines before it write.
 use mathlib.Core.Bool.{Bool, true, false, cond, not, _&&_, _||_}
 use mathlib.Core.List.{List, [], _∷_, _++_}
 use mathlib.Core.Option.{Option, some, none}
@@ -6,10 +6,10 @@ use Prim.Native.Nat.{ℕ, _+_}
 use lib.Dec.{eqb, leb, ltb}
 use lib.IntN.{ℤ}
 use lib.ListN.{length, getD, drop}
-use Rattle.theory.specs.Lists.{every, isEmpty, isSome, ending}
+use Rattle.theory.specs.Lists.{every, any, isEmpty, isSome, ending}
 use Rattle.theory.specs.Text.{Bytes, bytes, same, between, isName, natural, integer, fieldsOf}
 use Rattle.theory.specs.Terms.{nil, readTerm, allVariables, structural}
-use Rattle.theory.specs.Packs.{Kind, given, ruled, Predicate, Claim, Atom, Rule, Pack, noClaim, headAlone, lineLimit, predicateLimit, claimLimit, ruleLimit, subgoalLimit, variableLimit, numberLimit, keyOf, claimKey, atomKey, declaredAs, claimsOn, claimsOnAll, fromRules, fromFacts, fromClaims}
+use Rattle.theory.specs.Packs.{Kind, given, ruled, Predicate, Claim, Atom, Rule, Pack, noClaim, headAlone, lineLimit, predicateLimit, claimLimit, ruleLimit, subgoalLimit, variableLimit, numberLimit, sameKey, keyOf, claimKey, atomKey, declaredAs, claimsOn, claimsOnAll, fromRules, fromFacts, fromClaims}
 use Rattle.theory.specs.declared.Letter.{Letter}
 use Rattle.theory.specs.declared.Letter.the-variants.{P, C, G, H, B, M, E, NoLetter}
 use Rattle.theory.specs.Written.{lineLetter, field, Written, predicateFrom, claimFrom, atomFrom, multipliersFrom}
@@ -97,6 +97,17 @@ mayStand p M = not (isComplete p)
 mayStand p E = isComplete p
 mayStand p NoLetter = false
 
+-- a ruled predicate that has a claim: it has to head a rule
+abbrev pub owesRule : List Claim → Predicate → Bool
+owesRule claims x = not (isGiven (x .kind)) && any (λ (c : Claim). sameKey (keyOf x) (claimKey c)) claims
+
+abbrev pub headsRule : List Rule → Predicate → Bool
+headsRule rules x = any (λ (r : Rule). sameKey (keyOf x) (atomKey (r .head))) rules
+
+-- a predicate that has to head a rule, and does not
+abbrev pub isHeadless : Pack → Predicate → Bool
+isHeadless p x = owesRule (p .claims) x && not (headsRule (p .rules) x)
+
 -- the claim that the next `M` line is for
 abbrev pub claimDue : Pack → Claim
 claimDue p = getD (headClaims p) (length (lastRule p .multipliers)) noClaim
@@ -106,6 +117,21 @@ unfoldable pub residualDue : Pack → List ℕ → List ℤ
 residualDue p multipliers =
     let r = lastRule p in
     residualNumbers (ruleVariables (r .head) (r .subgoals)) (residual structural (p .claims) (r .head) (r .subgoals) (claimDue p) multipliers)
+
+-- ## How lines are judged
+
+-- Which letters may come next after lines that write a pack, and whether a headless predicate is refused.
+pub record Manner : Type 0 where
+  pub allows : Pack → Letter → Bool
+  pub refusesHeadless : Bool
+
+-- as check judges a pack
+abbrev pub whole : Manner
+whole = record { allows = mayStand; refusesHeadless = true }
+
+-- the same but for 24
+abbrev pub butForHeads : Manner → Manner
+butForHeads m = record { allows = m .allows; refusesHeadless = false }
 
 -- ## The tests of a line, by its letter
 
@@ -169,20 +195,26 @@ multiplierTests fields p =
     ∷ test 13 (not (isJustified (residualDue p (multipliersFrom fields))))
     ∷ []
 
-unfoldable pub tests : Letter → List Bytes → Pack → List Test
-tests P fields p = predicateTests fields p
-tests C fields p = claimTests fields p
-tests G fields p = factTests fields p
-tests H fields p = headTests fields p
-tests B fields p = subgoalTests fields p
-tests M fields p = multiplierTests fields p
-tests E fields p = test 9 (not (eqb (length fields) 1)) ∷ []
-tests NoLetter fields p = []
+unfoldable pub endTests : Manner → List Bytes → Pack → List Test
+endTests m fields p =
+    test 9 (not (eqb (length fields) 1))
+    ∷ test 24 (m .refusesHeadless && any (isHeadless p) (p .predicates))
+    ∷ []
 
--- The number of the fault of a line, after lines that write w.
-unfoldable pub fault : Written → Bytes → ℕ
-fault w l =
+unfoldable pub tests : Manner → Letter → List Bytes → Pack → List Test
+tests m P fields p = predicateTests fields p
+tests m C fields p = claimTests fields p
+tests m G fields p = factTests fields p
+tests m H fields p = headTests fields p
+tests m B fields p = subgoalTests fields p
+tests m M fields p = multiplierTests fields p
+tests m E fields p = endTests m fields p
+tests m NoLetter fields p = []
+
+-- The number of the fault of a line, judged in some manner after lines that write w.
+unfoldable pub fault : Manner → Written → Bytes → ℕ
+fault m w l =
     firstOf
     (test 4 (isUnfit l)
-    ∷ test 5 (w .ended || not (mayStand (w .pack) (lineLetter l)))
-    ∷ tests (lineLetter l) (fieldsOf l) (w .pack))
+    ∷ test 5 (w .ended || not (m .allows (w .pack) (lineLetter l)))
+    ∷ tests m (lineLetter l) (fieldsOf l) (w .pack))

@@ -1,5 +1,5 @@
--- Document 01, "The pack", with 02's 1/14: the packs within the limits; "When a claim is justified"; and demand 2, when a pack
--- is accepted.
+-- Document 01, "The pack", with 02's 1/14: the packs within the limits; "When a claim is justified", with 02's 3/14; and
+-- demand 2, when a pack is accepted.
 use mathlib.Core.Path.{_≡_}
 use mathlib.Core.Bool.{true}
 use mathlib.Core.List.{List, [], _∷_, _++_}
@@ -104,10 +104,25 @@ pub record Justified (p : Pack) : Type 0 where
   pub facts : (f : Atom) → f ∈ p .facts → MeetsAll p f
   pub rules : (r : Rule) → r ∈ p .rules → RuleJustified (opening p) r
 
--- Demand 2: what an accepted area and text are. It mentions neither faults nor check.
-pub record Acceptable (text : Bytes) (area : List ℤ) : Type 0 where
-  pub room : areaNeeded ≤ length area
+-- a rule of the pack whose head is of this predicate
+pub record HeadsRule (p : Pack) (x : Predicate) : Type 0 where
+  pub rule : Rule
+  pub isOne : rule ∈ p .rules
+  pub isHead : atomKey (rule .head) ≡ keyOf x
+
+-- Each ruled predicate that has a claim heads a rule (02, 3/14).
+pub record Headed (p : Pack) : Type 0 where
+  pub every : (x : Predicate) → x ∈ p .predicates → x .kind ≡ ruled → (c : Claim) → c ∈ p .claims → claimKey c ≡ keyOf x → HeadsRule p x
+
+-- A text that is a pack as written, within the limits and justified, whatever its heads.
+pub record AcceptableButForHeads (text : Bytes) : Type 0 where
   pub pack : Pack
   pub isWritten : text ≡ written pack
   pub fits : Fits pack
   pub justified : Justified pack
+
+-- Demand 2: what an accepted area and text are. It mentions neither faults nor check.
+pub record Acceptable (text : Bytes) (area : List ℤ) : Type 0 where
+  pub room : areaNeeded ≤ length area
+  pub made : AcceptableButForHeads text
+  pub headed : Headed (made .pack)

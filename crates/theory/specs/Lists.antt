@@ -1,5 +1,5 @@
 -- Words on lists, and on values that may be missing, that the other files use.
-use mathlib.Core.Bool.{Bool, true, false, _&&_}
+use mathlib.Core.Bool.{Bool, true, false, _&&_, _||_}
 use mathlib.Core.List.{List, [], _∷_, _++_, List·Memᴰ}
 use mathlib.Core.Option.{Option, some, none}
 use Prim.Native.Nat.{ℕ, _+_}
@@ -14,6 +14,11 @@ _∈_ a l = List·Memᴰ a l
 unfoldable pub every {ℓ} : {A : Type ℓ} → (A → Bool) → List A → Bool
 every test [] = true
 every test (a ∷ rest) = test a && every test rest
+
+-- the test holds of some element
+unfoldable pub any {ℓ} : {A : Type ℓ} → (A → Bool) → List A → Bool
+any test [] = false
+any test (a ∷ rest) = test a || any test rest
 
 unfoldable pub isEmpty {ℓ} : {A : Type ℓ} → List A → Bool
 isEmpty [] = true

@@ -10,13 +10,13 @@ use Rattle.theory.specs.Terms.{structural}
 use Rattle.theory.specs.Packs.{Rule, Pack, textLimit, noClaim, atomKey, claimsOn}
 use Rattle.theory.specs.Written.{Written, nothing, write, writeAll, packOf, multipliersFrom}
 use Rattle.theory.specs.Residuals.{areaNeeded, residual, ruleVariables, residualNumbers}
-use Rattle.theory.specs.Faults.{fault, lastRule}
+use Rattle.theory.specs.Faults.{Manner, whole, fault, lastRule}
 use Rattle.theory.specs.Check.{numbers, multiplierLines, isFinished, Checked, checked}
 
--- no line of these has a fault, after lines that write w
-abbrev pub AllFine : Written → List Bytes → Type 0
-AllFine w [] = Unit {0}
-AllFine w (l ∷ ls) = (fault w l ≡ 0) × AllFine (write w l) ls
+-- no line of these has a fault, judged in some manner after lines that write w
+abbrev pub AllFine : Manner → Written → List Bytes → Type 0
+AllFine m w [] = Unit {0}
+AllFine m w (l ∷ ls) = (fault m w l ≡ 0) × AllFine m (write w l) ls
 
 -- the area and the whole text pass their tests, so the lines are judged
 pub record Judged (text : Bytes) (area : List ℤ) : Type 0 where
@@ -31,8 +31,8 @@ pub record FirstFault (text : Bytes) (number line : ℕ) : Type 0 where
   pub after : List Bytes
   pub are : linesOf text ≡ before ++ faulty ∷ after
   pub place : line ≡ length before + 1
-  pub fine : AllFine nothing before
-  pub has : fault (writeAll nothing before) faulty ≡ number
+  pub fine : AllFine whole nothing before
+  pub has : fault whole (writeAll nothing before) faulty ≡ number
   pub isFault : number ≡ 0 → ⊥
 
 -- the pack that the lines before it write
@@ -54,12 +54,12 @@ pub record Unjustified (text : Bytes) (line rule claim : ℕ) (residue : List �
 
 -- What check may answer, and when. The area at exit is the one at entry but in the last case.
 pub data Outcome (text : Bytes) (area : List ℤ) : Checked → Type 0 where
-  accepted : Judged text area → AllFine nothing (linesOf text) → writeAll nothing (linesOf text) .ended ≡ true
+  accepted : Judged text area → AllFine whole nothing (linesOf text) → writeAll nothing (linesOf text) .ended ≡ true
       → Outcome text area (checked (numbers 0 (length (linesOf text)) (length (packOf text .rules)) (multiplierLines (packOf text .rules))) area)
   shortArea : length area < areaNeeded → Outcome text area (checked (numbers 1 0 0 0) area)
   longText : areaNeeded ≤ length area → textLimit < length text → Outcome text area (checked (numbers 2 0 0 0) area)
   unfinished : areaNeeded ≤ length area → length text ≤ textLimit → isFinished text ≡ false → Outcome text area (checked (numbers 3 0 0 0) area)
-  noEnd : Judged text area → AllFine nothing (linesOf text) → writeAll nothing (linesOf text) .ended ≡ false → Outcome text area (checked (numbers 6 0 0 0) area)
+  noEnd : Judged text area → AllFine whole nothing (linesOf text) → writeAll nothing (linesOf text) .ended ≡ false → Outcome text area (checked (numbers 6 0 0 0) area)
   faulty : {n line : ℕ} → Judged text area → FirstFault text n line → (n ≡ 13 → ⊥) → Outcome text area (checked (numbers n line 0 0) area)
   unjustified : {line rule claim : ℕ} {residue : List ℤ} → Judged text area → Unjustified text line rule claim residue
       → Outcome text area (checked (numbers 13 line rule claim) (residue ++ drop areaNeeded area))

@@ -12,11 +12,12 @@ use Rattle.theory.specs.Terms.{structural}
 use Rattle.theory.specs.Packs.{Atom}
 use Rattle.theory.specs.Written.{packOf}
 use Rattle.theory.specs.Residuals.{areaNeeded}
-use Rattle.theory.specs.Check.{verdictOf, checkOf}
+use Rattle.theory.specs.Faults.{whole, butForHeads}
+use Rattle.theory.specs.Check.{judgementOf, verdictOf, checkOf}
 use Rattle.theory.specs.Measure.{measureOf}
 use Rattle.theory.specs.Reserve.{queryOf, queryFault, fields, reserveOf, sizeAt, HasKnownSizes}
 use Rattle.theory.specs.Words.{checkWord, reserveWord, measureWord, CheckRoom, ReserveRoom, MeasureRoom, wordNumber, wordLetter, wordMiddle, numbersIn, fieldsIn, measuredIn}
-use Rattle.theory.specs.Limits.{Acceptable}
+use Rattle.theory.specs.Limits.{Acceptable, AcceptableButForHeads}
 use Rattle.theory.specs.Outcomes.{Outcome}
 use Rattle.theory.specs.SmallestBound.{BoundGiven, ImpossibleBy, NoneUsable}
 use Rattle.theory.specs.Answers.{refusalNumbers, numbersOf, reservedFields}
@@ -46,13 +47,21 @@ pub record Answerable (text query : Bytes) : Type 0 where
   pub accepted : verdictOf text .returned .number ≡ 0
   pub faultless : queryFault (packOf text) query ≡ 0
 
--- Check accepts what has 01's form and limits and no residual number below 0, and nothing else. Reserve gives a bound
--- exactly where it is the smallest that usable claims give, by the lowest of these that gives it; and so for the other answers.
+-- Check accepts what has 01's form and limits, no residual number below 0, and a rule for each ruled predicate with a claim,
+-- and nothing else. Reserve gives a bound exactly where it is the smallest that usable claims give, by the lowest of these
+-- that gives it; and so for the other answers.
 pub record DemandTwo (text : Bytes) : Type 0 where
   pub accepted : (area : List ℤ) → (checkOf text area .returned .number ≡ 0) ↔ Acceptable text area
   pub bound : (query : Bytes) (b n : ℕ) → (reserveOf text query ≡ fields (code "B") b n) ↔ (Answerable text query × BoundGiven (packOf text) (queryOf query) b n)
   pub impossible : (query : Bytes) (n : ℕ) → (reserveOf text query ≡ fields (code "I") 0 n) ↔ (Answerable text query × ImpossibleBy (packOf text) (queryOf query) n)
   pub noBound : (query : Bytes) → (reserveOf text query ≡ fields (code "N") 0 0) ↔ (Answerable text query × NoneUsable (packOf text) (queryOf query))
+
+-- Judged but for 24, a text is accepted exactly if it meets everything but the condition on heads; it is never refused
+-- with 24, and where check's verdict is not 24 either, both are the same.
+pub record ButForHeads (text : Bytes) : Type 0 where
+  pub accepted : (judgementOf (butForHeads whole) text .returned .number ≡ 0) ↔ AcceptableButForHeads text
+  pub never : judgementOf (butForHeads whole) text .returned .number ≡ 24 → ⊥
+  pub agrees : (verdictOf text .returned .number ≡ 24 → ⊥) → judgementOf (butForHeads whole) text ≡ verdictOf text
 
 -- ## Demand 3
 

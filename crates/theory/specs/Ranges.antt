@@ -13,7 +13,7 @@ use Rattle.theory.specs.Packs.{Claim, Atom, Rule, atomKey, claimsOn}
 use Rattle.theory.specs.declared.Letter.the-variants.{M}
 use Rattle.theory.specs.Written.{lineLetter, nothing, writeAll, multipliersFrom}
 use Rattle.theory.specs.Residuals.{claimForm, subgoalForms, combined, residual}
-use Rattle.theory.specs.Faults.{fault, lastRule, claimDue}
+use Rattle.theory.specs.Faults.{whole, fault, lastRule, claimDue}
 use Rattle.theory.specs.Outcomes.{AllFine}
 
 pub record InRange (f : Form) : Type 0 where
@@ -35,6 +35,6 @@ pub record FormsInRange (claims : List Claim) (r : Rule) (c : Claim) (ms : List 
 
 -- Of every line of multipliers that is judged, in texts that are accepted or refused at 13 or later.
 pub record FormsFit (text : Bytes) : Type 0 where
-  pub inRange : (before : List Bytes) (l : Bytes) (after : List Bytes) → linesOf text ≡ before ++ l ∷ after → AllFine nothing before → lineLetter l ≡ M
-      → (fault (writeAll nothing before) l ≡ 0) ⊎ (fault (writeAll nothing before) l ≡ 13)
+  pub inRange : (before : List Bytes) (l : Bytes) (after : List Bytes) → linesOf text ≡ before ++ l ∷ after → AllFine whole nothing before → lineLetter l ≡ M
+      → (fault whole (writeAll nothing before) l ≡ 0) ⊎ (fault whole (writeAll nothing before) l ≡ 13)
       → FormsInRange (writeAll nothing before .pack .claims) (lastRule (writeAll nothing before .pack)) (claimDue (writeAll nothing before .pack)) (multipliersFrom (fieldsOf l))

@@ -54,6 +54,8 @@ pub enum Refusal {
     NotGround(u16),
     /// 22: a `G` line's sizes fail a claim.
     UnmetClaim(u16),
+    /// 24: on the `E` line, a ruled predicate has a claim and heads no rule.
+    Headless(u16),
 }
 
 /// What check answers.

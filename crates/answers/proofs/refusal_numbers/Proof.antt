@@ -53,6 +53,9 @@ returns-15 c = c .of-line10 .ensures ∙ ap refusalNumbers (sym (c .before .befo
 returns-16 : tie.Need-returns-16
 returns-16 c = c .of-line11 .ensures ∙ ap refusalNumbers (sym (c .before .before .refusal12 .given .1))
 
+returns-17 : tie.Need-returns-17
+returns-17 c = c .of-line12 .ensures ∙ ap refusalNumbers (sym (c .before .before .refusal13 .given .1))
+
 pub refusal-numbers-spec : {M : Type 1} → statement M
 refusal-numbers-spec =
     tie.close (tie.spec (λ c. search needs) (λ c κs. search needs) (λ c. search needs) (λ c κs. search needs)
@@ -61,5 +64,6 @@ refusal-numbers-spec =
     (λ c. search needs) (λ c κs. search needs) (λ c. search needs) (λ c κs. search needs) (λ c. search needs)
     (λ c κs. search needs) (λ c. search needs) (λ c κs. search needs) (λ c. search needs) (λ c κs. search needs)
     (λ c. search needs) (λ c κs. search needs) (λ c. search needs) (λ c κs. search needs) (λ c. search needs) (λ c κs. search needs)
-    (λ c. search needs) (λ c κs. search needs) returns returns-2 returns-3 returns-4 returns-5 returns-6 returns-7
-    returns-8 returns-9 returns-10 returns-11 returns-12 returns-13 returns-14 returns-15 returns-16)
+    (λ c. search needs) (λ c κs. search needs) (λ c. search needs) (λ c κs. search needs) returns returns-2 returns-3 returns-4 returns-5 returns-6 returns-7
+    returns-8 returns-9 returns-10 returns-11 returns-12 returns-13 returns-14 returns-15 returns-16
+    returns-17)

@@ -1,7 +1,7 @@
 -- `packs::is_unjustified` meets its contract. Assumes nothing.
 use mathlib.Core.Path.{refl}
 use borrow.Author.Needs.{needs}
-use Rattle.tables.specs.declared.Fault.the-variants.{UnfitLine, Letter, Name, Declaration, FieldCount, Number, NoTerm, CountLimit, Unjustified, RuledFact, NotGround, UnmetClaim}
+use Rattle.tables.specs.declared.Fault.the-variants.{UnfitLine, Letter, Name, Declaration, FieldCount, Number, NoTerm, CountLimit, Unjustified, RuledFact, NotGround, UnmetClaim, Headless}
 use Rattle.packs.proofs.LoadAnswers.{fault-flag}
 use Rattle.packs.proofs.is_unjustified.Statement.{statement}
 use Rattle.packs.proofs.is_unjustified.Tie as tie
@@ -42,8 +42,11 @@ returns-11 c = fault-flag NotGround (c .before .before .args .fault) (search nee
 returns-12 : tie.Need-returns-12
 returns-12 c = fault-flag UnmetClaim (c .before .before .args .fault) (search needs) refl
 
+returns-13 : tie.Need-returns-13
+returns-13 c = fault-flag Headless (c .before .before .args .fault) (search needs) refl
+
 pub is-unjustified-spec : {M : Type 1} → statement M
 is-unjustified-spec =
-    tie.close (tie.spec (λ c. search needs) (λ c. search needs) (λ c. search needs) (λ c. search needs)
+    tie.close (tie.spec (λ c. search needs) (λ c. search needs) (λ c. search needs) (λ c. search needs) (λ c. search needs)
     (λ c. search needs) (λ c. search needs) (λ c. search needs) (λ c. search needs) (λ c. search needs) (λ c. search needs) (λ c. search needs) (λ c. search needs) returns
-    returns-2 returns-3 returns-4 returns-5 returns-6 returns-7 returns-8 returns-9 returns-10 returns-11 returns-12)
+    returns-2 returns-3 returns-4 returns-5 returns-6 returns-7 returns-8 returns-9 returns-10 returns-11 returns-12 returns-13)

@@ -1,7 +1,7 @@
 -- `packs::refusal` meets its contract. Assumes nothing.
 use mathlib.Core.Path.{refl}
 use borrow.Author.Needs.{needs}
-use Rattle.tables.specs.declared.Fault.the-variants.{UnfitLine, Letter, Name, Declaration, FieldCount, Number, NoTerm, CountLimit, Unjustified, RuledFact, NotGround, UnmetClaim}
+use Rattle.tables.specs.declared.Fault.the-variants.{UnfitLine, Letter, Name, Declaration, FieldCount, Number, NoTerm, CountLimit, Unjustified, RuledFact, NotGround, UnmetClaim, Headless}
 use Rattle.packs.proofs.LoadAnswers.{fault-numbers}
 use Rattle.packs.proofs.refusal.Statement.{statement}
 use Rattle.packs.proofs.refusal.Tie as tie
@@ -42,8 +42,11 @@ returns-11 c = let start = c .before .before .args in fault-numbers NotGround (s
 returns-12 : tie.Need-returns-12
 returns-12 c = let start = c .before .before .args in fault-numbers UnmetClaim (start .fault) (start .line) (start .rule) (start .claim) (search needs) refl
 
+returns-13 : tie.Need-returns-13
+returns-13 c = let start = c .before .before .args in fault-numbers Headless (start .fault) (start .line) (start .rule) (start .claim) (search needs) refl
+
 pub refusal-spec : {M : Type 1} → statement M
 refusal-spec =
-    tie.close (tie.spec (λ c. search needs) (λ c. search needs) (λ c. search needs) (λ c. search needs)
+    tie.close (tie.spec (λ c. search needs) (λ c. search needs) (λ c. search needs) (λ c. search needs) (λ c. search needs)
     (λ c. search needs) (λ c. search needs) (λ c. search needs) (λ c. search needs) (λ c. search needs) (λ c. search needs) (λ c. search needs) (λ c. search needs) returns
-    returns-2 returns-3 returns-4 returns-5 returns-6 returns-7 returns-8 returns-9 returns-10 returns-11 returns-12)
+    returns-2 returns-3 returns-4 returns-5 returns-6 returns-7 returns-8 returns-9 returns-10 returns-11 returns-12 returns-13)

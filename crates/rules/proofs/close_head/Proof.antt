@@ -12,4 +12,4 @@ returns-2 c = search (needs, head-done)
 
 pub close-head-spec : {M : Type 1} → statement M
 close-head-spec =
-    tie.close (tie.spec (λ c κs. search needs) returns (λ c. search needs) returns-2)
+    tie.close (tie.spec (λ c κs. search needs) returns (λ c. search needs) (λ c κs. search needs) returns-2)

@@ -1,6 +1,6 @@
 -- `tables::with_predicate` meets its contract. Assumes nothing.
 use borrow.Author.Needs.{needs}
-use Rattle.tables.proofs.Shipping.{one-more}
+use Rattle.tables.proofs.PredicateSets.{one-more}
 use Rattle.tables.proofs.with_predicate.Statement.{statement}
 use Rattle.tables.proofs.with_predicate.Tie as tie
 

@@ -16,7 +16,7 @@ use Rattle.theory.specs.declared.Letter.{Letter}
 use Rattle.theory.specs.declared.Letter.the-variants.{G, H, B}
 use Rattle.theory.specs.Written.{field, atomFrom, add, onLast}
 use Rattle.theory.specs.Residuals.{ruleVariables}
-use Rattle.theory.specs.Faults.{Test, test, isTerm, arityIn, isGiven, givenIn, ruledIn, lastRule, isComplete, manyVariables, mayStand, atomTests, factTests, headTests, subgoalTests, tests}
+use Rattle.theory.specs.Faults.{Manner, Test, test, isTerm, arityIn, isGiven, givenIn, ruledIn, lastRule, isComplete, manyVariables, mayStand, atomTests, factTests, headTests, subgoalTests, tests}
 use Rattle.theory.specs.Facts.{isMet, meetsEvery}
 use Rattle.theory.specs.Limits.{AtomFits, FactFits}
 use Rattle.groundwork.proofs.Truth.{not-true, not-false, never-both, and-left, and-right, and-both, or-not-left, or-not-right, or-neither, eqb-equal, equal-eqb, leb-gt, gt-leb, ltb-ge, ge-ltb}
@@ -102,7 +102,7 @@ each-met : (claims : List Claim) (f : Atom) → MeetsEach claims f → meetsEver
 unfolding isMet
 each-met claims f meets = members-every (isMet structural f) _ (λ c m. test-nonneg _ (meets c m .holds))
 
-pub fact-step : (p : Pack) (fields : List Bytes) → Faultless G p fields → Step p fields (add G fields p)
+pub fact-step : {m : Manner} (p : Pack) (fields : List Bytes) → Faultless m G p fields → Step p fields (add G fields p)
 unfolding add tests factTests mayStand letterField factLine
 fact-step p fields h =
     let a = atomFrom fields in
@@ -115,7 +115,7 @@ fact-step p fields h =
     subst (λ (fs : List Bytes). Step p fs (onFacts (ending a) p)) (read .again)
     (factStep a (is-empty (fromRules p) (h .stands)) (record { atom = fits; isGiven = isGiven; ground = ground }) meets)
 
-pub head-step : (p : Pack) (fields : List Bytes) → Faultless H p fields → Step p fields (add H fields p)
+pub head-step : {m : Manner} (p : Pack) (fields : List Bytes) → Faultless m H p fields → Step p fields (add H fields p)
 unfolding add tests headTests mayStand letterField headLine
 head-step p fields h =
     let a = atomFrom fields in
@@ -128,7 +128,7 @@ head-step p fields h =
     let few = ltb-ge variableLimit (length (ruleVariables a [])) (or-not-right full (manyVariables a []) (read .ended .0)) in
     subst (λ (fs : List Bytes). Step p fs (onRules (ending (headAlone a)) p)) (read .again) (headStep a (h .stands) fits isRuled room few)
 
-pub subgoal-step : (p : Pack) (fields : List Bytes) → Faultless B p fields → Step p fields (add B fields p)
+pub subgoal-step : {m : Manner} (p : Pack) (fields : List Bytes) → Faultless m B p fields → Step p fields (add B fields p)
 unfolding add tests subgoalTests mayStand letterField subgoalLine
 subgoal-step p fields h =
     let a = atomFrom fields in
@@ -176,7 +176,7 @@ module _ (letter : Letter) (p : Pack) (a : Atom) (fits : AtomFits (p .predicates
       then ap not (written-are-terms (a .terms) (fits .formed))
       then ended))
 
-pub fact-readable : (p : Pack) (f : Atom) → fromRules p ≡ [] → FactFits (p .predicates) f → MeetsEach (p .claims) f → Readable G p (factLine f) (onFacts (ending f) p)
+pub fact-readable : {m : Manner} (p : Pack) (f : Atom) → fromRules p ≡ [] → FactFits (p .predicates) f → MeetsEach (p .claims) f → Readable m G p (factLine f) (onFacts (ending f) p)
 unfolding tests factTests mayStand factLine letterField isGiven
 fact-readable p f later fits meets =
     let atom = fits .atom in
@@ -192,8 +192,8 @@ fact-readable p f later fits meets =
       adds = fact-adds f (atom .formed) p (atom .named);
     }
 
-pub head-readable : (p : Pack) (a : Atom) → isComplete p ≡ true → (fits : AtomFits (p .predicates) a) → fits .predicate .kind ≡ ruled
-    → length (p .rules) < ruleLimit → length (ruleVariables a []) ≤ variableLimit → Readable H p (headLine a) (onRules (ending (headAlone a)) p)
+pub head-readable : {m : Manner} (p : Pack) (a : Atom) → isComplete p ≡ true → (fits : AtomFits (p .predicates) a) → fits .predicate .kind ≡ ruled
+    → length (p .rules) < ruleLimit → length (ruleVariables a []) ≤ variableLimit → Readable m H p (headLine a) (onRules (ending (headAlone a)) p)
 unfolding tests headTests mayStand headLine letterField isGiven
 head-readable p a complete fits isRuled room few =
     record {
@@ -205,9 +205,9 @@ head-readable p a complete fits isRuled room few =
       adds = head-adds a (fits .formed) p (fits .named);
     }
 
-pub subgoal-readable : (p : Pack) (a : Atom) → (p .rules ≡ [] → ⊥) → lastRule p .multipliers ≡ [] → AtomFits (p .predicates) a
+pub subgoal-readable : {m : Manner} (p : Pack) (a : Atom) → (p .rules ≡ [] → ⊥) → lastRule p .multipliers ≡ [] → AtomFits (p .predicates) a
     → length (lastRule p .subgoals) < subgoalLimit → length (ruleVariables (lastRule p .head) (lastRule p .subgoals ++ (a ∷ []))) ≤ variableLimit
-    → Readable B p (subgoalLine a) (onRules (onLast (onSubgoals (ending a))) p)
+    → Readable m B p (subgoalLine a) (onRules (onLast (onSubgoals (ending a))) p)
 unfolding tests subgoalTests mayStand subgoalLine letterField
 subgoal-readable p a ruleful unmultiplied fits room few =
     let r = lastRule p in

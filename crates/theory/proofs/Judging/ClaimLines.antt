@@ -13,7 +13,7 @@ use Rattle.theory.specs.Text.{Bytes, bytes, isName, integer, signedDecim
 use Rattle.theory.specs.Packs.{Claim, Pack, claimLimit, numberLimit, claimKey, declaredAs, claimsOn, claimLine, onClaims, fromFacts}
 use Rattle.theory.specs.declared.Letter.the-variants.{C}
 use Rattle.theory.specs.Written.{field, claimFrom, integerFrom, add}
-use Rattle.theory.specs.Faults.{isClaimNumber, arityIn, mayStand, claimTests, tests}
+use Rattle.theory.specs.Faults.{Manner, isClaimNumber, arityIn, mayStand, claimTests, tests}
 use Rattle.theory.specs.Limits.{ClaimFits}
 use Rattle.groundwork.proofs.Lists.{all-cons}
 use Rattle.groundwork.proofs.Truth.{not-false, eqb-equal, equal-eqb, leb-gt, gt-leb}
@@ -54,7 +54,7 @@ claim-line-again fields long letter numbers =
     let rest = numbers .again in
     cc
 
-pub claim-step : (p : Pack) (fields : List Bytes) → Faultless C p fields → Step p fields (add C fields p)
+pub claim-step : {m : Manner} (p : Pack) (fields : List Bytes) → Faultless m C p fields → Step p fields (add C fields p)
 unfolding add tests claimTests mayStand claimFrom letterField
 claim-step p fields h =
     let d = claimFrom fields in
@@ -102,7 +102,7 @@ module _ (p : Pack) (c : Claim) (fits : ClaimFits (p .predicates) c) where
       then gt-leb claimLimit _ room
       then tt)
 
-  pub claim-readable : fromFacts p ≡ [] → length (claimsOn (claimKey c) (p .claims)) < claimLimit → Readable C p (claimLine c) (onClaims (ending c) p)
+  pub claim-readable : {m : Manner} → fromFacts p ≡ [] → length (claimsOn (claimKey c) (p .claims)) < claimLimit → Readable m C p (claimLine c) (onClaims (ending c) p)
   unfolding tests mayStand claimLine letterField
   claim-readable later room =
       record {

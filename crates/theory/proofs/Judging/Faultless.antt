@@ -7,16 +7,16 @@ use Rattle.theory.specs.Text.{Bytes}
 use Rattle.theory.specs.Packs.{Pack}
 use Rattle.theory.specs.declared.Letter.{Letter}
 use Rattle.theory.specs.Written.{field, add}
-use Rattle.theory.specs.Faults.{mayStand, tests}
+use Rattle.theory.specs.Faults.{mayStand, Manner, tests}
 use Rattle.theory.proofs.Reading.Letters.{letterField}
 use Rattle.theory.proofs.Reading.PlainFields.{Plain}
 use Rattle.theory.proofs.Judging.Tests.{Clear}
 
--- after lines that write p, fields with this letter have no fault
-pub record Faultless (letter : Letter) (p : Pack) (fields : List Bytes) : Type 0 where
+-- after lines that write p, fields with this letter have no fault, where it may stand
+pub record Faultless (m : Manner) (letter : Letter) (p : Pack) (fields : List Bytes) : Type 0 where
   pub first : field 0 fields ≡ letterField letter
   pub stands : mayStand p letter ≡ true
-  pub clear : Clear (tests letter fields p)
+  pub clear : Clear (tests m letter fields p)
 
 -- the line of fields with this letter has these fields again, and makes q of p, with a fault or without
 pub record Adds (letter : Letter) (p : Pack) (fields : List Bytes) (q : Pack) : Type 0 where
@@ -25,6 +25,6 @@ pub record Adds (letter : Letter) (p : Pack) (fields : List Bytes) (q : Pack) : 
   pub plain : Plain fields
 
 -- both
-pub record Readable (letter : Letter) (p : Pack) (fields : List Bytes) (q : Pack) : Type 0 where
-  pub faultless : Faultless letter p fields
+pub record Readable (m : Manner) (letter : Letter) (p : Pack) (fields : List Bytes) (q : Pack) : Type 0 where
+  pub faultless : Faultless m letter p fields
   pub adds : Adds letter p fields q

@@ -1,7 +1,7 @@
 -- The fault of an `H`, `B` or `M` line depends only on what it looks up and on its own rule's lines, not on other rules
 -- (but for the count of rules); and so does what it leaves.
 use mathlib.Core.Path.{_≡_, refl, ap}
-use mathlib.Core.Bool.{not}
+use mathlib.Core.Bool.{Bool, not}
 use mathlib.Core.List.{List, [], _∷_, flatMap, List·Memᴰ·head, List·Memᴰ·tail}
 use Prim.Native.Nat.{ℕ}
 use lib.Dec.{leb}
@@ -14,8 +14,8 @@ use Rattle.theory.specs.declared.Letter.{Letter}
 use Rattle.theory.specs.declared.Letter.the-variants.{H, B, M}
 use Rattle.theory.specs.Written.{lineLetter, atomFrom, multipliersFrom}
 use Rattle.theory.specs.Residuals.{subgoalForms, residual}
-use Rattle.theory.specs.Faults.{lastRule, headClaims, isComplete, mayStand, residualDue, atomTests, headTests, subgoalTests, multiplierTests, tests, fault}
-use Rattle.theory.proofs.Judging.LineReading.{before}
+use Rattle.theory.specs.Faults.{lastRule, headClaims, isComplete, mayStand, Manner, residualDue, atomTests, headTests, subgoalTests, multiplierTests, tests, fault}
+use Rattle.theory.proofs.Judging.LineReading.{asWhole, before}
 
 -- the letters of a rule's lines
 pub data OfRule : Letter → Type 0 where
@@ -60,12 +60,12 @@ module _ (fields : List Bytes) (p q : Pack) (alike : Alike fields p q) where
   unfolding residualDue residual
   residual-alike ms = rw (head-alike, alike .rule, forms-alike structural (p .claims) (q .claims) (lastRule q .subgoals) (λ a m. alike .claims a (List·Memᴰ·tail m)))
 
-  tests-alike : (x : Letter) → OfRule x → tests x fields p ≡ tests x fields q
+  tests-alike : (m : Manner) (x : Letter) → OfRule x → tests m x fields p ≡ tests m x fields q
   unfolding tests headTests subgoalTests multiplierTests atomTests
-  tests-alike x head = rw (alike .found, alike .full)
-  tests-alike x subgoal = rw (alike .found, alike .rule)
-  tests-alike x multipliers = rw (residual-alike (multipliersFrom fields), alike .rule, claims-alike (p .claims) (q .claims) (lastRule q .subgoals) (λ a m. alike .claims a (List·Memᴰ·tail m)))
+  tests-alike m x head = rw (alike .found, alike .full)
+  tests-alike m x subgoal = rw (alike .found, alike .rule)
+  tests-alike m x multipliers = rw (residual-alike (multipliersFrom fields), alike .rule, claims-alike (p .claims) (q .claims) (lastRule q .subgoals) (λ a m. alike .claims a (List·Memᴰ·tail m)))
 
-pub fault-alike : (p q : Pack) (l : Bytes) → OfRule (lineLetter l) → Alike (fieldsOf l) p q → fault (before p) l ≡ fault (before q) l
+pub fault-alike : (refuses : Bool) (p q : Pack) (l : Bytes) → OfRule (lineLetter l) → Alike (fieldsOf l) p q → fault (asWhole refuses) (before p) l ≡ fault (asWhole refuses) (before q) l
 unfolding fault
-fault-alike p q l r alike = rw (place-alike (fieldsOf l) p q alike (lineLetter l) r, tests-alike (fieldsOf l) p q alike (lineLetter l) r)
+fault-alike refuses p q l r alike = rw (place-alike (fieldsOf l) p q alike (lineLetter l) r, tests-alike (fieldsOf l) p q alike (asWhole refuses) (lineLetter l) r)

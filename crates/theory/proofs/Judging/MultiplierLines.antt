@@ -14,7 +14,7 @@ use Rattle.theory.specs.Packs.{Pack, variableLimit, numberLimit, claimsO
 use Rattle.theory.specs.declared.Letter.the-variants.{M}
 use Rattle.theory.specs.Written.{field, multipliersFrom, multiplierFrom, add, onLast}
 use Rattle.theory.specs.Residuals.{ruleVariables}
-use Rattle.theory.specs.Faults.{isMultiplier, lastRule, isComplete, residualDue, mayStand, multiplierTests, tests}
+use Rattle.theory.specs.Faults.{Manner, isMultiplier, lastRule, isComplete, residualDue, mayStand, multiplierTests, tests}
 use Rattle.theory.specs.Limits.{MultipliersFit, JustifiedBy}
 use Rattle.groundwork.proofs.Truth.{not-true, not-false, eqb-equal, equal-eqb}
 use Rattle.theory.proofs.Reading.FieldValues.{values-written, values-within, written-read, written-values}
@@ -47,8 +47,8 @@ multipliers-fit p fields counted valid =
     }
 
 -- (the residual is written in 17 numbers, so the variables must not be more than 16)
-pub multiplier-step : (p : Pack) (fields : List Bytes) → length (ruleVariables (lastRule p .head) (lastRule p .subgoals)) ≤ variableLimit
-    → Faultless M p fields → Step p fields (add M fields p)
+pub multiplier-step : {m : Manner} (p : Pack) (fields : List Bytes) → length (ruleVariables (lastRule p .head) (lastRule p .subgoals)) ≤ variableLimit
+    → Faultless m M p fields → Step p fields (add M fields p)
 unfolding add tests multiplierTests mayStand letterField residualDue
 multiplier-step p fields few h =
     let ms = multipliersFrom fields in
@@ -88,9 +88,9 @@ module _ (p : Pack) (ms : List ℕ) (fits : MultipliersFit (p .claims) (lastRule
       then ap not (nonnegative-justified _ _ left)
       then tt)
 
-  pub multiplier-readable : isComplete p ≡ false
+  pub multiplier-readable : {m : Manner} → isComplete p ≡ false
       → JustifiedBy (opening p) (lastRule p) (length (lastRule p .multipliers)) ms
-      → Readable M p (multiplierLine ms) (onRules (onLast (onMultipliers (ending ms))) p)
+      → Readable m M p (multiplierLine ms) (onRules (onLast (onMultipliers (ending ms))) p)
   unfolding tests mayStand multiplierLine letterField
   multiplier-readable due left =
       record {

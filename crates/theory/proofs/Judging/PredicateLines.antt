@@ -12,7 +12,7 @@ use Rattle.theory.specs.Text.{Bytes, bytes, natural, decimal}
 use Rattle.theory.specs.Packs.{Kind, given, ruled, Predicate, Pack, predicateLimit, keyOf, declaredAs, kindLetter, predicateLine, onPredicates, fromClaims}
 use Rattle.theory.specs.declared.Letter.the-variants.{P}
 use Rattle.theory.specs.Written.{field, predicateFrom, add}
-use Rattle.theory.specs.Faults.{isKind, mayStand, predicateTests, tests}
+use Rattle.theory.specs.Faults.{Manner, isKind, mayStand, predicateTests, tests}
 use Rattle.theory.specs.Limits.{PredicateFits}
 use Rattle.groundwork.proofs.Truth.{not-false, and-left, and-right, and-both, eqb-equal, leb-gt, gt-leb}
 use Rattle.theory.proofs.Reading.Bytes.{isFieldByte}
@@ -36,7 +36,7 @@ predicate-line-again fields four letter digits kind =
     let last = drop-of-length-le fields {i = 4} (omega arith) in
     cc
 
-pub predicate-step : (p : Pack) (fields : List Bytes) → Faultless P p fields → Step p fields (add P fields p)
+pub predicate-step : {m : Manner} (p : Pack) (fields : List Bytes) → Faultless m P p fields → Step p fields (add P fields p)
 unfolding add tests predicateTests mayStand predicateFrom letterField
 predicate-step p fields h =
     let x = predicateFrom fields in
@@ -81,8 +81,8 @@ predicate-clear p x fits new room =
     then gt-leb predicateLimit (length (p .predicates)) room
     then tt
 
-pub predicate-readable : (p : Pack) (x : Predicate) → fromClaims p ≡ [] → PredicateFits x → declaredAs (keyOf x) (p .predicates) ≡ none
-    → length (p .predicates) < predicateLimit → Readable P p (predicateLine x) (onPredicates (ending x) p)
+pub predicate-readable : {m : Manner} (p : Pack) (x : Predicate) → fromClaims p ≡ [] → PredicateFits x → declaredAs (keyOf x) (p .predicates) ≡ none
+    → length (p .predicates) < predicateLimit → Readable m P p (predicateLine x) (onPredicates (ending x) p)
 unfolding tests mayStand predicateLine letterField
 predicate-readable p x later fits new room =
     record {

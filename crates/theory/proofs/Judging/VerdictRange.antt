@@ -1,6 +1,6 @@
 -- How large the numbers of check's answers are: each has its room in the C word.
 use mathlib.Core.Path.{_≡_, refl, sym, ap}
-use mathlib.Core.Bool.{Bool, cond}
+use mathlib.Core.Bool.{Bool, true, cond}
 use mathlib.Core.List.{List, [], _∷_, List·Memᴰ·head, List·Memᴰ·tail}
 use Prim.Native.Nat.{ℕ, suc, _*_, _≤_}
 use native.Mathlib.Omega.{arith}
@@ -14,9 +14,9 @@ use Rattle.theory.specs.Packs.{Rule, claimLimit, atomKey}
 use Rattle.theory.specs.Written.{nothing, writeAll, packOf}
 use Rattle.theory.specs.Check.{multiplierLines, Checked, checkOf}
 use Rattle.theory.specs.Words.{CheckRoom}
-use Rattle.theory.specs.Faults.{lastRule}
+use Rattle.theory.specs.Faults.{whole, lastRule}
 use Rattle.theory.specs.Outcomes.{FirstFault, packBefore, Outcome, accepted, shortArea, longText, unfinished, noEnd, faulty, unjustified}
-use Rattle.theory.proofs.Judging.Acceptance.{AcceptedPack, accepted-written, check-accepts}
+use Rattle.theory.proofs.Judging.Acceptance.{AcceptedPack, checked-pack}
 use Rattle.theory.proofs.Judging.FaultNumbers.{fault-small, past-place}
 use Rattle.theory.proofs.Judging.FineRuns.{reached-short}
 
@@ -54,23 +54,20 @@ accepted-few text a =
 -- ---- each outcome
 
 module _ (text : Bytes) (area : List ℤ) where
-  from-check : checkOf text area .returned .number ≡ 0 → AcceptedPack text
-  from-check e = let a = check-accepts text area e in accepted-written text (a .pack) (a .isWritten) (a .fits) (a .justified)
-
   pub outcome-room : {c : Checked} → Outcome text area c → c ≡ checkOf text area → CheckRoom (c .returned)
   outcome-room (accepted j fine ends) is =
-      let few = accepted-few text (from-check (ap (λ (c : Checked). c .returned .number) (sym is))) in
+      let few = accepted-few text (checked-pack text area (ap (λ (c : Checked). c .returned .number) (sym is))) in
       record { number = omega arith; line = omega (arith, j .short, lines-count text); rule = omega (arith, few .0); claim = omega (arith, few .1) }
   outcome-room (shortArea h) is = record { number = omega arith; line = omega arith; rule = omega arith; claim = omega arith }
   outcome-room (longText h k) is = record { number = omega arith; line = omega arith; rule = omega arith; claim = omega arith }
   outcome-room (unfinished h k e) is = record { number = omega arith; line = omega arith; rule = omega arith; claim = omega arith }
   outcome-room (noEnd j fine e) is = record { number = omega arith; line = omega arith; rule = omega arith; claim = omega arith }
   outcome-room (faulty j first other) is =
-      record { number = omega (arith, first .has, fault-small (writeAll nothing (first .before)) (first .faulty)); line = omega (arith, j .short, fault-line first); rule = omega arith; claim = omega arith }
+      record { number = omega (arith, first .has, fault-small whole (writeAll nothing (first .before)) (first .faulty)); line = omega (arith, j .short, fault-line first); rule = omega arith; claim = omega arith }
   outcome-room (unjustified j u) is =
       let first = u .first in
-      let place = past-place _ (first .faulty) 13 (first .has) (λ h. omega arith) (λ h. omega arith) in
-      let so = reached-short (first .before) (first .fine) (place .unended) .reached in
+      let place = past-place whole _ (first .faulty) 13 (first .has) (λ h. omega arith) (λ h. omega arith) in
+      let so = reached-short true (first .before) (first .fine) (place .unended) .reached in
       record {
         number = omega arith;
         line = omega (arith, j .short, fault-line first);

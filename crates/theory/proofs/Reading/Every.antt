@@ -1,12 +1,12 @@
--- A test of every member of a list: what it says of each member, and of parts of the list.
-use mathlib.Core.Path.{_≡_, refl, _∙_, ap}
-use mathlib.Core.Bool.{Bool, true}
+-- A test of every member of a list, and of some member: what it says of each member, and of parts of the list.
+use mathlib.Core.Path.{_≡_, refl, sym, _∙_, ap}
+use mathlib.Core.Bool.{Bool, true, false, _||_, or-false, or-assoc}
 use mathlib.Core.List.{List, [], _∷_, _++_, List·Memᴰ·head, List·Memᴰ·tail}
 use Prim.Native.Nat.{ℕ, zero, suc, _≤_}
 use native.Mathlib.Omega.{arith}
 use lib.ListN.{length, take, replicate}
-use Rattle.theory.specs.Lists.{every, _∈_}
-use Rattle.groundwork.proofs.Truth.{and-left, and-right, and-both}
+use Rattle.theory.specs.Lists.{every, any, _∈_}
+use Rattle.groundwork.proofs.Truth.{by-truth, never-both, and-left, and-right, and-both, or-left, or-right, or-not-left, or-not-right, or-neither}
 
 module _ {A : Type 0} (test : A → Bool) where
   pub every-first : (a : A) (l : List A) → every test (a ∷ l) ≡ true → test a ≡ true
@@ -61,3 +61,35 @@ module _ {A : Type 0} (test : A → Bool) where
   unfolding every
   every-replicate zero a h = refl
   every-replicate (suc n) a h = every-cons a (replicate n a) h (every-replicate n a h)
+
+  -- ---- of some member
+
+  pub none-member : {a : A} {l : List A} → any test l ≡ false → a ∈ l → test a ≡ false
+  unfolding any
+  none-member h (List·Memᴰ·head {x = x} {xs = l} e) = ap test e ∙ or-not-left (test x) (any test l) h
+  none-member h (List·Memᴰ·tail {x = x} {xs = l} m) = none-member (or-not-right (test x) (any test l) h) m
+
+  pub members-none : (l : List A) → ((a : A) → a ∈ l → test a ≡ false) → any test l ≡ false
+  unfolding any
+  members-none [] h = refl
+  members-none (a ∷ l) h = or-neither (test a) (any test l) (h a (List·Memᴰ·head refl)) (members-none l λ b m. h b (List·Memᴰ·tail m))
+
+  pub any-found : (l : List A) → any test l ≡ true → (a : A) × (a ∈ l) × (test a ≡ true)
+  unfolding any
+  any-found [] h = never-both h refl
+  any-found (a ∷ l) h =
+      by-truth (λ (b : Bool). (b || any test l) ≡ true → (c : A) × (c ∈ (a ∷ l)) × (test c ≡ true)) (test a)
+      (λ here h. (a, List·Memᴰ·head refl, here))
+      (λ other h. let (c, m, here) = any-found l h in (c, List·Memᴰ·tail m, here))
+      h
+
+  pub any-member : {a : A} {l : List A} → test a ≡ true → a ∈ l → any test l ≡ true
+  unfolding any
+  any-member h (List·Memᴰ·head {x = x} {xs = l} e) = or-left (test x) (any test l) (ap test (sym e) ∙ h)
+  any-member h (List·Memᴰ·tail {x = x} {xs = l} m) = or-right (test x) (any test l) (any-member h m)
+
+  -- one member more, at the end
+  pub any-end : (l : List A) (a : A) → any test (l ++ (a ∷ [])) ≡ (any test l || test a)
+  unfolding any
+  any-end [] a = or-false (test a)
+  any-end (b ∷ l) a = ap (λ (c : Bool). test b || c) (any-end l a) ∙ sym (or-assoc (test b) (any test l) (test a))

@@ -5,9 +5,9 @@ use Rattle.theory.specs.Answers.{refusalNumbers, queryNumber}
 use Rattle.theory.specs.declared.QueryRefusal.{QueryRefusal}
 use Rattle.theory.specs.declared.QueryRefusal.the-variants.{UnfitQuery, QueryName, QueryFieldCount, AskedArgument, SizeField, AskedIsKnown}
 use Rattle.theory.specs.declared.Refusal.{Refusal}
-use Rattle.theory.specs.declared.Refusal.the-variants.{ShortArea, LongText, UnfinishedText, UnfitLine, Letter, NoEnd, Name, Declaration, FieldCount, Number, NoTerm, CountLimit, Unjustified, RuledFact, NotGround, UnmetClaim}
+use Rattle.theory.specs.declared.Refusal.the-variants.{ShortArea, LongText, UnfinishedText, UnfitLine, Letter, NoEnd, Name, Declaration, FieldCount, Number, NoTerm, CountLimit, Unjustified, RuledFact, NotGround, UnmetClaim, Headless}
 
-pub refusal-number : (r : Refusal) → (0 < refusalNumbers r .number) × (refusalNumbers r .number ≤ 22)
+pub refusal-number : (r : Refusal) → (0 < refusalNumbers r .number) × (refusalNumbers r .number < 100)
 refusal-number ShortArea = omega arith
 refusal-number LongText = omega arith
 refusal-number UnfinishedText = omega arith
@@ -24,6 +24,7 @@ refusal-number (Unjustified l r c) = omega arith
 refusal-number (RuledFact l) = omega arith
 refusal-number (NotGround l) = omega arith
 refusal-number (UnmetClaim l) = omega arith
+refusal-number (Headless l) = omega arith
 
 pub query-number : (r : QueryRefusal) → (0 < queryNumber r) × (queryNumber r ≤ 18)
 query-number UnfitQuery = omega arith

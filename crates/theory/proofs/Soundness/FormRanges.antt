@@ -1,7 +1,7 @@
 -- All forms of a line of multipliers that is judged, justified or not, have room in 64 bits.
 use mathlib.Core.Path.{_≡_, refl, sym, subst, _∙_}
 use mathlib.Core.Logic.{_⊎_, ⊎-elim}
-use mathlib.Core.Bool.{false}
+use mathlib.Core.Bool.{true, false}
 use mathlib.Core.List.{List, map, List·Memᴰ·head, List·Memᴰ·tail, Memᴰ·append-left, Memᴰ·append-right, Memᴰ·map}
 use Prim.Native.Nat.{ℕ, _+_, _*_, _≤_}
 use native.Mathlib.Omega.{arith}
@@ -18,7 +18,7 @@ use Rattle.theory.specs.Packs.{Claim, Atom, Rule, Pack, lineLimit, claim
 use Rattle.theory.specs.declared.Letter.the-variants.{M}
 use Rattle.theory.specs.Written.{lineLetter, Written, nothing, writeAll, multipliersFrom}
 use Rattle.theory.specs.Residuals.{claimForm, subgoalForms}
-use Rattle.theory.specs.Faults.{fault, noRule, lastRule, headClaims, claimDue, mayStand, multiplierTests, tests, isComplete}
+use Rattle.theory.specs.Faults.{whole, fault, noRule, lastRule, headClaims, claimDue, mayStand, multiplierTests, tests, isComplete}
 use Rattle.theory.specs.Limits.{MultipliersFit}
 use Rattle.theory.specs.Outcomes.{AllFine}
 use Rattle.theory.specs.Ranges.{InRange, FormsInRange, FormsFit}
@@ -108,15 +108,15 @@ module _ (p : Pack) (so : ReachedShort p) (r : Rule) (isRule : r ∈ p .rules) w
 -- ---- from the bytes
 
 -- a line of multipliers whose fault is none, or 13
-module _ (before : List Bytes) (l : Bytes) (fine : AllFine nothing before) (isM : lineLetter l ≡ M) (n : ℕ) (has : fault (writeAll nothing before) l ≡ n) (judged : (n ≡ 0) ⊎ (n ≡ 13)) where
+module _ (before : List Bytes) (l : Bytes) (fine : AllFine whole nothing before) (isM : lineLetter l ≡ M) (n : ℕ) (has : fault whole (writeAll nothing before) l ≡ n) (judged : (n ≡ 0) ⊎ (n ≡ 13)) where
   abbrev w : Written
   w = writeAll nothing before
 
   apart : (k : ℕ) → (0 ≡ k → ⊥) → (13 ≡ k → ⊥) → n ≡ k → ⊥
   apart k notZero notLast is = ⊎-elim (λ z. notZero (sym z ∙ is)) (λ z. notLast (sym z ∙ is)) judged
 
-  place : OfLetter w l n
-  place = past-place w l n has (apart 4 (λ h. omega arith) (λ h. omega arith)) (apart 5 (λ h. omega arith) (λ h. omega arith))
+  place : OfLetter whole w l n
+  place = past-place whole w l n has (apart 4 (λ h. omega arith) (λ h. omega arith)) (apart 5 (λ h. omega arith) (λ h. omega arith))
 
   due : isComplete (w .pack) ≡ false
   unfolding mayStand
@@ -132,7 +132,7 @@ module _ (before : List Bytes) (l : Bytes) (fine : AllFine nothing before) (isM 
   judged-range =
       let p = w .pack in
       let claimed = on-member (atomKey (lastRule p .head)) (p .claims) (claimDue p) (getD-member (headClaims p) (length (lastRule p .multipliers)) noClaim (due-from-incomplete p due)) .0 in
-      forms-in-range p (reached-short before fine (place .unended)) (lastRule p) (last-member noRule (p .rules) (rule-from-incomplete p due)) (claimDue p) claimed (multipliersFrom (fieldsOf l)) fits
+      forms-in-range p (reached-short true before fine (place .unended)) (lastRule p) (last-member noRule (p .rules) (rule-from-incomplete p due)) (claimDue p) claimed (multipliersFrom (fieldsOf l)) fits
 
 pub forms-fit : (text : Bytes) → FormsFit text
 forms-fit text = record { inRange = λ before l after are fine isM judged. judged-range before l fine isM _ refl judged }
