@@ -37,7 +37,7 @@ e-left : (line : Bytes) (s : State) (w : Written) (o : Opened) → Passed E line
 unfolding firstOf tests endTests
 e-left line s w o passed = passed .left
 
--- whether each of those that owe a rule heads one, as the state has it
+-- whether one that owes a rule heads none, as the state has it
 abbrev isLacking : State → Bool
 isLacking s = not (eqb (bitOr (s .owing) (s .headed)) (s .headed))
 

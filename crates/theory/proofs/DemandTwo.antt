@@ -1,5 +1,5 @@
 -- Demand 2: which packs check accepts, also but for 24, and which bounds reserve gives.
-use mathlib.Core.Path.{_≡_, refl, _∙_}
+use mathlib.Core.Path.{_≡_, refl, _∙_, ap}
 use mathlib.Core.Bool.{false}
 use mathlib.Core.Logic.{_↔_}
 use Prim.Native.Char.{code}
@@ -7,11 +7,12 @@ use lib.Dec.{eqb}
 use Rattle.theory.specs.Text.{Bytes}
 use Rattle.theory.specs.Written.{packOf}
 use Rattle.theory.specs.Faults.{whole}
+use Rattle.theory.specs.Check.{Judgement}
 use Rattle.theory.specs.Reserve.{queryOf, Fields, fields, reservation, answerOf, reserveOf}
 use Rattle.theory.specs.SmallestBound.{BoundGiven, ImpossibleBy, NoneUsable}
 use Rattle.theory.specs.Promises.{Answerable, DemandTwo, ButForHeads}
-use Rattle.theory.proofs.Judging.Acceptance.{check-accepts, acceptable-checks, accepts-but-for-heads, but-for-heads-accepts}
-use Rattle.theory.proofs.Judging.ButForHeads.{judgements-agree, no-judgement-24}
+use Rattle.theory.proofs.Judging.Acceptance.{check-accepts, acceptable-checks, accepts-but-for-heads, counts-but-for-heads}
+use Rattle.theory.proofs.Judging.ButForHeads.{judgements-agree, no-judgement-24, goes-past}
 use Rattle.theory.proofs.Reserving.Reservations.{bound-exactly, impossible-exactly, none-exactly}
 use Rattle.theory.proofs.Reserving.ReserveAnswers.{answered}
 
@@ -38,7 +39,9 @@ demand-two text = record {
 
 pub but-for-heads : (text : Bytes) → ButForHeads text
 but-for-heads text = record {
-  accepted = (accepts-but-for-heads text, but-for-heads-accepts text);
+  accepted = (accepts-but-for-heads text, λ a. ap (λ (j : Judgement). j .returned .number) (counts-but-for-heads text a));
+  counts = counts-but-for-heads text;
   never = no-judgement-24 whole text;
   agrees = judgements-agree whole text;
+  past = goes-past whole text;
 }

@@ -4,6 +4,7 @@
 pub mod LastRule
 pub mod RuleCounts
 pub mod Keys
+pub mod Kinds
 pub mod ClaimsOn
 pub mod Completeness
 pub mod Heads

@@ -3,17 +3,17 @@
 use mathlib.Core.Path.{_≡_}
 use mathlib.Core.Logic.{_↔_}
 use mathlib.Core.List.{List}
-use Prim.Native.Nat.{ℕ, _≤_}
+use Prim.Native.Nat.{ℕ, _+_, _≤_}
 use Prim.Native.Char.{code}
 use lib.IntN.{ℤ}
-use lib.ListN.{drop}
-use Rattle.theory.specs.Text.{Bytes}
+use lib.ListN.{length, drop}
+use Rattle.theory.specs.Text.{Bytes, linesOf}
 use Rattle.theory.specs.Terms.{structural}
 use Rattle.theory.specs.Packs.{Atom}
 use Rattle.theory.specs.Written.{packOf}
 use Rattle.theory.specs.Residuals.{areaNeeded}
 use Rattle.theory.specs.Faults.{whole, butForHeads}
-use Rattle.theory.specs.Check.{judgementOf, verdictOf, checkOf}
+use Rattle.theory.specs.Check.{Judgement, numbers, plain, multiplierLines, judgementOf, verdictOf, checkOf}
 use Rattle.theory.specs.Measure.{measureOf}
 use Rattle.theory.specs.Reserve.{queryOf, queryFault, fields, reserveOf, sizeAt, HasKnownSizes}
 use Rattle.theory.specs.Words.{checkWord, reserveWord, measureWord, CheckRoom, ReserveRoom, MeasureRoom, wordNumber, wordLetter, wordMiddle, numbersIn, fieldsIn, measuredIn}
@@ -56,12 +56,20 @@ pub record DemandTwo (text : Bytes) : Type 0 where
   pub impossible : (query : Bytes) (n : ℕ) → (reserveOf text query ≡ fields (code "I") 0 n) ↔ (Answerable text query × ImpossibleBy (packOf text) (queryOf query) n)
   pub noBound : (query : Bytes) → (reserveOf text query ≡ fields (code "N") 0 0) ↔ (Answerable text query × NoneUsable (packOf text) (queryOf query))
 
--- Judged but for 24, a text is accepted exactly if it meets everything but the condition on heads; it is never refused
--- with 24, and where check's verdict is not 24 either, both are the same.
+-- Lines are judged past the `E` line, the one with this number: accepted there, or refused on the next, where nothing may stand.
+pub data GoesPast (line : ℕ) : Judgement → Type 0 where
+  ends : {rules lines : ℕ} → GoesPast line (plain (numbers 0 line rules lines))
+  unfit : GoesPast line (plain (numbers 4 (line + 1) 0 0))
+  misplaced : GoesPast line (plain (numbers 5 (line + 1) 0 0))
+
+-- Judged but for 24, a text is accepted exactly if it meets everything but the condition on heads, with its counts; it is
+-- never refused with 24. Where check's verdict is not 24 either, both are the same; where it is, judging goes past that line.
 pub record ButForHeads (text : Bytes) : Type 0 where
   pub accepted : (judgementOf (butForHeads whole) text .returned .number ≡ 0) ↔ AcceptableButForHeads text
+  pub counts : (a : AcceptableButForHeads text) → judgementOf (butForHeads whole) text ≡ plain (numbers 0 (length (linesOf text)) (length (a .pack .rules)) (multiplierLines (a .pack .rules)))
   pub never : judgementOf (butForHeads whole) text .returned .number ≡ 24 → ⊥
   pub agrees : (verdictOf text .returned .number ≡ 24 → ⊥) → judgementOf (butForHeads whole) text ≡ verdictOf text
+  pub past : verdictOf text .returned .number ≡ 24 → GoesPast (verdictOf text .returned .line) (judgementOf (butForHeads whole) text)
 
 -- ## Demand 3
 

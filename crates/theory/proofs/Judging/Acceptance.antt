@@ -147,5 +147,5 @@ checked-pack text area e = let a = check-accepts text area e in accepted-made te
 pub accepts-but-for-heads : (text : Bytes) → judgementOf (asWhole false) text .returned .number ≡ 0 → AcceptableButForHeads text
 accepts-but-for-heads text e = accepts-from-judgement false text e .made
 
-pub but-for-heads-accepts : (text : Bytes) → AcceptableButForHeads text → judgementOf (asWhole false) text .returned .number ≡ 0
-but-for-heads-accepts text a = rw (a .isWritten, of-pack false (a .pack) (a .fits) (a .justified) refl .judgement)
+pub counts-but-for-heads : (text : Bytes) (a : AcceptableButForHeads text) → judgementOf (asWhole false) text ≡ counted (length (linesOf text)) (a .pack)
+counts-but-for-heads text a = rw (a .isWritten, lines-again (a .pack) (fits-spelled (a .pack) (a .fits))) (of-pack false (a .pack) (a .fits) (a .justified) refl .judgement)

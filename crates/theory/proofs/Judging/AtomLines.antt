@@ -2,7 +2,6 @@
 use mathlib.Core.Path.{_≡_, refl, sym, _∙_, ap, subst}
 use mathlib.Core.Bool.{Bool, true, false, not, _||_}
 use mathlib.Core.List.{List, [], _∷_, _++_}
-use mathlib.Core.Option.{Option, some}
 use Prim.Native.Nat.{_+_, _≤_, _<_}
 use native.Mathlib.Omega.{arith}
 use lib.Dec.{leb}
@@ -11,7 +10,7 @@ use lib.Seq.{drop-cons}
 use Rattle.theory.specs.Lists.{every, isSome, isEmpty, ending}
 use Rattle.theory.specs.Text.{Bytes, isName}
 use Rattle.theory.specs.Terms.{AllWellFormed, allVariables, structural}
-use Rattle.theory.specs.Packs.{Kind, given, ruled, Predicate, Claim, Atom, Pack, ruleLimit, subgoalLimit, variableLimit, atomKey, declaredAs, termFields, factLine, headLine, subgoalLine, onSubgoals, onFacts, onRules, headAlone, fromRules}
+use Rattle.theory.specs.Packs.{ruled, Claim, Atom, Pack, ruleLimit, subgoalLimit, variableLimit, atomKey, declaredAs, termFields, factLine, headLine, subgoalLine, onSubgoals, onFacts, onRules, headAlone, fromRules}
 use Rattle.theory.specs.declared.Letter.{Letter}
 use Rattle.theory.specs.declared.Letter.the-variants.{G, H, B}
 use Rattle.theory.specs.Written.{field, atomFrom, add, onLast}
@@ -19,9 +18,10 @@ use Rattle.theory.specs.Residuals.{ruleVariables}
 use Rattle.theory.specs.Faults.{Manner, Test, test, isTerm, arityIn, isGiven, givenIn, ruledIn, lastRule, isComplete, manyVariables, mayStand, atomTests, factTests, headTests, subgoalTests, tests}
 use Rattle.theory.specs.Facts.{isMet, meetsEvery}
 use Rattle.theory.specs.Limits.{AtomFits, FactFits}
-use Rattle.groundwork.proofs.Truth.{not-true, not-false, never-both, and-left, and-right, and-both, or-not-left, or-not-right, or-neither, eqb-equal, equal-eqb, leb-gt, gt-leb, ltb-ge, ge-ltb}
+use Rattle.groundwork.proofs.Truth.{not-true, not-false, and-left, and-right, and-both, or-not-left, or-not-right, or-neither, eqb-equal, equal-eqb, leb-gt, gt-leb, ltb-ge, ge-ltb}
 use Rattle.groundwork.proofs.Order.{nonneg-test, test-nonneg}
 use Rattle.theory.proofs.Reading.Every.{every-member, members-every}
+use Rattle.theory.proofs.Judging.Kinds.{ruled-kind, given-kind, given-in, ruled-in}
 use Rattle.theory.proofs.Judging.Faultless.{Faultless, Adds, Readable}
 use Rattle.theory.proofs.Reading.Letters.{letterField}
 use Rattle.theory.proofs.Reading.PlainFields.{Plain, plain-cons, name-plain, letter-plain}
@@ -74,24 +74,6 @@ atom-read letter isRefused afterName afterTerms fields p first c =
       named = named;
       ended = rest .1 .1;
     }
-
-ruled-kind : (k : Kind) → isGiven k ≡ false → k ≡ ruled
-unfolding isGiven
-ruled-kind given e = never-both refl e
-ruled-kind ruled e = refl
-
-given-kind : (k : Kind) → not (isGiven k) ≡ false → k ≡ given
-unfolding isGiven
-given-kind given e = refl
-given-kind ruled e = never-both refl e
-
-given-in : (o : Option Predicate) (x : Predicate) → o ≡ some x → givenIn o ≡ isGiven (x .kind)
-unfolding givenIn
-given-in o x e = rw e
-
-ruled-in : (o : Option Predicate) (x : Predicate) → o ≡ some x → ruledIn o ≡ not (isGiven (x .kind))
-unfolding ruledIn
-ruled-in o x e = rw e
 
 -- the test of 22, and what it says
 met-each : (claims : List Claim) (f : Atom) → meetsEvery claims f ≡ true → MeetsEach claims f

@@ -65,11 +65,11 @@ past-place m w l n e notFour notFive =
     }
 
 -- no test has this number
-abbrev pub Without : ℕ → List Test → Type 0
+abbrev Without : ℕ → List Test → Type 0
 Without n [] = Unit {0}
 Without n (t ∷ ts) = (eqb (t .number) n ≡ false) × Without n ts
 
-pub first-other : (n : ℕ) (ts : List Test) → 0 < n → Without n ts → firstOf ts ≡ n → ⊥
+first-other : (n : ℕ) (ts : List Test) → 0 < n → Without n ts → firstOf ts ≡ n → ⊥
 unfolding firstOf
 first-other n [] h others e = omega arith
 first-other n (t ∷ ts) h others e =

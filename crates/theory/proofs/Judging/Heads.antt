@@ -2,19 +2,15 @@
 use mathlib.Core.Path.{_≡_, refl, sym, ap}
 use mathlib.Core.Bool.{Bool, true, false, not, _&&_, _||_}
 use mathlib.Core.List.{List, [], _∷_}
-use Rattle.groundwork.proofs.Truth.{by-truth, never-both, not-false, and-left, and-right}
+use Rattle.groundwork.proofs.Truth.{by-truth, not-true, not-false, and-left, and-right}
 use Rattle.theory.specs.Lists.{_∈_, any}
-use Rattle.theory.specs.Packs.{Kind, given, ruled, Predicate, Claim, Rule, Pack, sameKey, keyOf, claimKey, atomKey}
+use Rattle.theory.specs.Packs.{ruled, Predicate, Claim, Rule, Pack, sameKey, keyOf, claimKey, atomKey}
 use Rattle.theory.specs.Written.{onLast}
 use Rattle.theory.specs.Faults.{isGiven, owesRule, headsRule, isHeadless}
 use Rattle.theory.specs.Limits.{HeadsRule, Headed}
 use Rattle.theory.proofs.Reading.Every.{none-member, members-none, any-found, any-member}
+use Rattle.theory.proofs.Judging.Kinds.{ruled-kind}
 use Rattle.theory.proofs.Judging.Keys.{sameKey-refl, sameKey-equal}
-
-kind-ruled : (k : Kind) → not (isGiven k) ≡ true → k ≡ ruled
-unfolding isGiven
-kind-ruled given e = never-both e refl
-kind-ruled ruled e = refl
 
 -- ---- one predicate
 
@@ -38,7 +34,7 @@ module _ (p : Pack) (x : Predicate) where
   -- where it is headed, a rule that it owes is there
   paid : Headed p → x ∈ p .predicates → owesRule (p .claims) x ≡ true → HeadsRule p x
   paid headed m owes =
-      let isRuled = kind-ruled (x .kind) (and-left (not (isGiven (x .kind))) (any (onClaim x) (p .claims)) owes) in
+      let isRuled = ruled-kind (x .kind) (not-true _ (and-left (not (isGiven (x .kind))) (any (onClaim x) (p .claims)) owes)) in
       let (c, n, same) = any-found (onClaim x) (p .claims) (and-right (not (isGiven (x .kind))) (any (onClaim x) (p .claims)) owes) in
       headed .every x m isRuled c n (sym (sameKey-equal (keyOf x) (claimKey c) same))
 
