@@ -1,7 +1,7 @@
 //! Forms: a constant and a whole number for each variable of a rule. The desk works them out to explain a residual; they
 //! are compared with the library's.
 
-use crate::terms::{Term, Token};
+use crate::terms::Term;
 use crate::words::shown;
 
 /// The coefficients stand in the order of the rule's variables. 64 bits are enough under document 01's limits.
@@ -33,18 +33,10 @@ impl Form {
         self
     }
 
-    /// The size of a term: the sum of the arities, and each variable as often as it occurs.
+    /// The size of a term, by its two steps: the sum of the arities, then each variable as often as it occurs.
     pub fn of_term(term: &Term, variables: &[&[u8]]) -> Form {
-        let mut size = Form::zero(variables.len());
-        term.walk(&mut |token| match token {
-            Token::Symbol(_, arity) => size.constant += arity as i64,
-            Token::Variable(name) => {
-                if let Some(place) = variables.iter().position(|variable| *variable == name) {
-                    size.coefficients[place] += 1;
-                }
-            }
-        });
-        size
+        let constant = term.sum_of_arities() as i64;
+        Form { constant, coefficients: variables.iter().map(|variable| term.occurrences(variable) as i64).collect() }
     }
 
     /// A claim's numbers with these sizes put in for its arguments.

@@ -74,7 +74,7 @@ fn explain_size(term: &[u8], size: u64) -> Result<Explanation<'_>, Disagreement>
     let mut tokens: Vec<Token> = Vec::new();
     read.walk(&mut |token| tokens.push(token));
     let symbols = count_symbols(&tokens);
-    let own: usize = symbols.iter().map(|symbol| symbol.arity * symbol.times).sum();
+    let own = read.sum_of_arities();
     if own as u64 != size || tokens.iter().any(|token| matches!(token, Token::Variable(_))) {
         return Disagreement::that(format!("The library measures {size}, the desk works out {own}."));
     }

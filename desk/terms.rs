@@ -19,6 +19,24 @@ impl<'t> Term<'t> {
         }
     }
 
+    /// The first step of a size, in the order of section 1.4 of document 000: the sum of the arities of the symbols.
+    pub fn sum_of_arities(&self) -> usize {
+        let mut sum = 0;
+        self.walk(&mut |token| {
+            if let Token::Symbol(_, arity) = token {
+                sum += arity;
+            }
+        });
+        sum
+    }
+
+    /// The second step: how often a variable occurs.
+    pub fn occurrences(&self, variable: &[u8]) -> usize {
+        let mut times = 0;
+        self.walk(&mut |token| times += usize::from(token == Token::Variable(variable)));
+        times
+    }
+
     /// Hands on each symbol's name and arity and each variable, in the order in which they are written.
     pub fn walk(&self, visit: &mut impl FnMut(Token<'t>)) {
         match self {

@@ -2,7 +2,7 @@
  *
  * Link with libcerrundix.a (`scripts/prepare library` makes it, for x86-64 Linux). The library keeps no state, so threads
  * may call it at the same time; it takes no memory from the heap, and calls nothing but memset and memcpy. Each call
- * returns, whatever the bytes, given enough stack (check, reserve and the sheet used 17,640 bytes at most, measure 1,944:
+ * returns, whatever the bytes, given enough stack (check, reserve and the sheet used 17,624 bytes at most, measure 1,944:
  * bench/README.md); no call reads or writes outside the buffers that it is lent. What each answer means is proved against
  * documents 01 and 02 (docs/MAP.md).
  *

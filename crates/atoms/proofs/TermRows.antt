@@ -8,13 +8,14 @@ use native.Mathlib.Omega.{arith}
 use borrow.Author.Count.{below-more}
 use lib.Dec.{ltb}
 use lib.IntN.{pos}
-use lib.ListN.{length, getD, set, take}
-use lib.Seq.{take-suc, length-take-le, getD-take, getD-set-same, getD-set-other}
+use lib.ListN.{length, getD, take}
+use lib.Seq.{take-suc, length-take-le, getD-take}
 use Rattle.groundwork.proofs.Lists.{member-getD}
 use Rattle.groundwork.proofs.Truth.{by-truth, ltb-lt, ltb-ge}
 use Rattle.theory.specs.Lists.{_∈_}
 use Rattle.theory.specs.Text.{Bytes}
-use Rattle.theory.specs.Terms.{Term, Terms, variable, nil, cons, arity, readTerm, structural, occurrences, variables, allVariables}
+use Rattle.theory.specs.Terms.{Term, Terms, variable, nil, cons, arity, readTerm, variables, allVariables}
+use Rattle.theory.specs.Sizes.{structural, occurrences, occurrencesIn}
 use Rattle.theory.specs.Forms.{formOf}
 use Rattle.theory.specs.Written.{termsFrom}
 use Rattle.theory.specs.Residuals.{numbered}
@@ -23,13 +24,14 @@ use Rattle.theory.proofs.Reading.FieldValues.{value-read}
 use Rattle.theory.proofs.Judging.RuleVariables.{numbered-append, numbered-length}
 use Rattle.theory.proofs.Reading.TermFields.{terms-arity}
 use Rattle.theory.proofs.Judging.Variables.{Once, member-numbered}
-use Rattle.theory.proofs.Soundness.StructuralSizes.{structural-counted}
+use Rattle.theory.proofs.SectionForm.{section-form}
 use Rattle.terms.proofs.Numbering.{place-once, numbered-place}
 use Rattle.terms.proofs.Counting.{occurrences-absent}
-use Rattle.terms.specs.Rows.{Holds as HoldsVariables, RowCounts, CountedFrom, Counted}
+use Rattle.terms.specs.Rows.{Holds as HoldsVariables, VariablesTabled}
+use Rattle.terms.specs.TermForms.{RowStands, FormTaken}
 use Rattle.tables.specs.declared.Fielding.{Fielding}
 use Rattle.tables.specs.declared.Fielding.the-variants.{Read}
-use Rattle.tables.specs.Tables.{rowPlace, argument, RowStands, AtomStands}
+use Rattle.tables.specs.Tables.{rowPlace, argument, AtomStands}
 use Rattle.tables.specs.Lines.{at}
 use Rattle.atoms.specs.Fields.{FieldTerm, known, ProgressTerms}
 use Rattle.atoms.proofs.TermFields.{t-read}
@@ -75,8 +77,8 @@ known-variable seen fs index k before inside x m =
 
 -- a term's form has for each variable how often it occurs
 form-counts : (t : Term) (x : Bytes) → formOf structural t .coefficient x ≡ pos (occurrences x (variables t))
-unfolding formOf
-form-counts t x = ap (λ xs. pos (occurrences x xs)) (structural-counted t)
+unfolding occurrencesIn
+form-counts t x = rw (section-form t .both)
 
 -- the variables of a term are among those of which its row tells: those that come later do not occur in it
 module _ (xs ys : List Bytes) (once : Once (numbered xs ys)) (few : length (numbered xs ys) ≤ 16) where
@@ -127,46 +129,25 @@ terms-begin atom seen fs rows holds count = record {
 
 -- what the field of a term leaves, after the variables known so far
 module _ {atom index : ℕ} {field : Bytes} {many : ℕ} {names₀ rows₀ : List ℕ} {r : Fielding} {names rows : List ℕ} (done : FieldTerm atom index field many names₀ rows₀ r names rows) (size : length rows₀ ≡ 1224)
-    (room : rowPlace atom index < 1224) (n : ℕ) (fine : r ≡ Read n) (t : Term) (reads : readTerm field ≡ some t) where
-  abbrev base : ℕ
-  base = rowPlace atom index
-
-  counted : Counted field names₀ many rows₀ base n names (done .counts)
-  counted = rw (t-read done fine .1) at (done .counted (t-read done fine .0))
-
-  stored : rows ≡ set (done .counts) base (done .constant)
-  stored = done .stored (t-read done fine .0)
-
-  elsewhere : (i : ℕ) → (i ≡ base → ⊥) → getD rows i 0 ≡ getD (done .counts) i 0
-  elsewhere i other = ap (λ l. getD l i 0) stored ∙ getD-set-other (done .counts) base i (done .constant) 0 other
-
-  kept-below : (i : ℕ) → i < base → getD rows i 0 ≡ getD rows₀ i 0
-  kept-below i below = elsewhere i (omega arith) ∙ counted .others i .0 (omega arith)
-
-  row-counted : (all : List Bytes) → RowCounts (done .counts) base all (variables t) → RowStands rows base all t
-  unfolding formOf
-  row-counted all row = record {
-    constant = ap pos (ap (λ l. getD l base 0) stored ∙ getD-set-same (done .counts) base (done .constant) 0 (omega (arith, counted .size)) ∙ done .summed (t-read done fine .0) .is t reads);
-    coefficient = λ i inside. ap pos (elsewhere (base + 1 + i) (omega arith) ∙ row .counts i inside) ∙ sym (form-counts t _);
-    beyond = λ i outside small. elsewhere (base + 1 + i) (omega arith) ∙ row .zeros i small outside;
-  }
+    (n : ℕ) (fine : r ≡ Read n) (t : Term) (reads : readTerm field ≡ some t) where
+  taken : FormTaken field names₀ many rows₀ (rowPlace atom index) n names rows
+  taken = rw (t-read done fine .1) at (done .form (t-read done fine .0))
 
   -- past the limit nothing but the count is claimed
-  counted-after : (known : List Bytes) → (length known ≤ 16 → many ≡ length known) → (16 < length known → many ≡ 17) → (many ≤ 16 → HoldsVariables names₀ known) → CountedFrom field known base n names (done .counts) t
-  counted-after known few full holds = by-truth (λ b. CountedFrom field known base n names (done .counts) t) (ltb 16 (length known))
+  tabled-after : (known : List Bytes) → (length known ≤ 16 → many ≡ length known) → (16 < length known → many ≡ 17) → (many ≤ 16 → HoldsVariables names₀ known) → VariablesTabled known t n names
+  tabled-after known few full holds = by-truth (λ b. VariablesTabled known t n names) (ltb 16 (length known))
       (λ h.
       let past = ltb-lt 16 (length known) h in
-      let is : n ≡ 17 = counted .full (omega (arith, full past)) in
+      let is : n ≡ 17 = taken .full (omega (arith, full past)) in
       record {
         few = λ k. absurd (omega (arith, numbered-length known (variables t)));
         many = λ k. is;
         holds = λ k. absurd (omega arith);
-        row = λ k. absurd (omega arith);
       })
       (λ h.
       let within = ltb-ge 16 (length known) h in
       let count = few within in
-      counted .from known (holds (omega arith)) (sym count) size t reads)
+      taken .tabled known (holds (omega arith)) (sym count) size t reads)
 
 module _ {atom : ℕ} {seen fs : List Bytes} {index many : ℕ} {names₀ names rows₀ rows₁ rows : List ℕ} {r : Fielding} {n : ℕ} where
   pub term-field : atom ≤ 8 → index < 8 → index < length fs → length rows₁ ≡ 1224 → ProgressTerms atom seen fs index many names₀ rows₀ rows₁ → FieldTerm atom index (at fs index) many names₀ rows₁ r names rows → r ≡ Read n
@@ -186,21 +167,26 @@ module _ {atom : ℕ} {seen fs : List Bytes} {index many : ℕ} {names₀ names 
       reads : readTerm (at fs index) ≡ some t
       reads = value-read readTerm (variable []) (at fs index) (t-read done fine .0)
 
-      left : CountedFrom (at fs index) (known seen fs index) (rowPlace atom index) n names (done .counts) t
-      left = counted-after done size (omega arith) n fine t reads (known seen fs index) (before .few) (before .many-more) (before .holds)
+      left : VariablesTabled (known seen fs index) t n names
+      left = tabled-after done size n fine t reads (known seen fs index) (before .few) (before .many-more) (before .holds)
 
       kept : (i : ℕ) → i < rowPlace atom index → getD rows i 0 ≡ getD rows₁ i 0
-      kept = kept-below done size (omega arith) n fine t reads
+      kept = taken done size n fine t reads .below
 
       Stands : ℕ → Type 0
       Stands k = RowStands rows (rowPlace atom k) (numbered (known seen fs index) (variables t)) (argument (termsFrom fs) k)
 
+      earlier-few : n ≤ 16 → length (known seen fs index) ≤ 16
+      earlier-few h = omega (arith, left .holds h .few, numbered-length (known seen fs index) (variables t))
+
       earlier : n ≤ 16 → (k : ℕ) → k < index → Stands k
       earlier h k lower =
           let holds = left .holds h in
-          let fewer : length (known seen fs index) ≤ 16 = omega (arith, holds .few, numbered-length (known seen fs index) (variables t)) in
+          let fewer = earlier-few h in
           row-over-more (known seen fs index) (variables t) (holds .once) (holds .few) rows (rowPlace atom k) (argument (termsFrom fs) k) (known-variable seen fs index k lower (omega arith))
           (row-same rows₁ rows (rowPlace atom k) (known seen fs index) (argument (termsFrom fs) k) fewer (λ i low high. kept i (omega arith)) (before .row (omega (arith, before .few fewer)) k lower))
 
       latest : n ≤ 16 → Stands index
-      latest h = rw (argument-from fs index inside) (row-counted done size (omega arith) n fine t reads (numbered (known seen fs index) (variables t)) (left .row h))
+      latest h =
+          let fewer = earlier-few h in
+          rw (argument-from fs index inside) (taken done size n fine t reads .row (known seen fs index) (before .holds (omega (arith, before .few fewer))) (sym (before .few fewer)) size t reads h)

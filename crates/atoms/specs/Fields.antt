@@ -4,7 +4,7 @@ use mathlib.Core.Bool.{true, cond}
 use mathlib.Core.List.{List}
 use Prim.Native.Nat.{ℕ, suc, _≤_, _<_}
 use lib.Dec.{ltb}
-use lib.ListN.{length, getD, set, take}
+use lib.ListN.{length, getD, take}
 use Rattle.theory.specs.declared.Letter.{Letter}
 use Rattle.theory.specs.declared.Letter.the-variants.{P, C, G, H, B, M, E, NoLetter}
 use Rattle.theory.specs.Text.{Bytes}
@@ -12,12 +12,12 @@ use Rattle.theory.specs.Terms.{allVariables}
 use Rattle.theory.specs.Written.{termsFrom}
 use Rattle.theory.specs.Residuals.{numbered}
 use Rattle.theory.specs.Faults.{isTerm}
-use Rattle.terms.specs.Constants.{ConstantRead}
-use Rattle.terms.specs.Rows.{Counted, Holds as HoldsVariables}
+use Rattle.terms.specs.Rows.{Holds as HoldsVariables}
+use Rattle.terms.specs.TermForms.{RowStands, FormTaken}
 use Rattle.tables.specs.declared.Fault.the-variants.{NoTerm}
 use Rattle.tables.specs.declared.Fielding.{Fielding}
 use Rattle.tables.specs.declared.Fielding.the-variants.{Read, Misread}
-use Rattle.tables.specs.Tables.{rowPlace, SafeRows, argument, RowStands}
+use Rattle.tables.specs.Tables.{rowPlace, SafeRows, argument}
 use Rattle.tables.specs.Lines.{at}
 
 -- which atom of the rule the next subgoal is, or the eighth one's rows for a ninth
@@ -35,15 +35,11 @@ atomOf M subgoals = 0
 atomOf E subgoals = 0
 atomOf NoLetter subgoals = 0
 
--- a term, into the row of an atom's argument
+-- a term, its form into the row of an atom's argument
 pub record FieldTerm (atom index : ℕ) (field : Bytes) (many : ℕ) (names₀ rows₀ : List ℕ) (r : Fielding) (names rows : List ℕ) : Type 0 where
   pub known : ℕ
   pub answer : r ≡ cond (isTerm field) (Read known) (Misread NoTerm)
-  pub counts : List ℕ
-  pub constant : ℕ
-  pub counted : isTerm field ≡ true → Counted field names₀ many rows₀ (rowPlace atom index) known names counts
-  pub summed : isTerm field ≡ true → ConstantRead field constant
-  pub stored : isTerm field ≡ true → rows ≡ set counts (rowPlace atom index) constant
+  pub form : isTerm field ≡ true → FormTaken field names₀ many rows₀ (rowPlace atom index) known names rows
   pub sizes : (length names ≡ length names₀) × (length rows ≡ length rows₀)
   pub high : known ≤ 17
   pub small : SafeRows rows₀ → SafeRows rows

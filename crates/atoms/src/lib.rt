@@ -1,9 +1,7 @@
 // Atoms, as heads and subgoals state them: which atom of its rule a line states, and the terms that are its fields.
 ghost use mathlib.Core.Path.{_≡_};
-ghost use mathlib.Core.Bool.{true};
 ghost use Prim.Native.Nat.{_≤_, _<_};
-ghost use lib.ListN.{length, getD};
-ghost use Rattle.theory.specs.Text.{isUpper};
+ghost use lib.ListN.{length};
 ghost use Rattle.words.specs.Classes.{Classes};
 ghost use Rattle.atoms.specs.Fields.{FieldTerm, subgoalAtom, atomOf};
 use tables::Fault;
@@ -12,7 +10,6 @@ use tables::Hints;
 use tables::Rows;
 use tables::Variables;
 use theory::Letter;
-use words::Word;
 
 /// Which atom of the rule the next subgoal is. (A ninth one, which is refused when its line is done, takes the eighth one's
 /// rows.)
@@ -38,35 +35,7 @@ pub fn atom_of(letter: Letter, subgoals: usize) -> usize
     }
 }
 
-/// As `field_term`, of a field that begins with a capital: it is one variable or no term.
-fn field_variable(
-    atom: usize,
-    index: usize,
-    field: &[u8],
-    many: usize,
-    variables: &mut Variables,
-    rows: &mut Rows,
-    hints: &mut Hints,
-    classes: &[u8; 256],
-) -> Fielding
-    requires { ⌜ (atom ≤ 8) × (index < 8) × (many ≤ 17) × (0 < length (now field)) × (isUpper (getD (now field) 0 0) ≡ true) × Classes (now classes) ⌝ }
-    ensures { λ r. ⌜ FieldTerm atom index (now (field .entry)) many (now (variables .entry)) (now (rows .entry)) r (now (variables .exit)) (now (rows .exit)) ⌝ }
-{
-    let word = words::word_between(field, 0, field.len(), classes);
-    match word {
-        Word::Variable(words) => {
-            let base = tables::row_place(atom, index);
-            let known = terms::count_lone_variable(words, variables, many, hints, rows, base);
-            rows[base] = 0;
-            Fielding::Read(known)
-        }
-        Word::Name(_) => Fielding::Misread(Fault::NoTerm),
-        Word::Neither => Fielding::Misread(Fault::NoTerm),
-    }
-}
-
-/// A field of a line that states an atom: a term, whose form goes into the row of the atom's argument. Most are one
-/// variable, and no tokens are read of those.
+/// A field of a line that states an atom: a term, whose form goes into the row of the atom's argument.
 pub fn field_term(
     atom: usize,
     index: usize,
@@ -83,18 +52,21 @@ pub fn field_term(
     ensures kept { λ r. ⌜ (length (now (arities .exit)) ≡ 512) × (length (now (places .exit)) ≡ 512) ⌝ }
     ensures done { λ r. ⌜ FieldTerm atom index (now (field .entry)) many (now (variables .entry)) (now (rows .entry)) r (now (variables .exit)) (now (rows .exit)) ⌝ }
 {
-    if 0 < field.len() {
-        if words::class_of(field[0], classes) == 2 {
-            return field_variable(atom, index, field, many, variables, rows, hints, classes);
-        }
-    }
-    let read = tokens::read_tokens(field, classes, arities, places);
+    let read = tokens::read_argument(field, classes, arities, places);
     if !read.fine {
         return Fielding::Misread(Fault::NoTerm);
     }
     let base = tables::row_place(atom, index);
-    let count = read.variables;
-    let known = terms::count_occurrences(field, places, count, variables, many, hints, rows, base);
-    rows[base] = terms::sum_of_arities(arities, read.symbols);
+    let known = terms::form_of_term(
+        field,
+        read,
+        arities,
+        places,
+        variables,
+        many,
+        hints,
+        rows,
+        base,
+    );
     Fielding::Read(known)
 }

@@ -9,7 +9,8 @@ use lib.IntN.{ℤ, pos, negℤ, _+ℤ_, _-ℤ_, _*ℤ_, negℤ-+ℤ}
 use lib.ListN.{length, getD, length-map, List·getD-map}
 use Rattle.groundwork.proofs.Stretches.{elements, from}
 use Rattle.theory.specs.Text.{Bytes, natural, isDecimal}
-use Rattle.theory.specs.Terms.{arity, structural}
+use Rattle.theory.specs.Terms.{arity}
+use Rattle.theory.specs.Sizes.{structural}
 use Rattle.theory.specs.Forms.{zeroForm}
 use Rattle.theory.specs.Packs.{Claim, Atom, Rule, Pack}
 use Rattle.theory.specs.Written.{multiplierFrom}

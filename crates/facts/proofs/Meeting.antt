@@ -12,7 +12,8 @@ use lib.Signed.{nonNeg}
 use Rattle.groundwork.proofs.Truth.{by-truth, never-both}
 use Rattle.theory.specs.Lists.{every}
 use Rattle.theory.specs.Text.{Bytes}
-use Rattle.theory.specs.Terms.{Terms, nil, cons, arity, structural, size, argumentSizes}
+use Rattle.theory.specs.Terms.{Terms, nil, cons, arity}
+use Rattle.theory.specs.Sizes.{structural, size, argumentSizes, constantOf}
 use Rattle.theory.specs.Forms.{formOf}
 use Rattle.theory.specs.Packs.{Claim, Atom, noClaim}
 use Rattle.theory.specs.Facts.{weightedSizes, claimAt, isMet}
@@ -25,7 +26,7 @@ use Rattle.facts.proofs.Values.{met-at, met-all}
 -- ---- one claim
 
 size-at : (ts : Terms) (k : ℕ) → k < arity ts → getD (argumentSizes structural ts) k 0 ≡ size structural (argument ts k)
-unfolding size argument arity
+unfolding constantOf argument arity
 size-at nil k inside = absurd (omega arith)
 size-at (cons t ts) zero inside = refl
 size-at (cons t ts) (suc k) inside = size-at ts k (omega arith)

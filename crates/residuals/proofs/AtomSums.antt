@@ -8,11 +8,13 @@ use lib.IntN.{ℤ, pos, _+ℤ_, _*ℤ_}
 use lib.ListN.{length}
 use Rattle.groundwork.proofs.Stretches.{elements, from}
 use Rattle.theory.specs.Text.{Bytes}
-use Rattle.theory.specs.Terms.{Term, arity, structural}
+use Rattle.theory.specs.Terms.{Term, arity}
+use Rattle.theory.specs.Sizes.{structural}
 use Rattle.theory.specs.Forms.{formOf}
 use Rattle.theory.specs.Packs.{Claim, Atom}
 use Rattle.theory.specs.Residuals.{claimForm}
-use Rattle.tables.specs.Tables.{rowPlace, ClaimAt, RowStands, AtomStands}
+use Rattle.terms.specs.TermForms.{RowStands}
+use Rattle.tables.specs.Tables.{rowPlace, ClaimAt, AtomStands}
 use Rattle.residuals.specs.Sums.{width, seen, rowsSum, ownPart, atomSum, atomsSum}
 use Rattle.residuals.proofs.Rows.{seen-count, seen-none, seen-constant, width-narrow, width-whole}
 use Rattle.residuals.proofs.WeightedSums.{same-place, sumBelow, sum-first, own, weightedSum, weighted-same}

@@ -9,7 +9,8 @@ use lib.Seq.{getD-take, length-take-le}
 use Rattle.groundwork.proofs.Lists.{same-everywhere}
 use Rattle.groundwork.proofs.Ring.{neg-as-times}
 use Rattle.theory.specs.Text.{Bytes}
-use Rattle.theory.specs.Terms.{Terms, nil, cons, arity, structural}
+use Rattle.theory.specs.Terms.{Terms, nil, cons, arity}
+use Rattle.theory.specs.Sizes.{structural}
 use Rattle.theory.specs.Forms.{Form, zeroForm, plus, times, minus, constantForm, formOf}
 use Rattle.theory.specs.Packs.{Claim, Atom}
 use Rattle.theory.specs.Residuals.{weighted as weightedForm, claimForm, combined, residualNumbers}

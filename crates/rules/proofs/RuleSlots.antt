@@ -10,7 +10,8 @@ use lib.ListN.{length, getD, length-append, length-map, List·getD-append, List�
 use lib.Seq.{getD-append-seam, getD-append-add}
 use Rattle.groundwork.proofs.Lists.{flatMap-end, length-end}
 use Rattle.groundwork.proofs.Truth.{by-truth, eqb-equal, eqb-unequal, ltb-lt, ltb-ge}
-use Rattle.theory.specs.Terms.{arity, structural}
+use Rattle.theory.specs.Terms.{arity}
+use Rattle.theory.specs.Sizes.{structural}
 use Rattle.theory.specs.Forms.{zeroForm, plus, constantForm}
 use Rattle.theory.specs.Packs.{Claim, Atom, atomKey, claimsOn, claimsOnAll, noClaim}
 use Rattle.theory.specs.Residuals.{weighted, claimForm, subgoalForms}

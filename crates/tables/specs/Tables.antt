@@ -9,8 +9,9 @@ use lib.ListN.{length, getD}
 use Rattle.groundwork.proofs.Bits.{bit}
 use Rattle.theory.specs.Lists.{any, isEmpty}
 use Rattle.theory.specs.Text.{Bytes, isName}
-use Rattle.theory.specs.Terms.{Term, Terms, variable, nil, cons, arity, structural}
-use Rattle.theory.specs.Forms.{zeroForm, formOf}
+use Rattle.theory.specs.Terms.{Term, Terms, variable, nil, cons, arity}
+use Rattle.theory.specs.Sizes.{structural}
+use Rattle.theory.specs.Forms.{zeroForm}
 use Rattle.theory.specs.Packs.{Kind, given, ruled, Predicate, Claim, Atom, Rule, Pack, Key, sameKey, keyOf, atomKey, claimsOn, claimsOnAll, noClaim}
 use Rattle.theory.specs.Written.{Written}
 use Rattle.theory.specs.Residuals.{claimForm, subgoalForms, ruleVariables}
@@ -18,6 +19,7 @@ use Rattle.theory.specs.Faults.{lastRule, owesRule, headsRule}
 use Rattle.theory.specs.Check.{multiplierLines}
 use Rattle.words.specs.Words.{wordsOf, wordsAt}
 use Rattle.terms.specs.Rows.{Holds as HoldsVariables}
+use Rattle.terms.specs.TermForms.{RowStands}
 use Rattle.tables.specs.declared.State.{State}
 
 -- what the arrays hold
@@ -138,12 +140,6 @@ unfoldable pub argument : Terms → ℕ → Term
 argument nil k = variable []
 argument (cons t ts) zero = t
 argument (cons t ts) (suc k) = argument ts k
-
--- the row from base on is the form of a term over a rule's variables, zeros after the last
-pub record RowStands (rows : List ℕ) (base : ℕ) (xs : List Bytes) (t : Term) : Type 0 where
-  pub constant : pos (getD rows base 0) ≡ formOf structural t .constant
-  pub coefficient : (i : ℕ) → i < length xs → pos (getD rows (base + 1 + i) 0) ≡ formOf structural t .coefficient (getD xs i [])
-  pub beyond : (i : ℕ) → length xs ≤ i → i < 16 → getD rows (base + 1 + i) 0 ≡ 0
 
 -- the rows of an atom: the head is atom 0, the subgoal at place s atom s + 1
 pub record AtomStands (rows : List ℕ) (atom : ℕ) (xs : List Bytes) (ts : Terms) : Type 0 where

@@ -1,12 +1,13 @@
 -- The loop of `sum_of_arities`: the arities passed are summed.
-use mathlib.Core.Path.{_≡_, refl, _∙_, ap}
+use mathlib.Core.Path.{_≡_, refl, sym, _∙_, ap}
 use mathlib.Core.List.{List}
 use Prim.Native.Nat.{ℕ, _+_, _*_, _≤_, _<_}
 use native.Mathlib.Omega.{arith}
 use lib.ListN.{getD, take}
 use Rattle.theory.specs.Lists.{total}
+use Rattle.theory.specs.Sizes.{sumOfArities}
 use Rattle.tokens.specs.TokenRows.{SmallArities}
-use Rattle.tokens.proofs.Totals.{total-more}
+use Rattle.terms.proofs.Totals.{total-more}
 use Rattle.terms.specs.Constants.{AritiesSummed}
 
 pub record Summing (arities : List ℕ) (symbols sum i : ℕ) : Type 0 where
@@ -33,9 +34,10 @@ module _ (arities : List ℕ) (symbols : ℕ) (digits : SmallArities arities sym
           }
 
     pub summing-all : symbols ≤ i → AritiesSummed arities symbols sum
+    unfolding sumOfArities
     summing-all past =
         let same : i ≡ symbols = omega (arith, summing .high) in
         record {
-          is = λ field stand. record { is = λ t e. summing .is ∙ ap (λ (n : ℕ). total (take n arities)) same ∙ stand .sum t e };
+          is = λ field stand t e. summing .is ∙ ap (λ (n : ℕ). total (take n arities)) same ∙ ap total (sym (stand .all t e));
           small = omega (arith, summing .small, digits .few);
         }

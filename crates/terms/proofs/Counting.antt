@@ -9,7 +9,7 @@ use lib.Seq.{getD-append-seam}
 use Rattle.groundwork.proofs.Truth.{by-truth, never-both}
 use Rattle.theory.specs.Lists.{_∈_}
 use Rattle.theory.specs.Text.{Bytes, same, among}
-use Rattle.theory.specs.Terms.{occurrences}
+use Rattle.theory.specs.Sizes.{occurrences}
 use Rattle.theory.specs.Residuals.{numbered}
 use Rattle.theory.proofs.Reading.Bytes.{same-refl, same-equal}
 use Rattle.theory.proofs.Judging.Variables.{not-among, member-numbered, Once}

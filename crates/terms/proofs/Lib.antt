@@ -1,6 +1,7 @@
 -- Laws on the size and the variables of a term, by its tokens.
 
 -- a term's constant, and what measure answers
+pub mod Totals
 pub mod AritySums
 pub mod Measures
 -- a rule's variables, numbered and counted one at a time
@@ -13,5 +14,5 @@ pub mod VariableTable
 pub mod RowCounting
 pub mod Tally
 pub mod PlaceLoop
--- a field that is one variable, or begins as one
-pub mod LoneVariables
+-- both steps
+pub mod FormRows

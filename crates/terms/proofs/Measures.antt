@@ -10,10 +10,12 @@ use Rattle.groundwork.proofs.Truth.{ltb-ge, or-not-left}
 use Rattle.theory.specs.declared.Measurement.{Measurement}
 use Rattle.theory.specs.declared.Measurement.the-variants.{Size}
 use Rattle.theory.specs.Text.{Bytes}
-use Rattle.theory.specs.Terms.{Term, readTerm, structural, size, variables}
+use Rattle.theory.specs.Terms.{Term, readTerm, variables}
+use Rattle.theory.specs.Sizes.{structural, size}
 use Rattle.theory.specs.Faults.{isUnfit}
 use Rattle.theory.specs.Measure.{measured, measureTerm, measureOf}
 use Rattle.theory.specs.Answers.{measuredOf}
+use Rattle.theory.proofs.SectionForm.{section-form}
 use Rattle.theory.proofs.Reading.Presence.{is-some, is-none, empty-is, filled-is}
 use Rattle.tokens.specs.declared.Tokens.{Tokens}
 use Rattle.tokens.specs.TokenRows.{SmallArities, TokensRead}
@@ -53,7 +55,7 @@ module _ (s : Bytes) (unfit : Bool) (unfit-is : unfit ≡ isUnfit s) where
 
         module _ (sum : ℕ) (sum-is : AritiesSummed arities (read .symbols) sum) where
           summed : sum ≡ size structural term
-          summed = sum-is .is s (read-is .stand good .0) .is term (found .1)
+          summed = sum-is .is s (read-is .stand good .0) term (found .1) ∙ sym (section-form term .first)
 
           pub measure-size : read .variables ≤ 0 → (m : Measurement) → m ≡ Size sum → measuredOf m ≡ measureOf s
           unfolding measureOf measureTerm

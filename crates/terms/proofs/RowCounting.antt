@@ -9,12 +9,17 @@ use lib.ListN.{length, getD}
 use lib.Seq.{getD-set-same, getD-set-other}
 use Rattle.groundwork.proofs.Lists.{length-end}
 use Rattle.theory.specs.Text.{Bytes, among}
-use Rattle.theory.specs.Terms.{occurrences}
+use Rattle.theory.specs.Sizes.{occurrences}
 use Rattle.theory.specs.Residuals.{numbered}
 use Rattle.theory.proofs.Judging.Variables.{Once}
-use Rattle.terms.specs.Rows.{RowCounts}
+use Rattle.theory.specs.Packs.{variableLimit}
 use Rattle.terms.proofs.RowStores.{countAt, countedAt}
 use Rattle.terms.proofs.Counting.{occurrences-same, count-elsewhere, count-next, count-before}
+
+-- the row at base counts the occurrences of these variables in a list, with zeros after
+pub record RowCounts (rows : List ℕ) (base : ℕ) (all xs : List Bytes) : Type 0 where
+  pub counts : (i : ℕ) → i < length all → countAt rows base i ≡ occurrences (getD all i []) xs
+  pub zeros : (i : ℕ) → i < variableLimit → length all ≤ i → countAt rows base i ≡ 0
 
 module _ (rows : List ℕ) (base at : ℕ) (free : at < 16) (room : base + 17 ≤ length rows) where
   at-other : (i : ℕ) → (i ≡ at → ⊥) → countAt (countedAt rows base at) base i ≡ countAt rows base i

@@ -7,13 +7,14 @@ use native.Mathlib.Omega.{arith}
 use lib.ListN.{length, getD}
 use Rattle.groundwork.proofs.Lists.{length-end}
 use Rattle.theory.specs.Text.{Bytes, among, isVariable}
-use Rattle.theory.specs.Terms.{Term, variables, occurrences}
+use Rattle.theory.specs.Terms.{Term, variables}
+use Rattle.theory.specs.Sizes.{occurrences, occurrencesIn}
 use Rattle.theory.specs.Residuals.{numbered}
 use Rattle.words.specs.Words.{wordsOf}
-use Rattle.terms.specs.Rows.{Holds, RowCounts, CountedFrom, CountsOne, known-already, one-more, none-left, past}
+use Rattle.terms.specs.Rows.{Holds, OccurrencesStand, VariablesTabled, CountsOne, known-already, one-more, none-left, past}
 use Rattle.terms.proofs.Numbering.{place-among, numbered-end-known, numbered-end-new, numbered-grows}
 use Rattle.terms.proofs.VariableTable.{found-is, not-found, holds-more}
-use Rattle.terms.proofs.RowCounting.{row-known, row-new}
+use Rattle.terms.proofs.RowCounting.{RowCounts, row-known, row-new}
 
 -- the variables seen before and those counted are in the table, and the row counts them; or they are more than 16
 pub data Tallied (seen done : List Bytes) (base many : ℕ) (names : List ℕ) (rows : List ℕ) : Type 0 where
@@ -26,9 +27,14 @@ unfolding numbered occurrences
 none-tallied holds number zeros = all-placed (sym number) holds (record { counts = λ i h. zeros i (omega (arith, holds .few)); zeros = λ i h _. zeros i h })
 
 -- all variables of a term counted
-pub tally-counted : (field : Bytes) {seen : List Bytes} (t : Term) {base many : ℕ} {names rows : List ℕ} → Tallied seen (variables t) base many names rows → CountedFrom field seen base many names rows t
-tally-counted field t (all-placed number holds row) = record { few = λ h. number; many = λ h. absurd (omega (arith, holds .few)); holds = λ h. holds; row = λ h. row }
-tally-counted field t (too-many number more) = record { few = λ h. absurd (omega arith); many = λ h. number; holds = λ h. absurd (omega arith); row = λ h. absurd (omega arith) }
+pub tally-tabled : {seen : List Bytes} (t : Term) {base many : ℕ} {names rows : List ℕ} → Tallied seen (variables t) base many names rows → VariablesTabled seen t many names
+tally-tabled t (all-placed number holds row) = record { few = λ h. number; many = λ h. absurd (omega (arith, holds .few)); holds = λ h. holds }
+tally-tabled t (too-many number more) = record { few = λ h. absurd (omega arith); many = λ h. number; holds = λ h. absurd (omega arith) }
+
+pub tally-row : {seen : List Bytes} (t : Term) {base many : ℕ} {names rows : List ℕ} → Tallied seen (variables t) base many names rows → many ≤ 16 → OccurrencesStand rows base (numbered seen (variables t)) t
+unfolding occurrencesIn
+tally-row t (all-placed number holds row) h = record { counts = row .counts; zeros = row .zeros }
+tally-row t (too-many number more) h = absurd (omega arith)
 
 module _ (seen done : List Bytes) (x : Bytes) (proper : isVariable x ≡ true) (base : ℕ) where
   abbrev all : List Bytes

@@ -1,17 +1,14 @@
--- A term's constant: the sum of the arities of its symbols.
+-- The first step of a term's size (000, section 1.4): the sum of the arities of its symbols, which is the constant of its form.
 use mathlib.Core.Path.{_≡_}
 use mathlib.Core.List.{List}
 use mathlib.Core.Option.{some}
 use Prim.Native.Nat.{ℕ, _≤_}
 use Rattle.theory.specs.Text.{Bytes}
-use Rattle.theory.specs.Terms.{Term, readTerm, structural, size}
+use Rattle.theory.specs.Terms.{Term, readTerm}
+use Rattle.theory.specs.Sizes.{sumOfArities}
 use Rattle.tokens.specs.TokenRows.{SymbolsStand}
 
--- of a field that is a term: its constant
-pub record ConstantRead (field : Bytes) (r : ℕ) : Type 0 where
-  pub is : (t : Term) → readTerm field ≡ some t → r ≡ size structural t
-
--- where the arities are those of a term's symbols: its constant
+-- where the arities are those of a term's symbols: their sum
 pub record AritiesSummed (arities : List ℕ) (symbols r : ℕ) : Type 0 where
-  pub is : (field : Bytes) → SymbolsStand field arities symbols → ConstantRead field r
+  pub is : (field : Bytes) → SymbolsStand field arities symbols → (t : Term) → readTerm field ≡ some t → r ≡ sumOfArities t
   pub small : r ≤ 4608

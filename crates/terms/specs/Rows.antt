@@ -1,4 +1,5 @@
--- The variables of a rule in a table of words, and a row of a table that counts their occurrences in a term.
+-- The second step of a term's size (000, section 1.4): a rule's variables in a table of words, and a row that counts how often
+-- each occurs in the term.
 use mathlib.Core.Path.{_≡_}
 use mathlib.Core.List.{List, []}
 use mathlib.Core.Option.{some}
@@ -6,7 +7,8 @@ use Prim.Native.Nat.{ℕ, _+_, _*_, _≤_, _<_}
 use lib.ListN.{length, getD, set}
 use mathlib.Core.Bool.{true}
 use Rattle.theory.specs.Text.{Bytes, isVariable}
-use Rattle.theory.specs.Terms.{Term, readTerm, variables, occurrences}
+use Rattle.theory.specs.Terms.{Term, readTerm, variables}
+use Rattle.theory.specs.Sizes.{occurrencesIn}
 use Rattle.theory.specs.Packs.{lineLimit, variableLimit}
 use Rattle.theory.specs.Residuals.{numbered}
 use Rattle.theory.proofs.Judging.Variables.{Once}
@@ -46,27 +48,23 @@ pub data CountsOne (words : Words) (names₀ : List ℕ) (known : ℕ) (rows₀ 
   none-left : known ≡ variableLimit → StandsAt names₀ known words known → CountsOne words names₀ known rows₀ base (variableLimit + 1) names₀ rows₀
   past : variableLimit < known → CountsOne words names₀ known rows₀ base (variableLimit + 1) names₀ rows₀
 
--- the row at base counts the occurrences of these variables in a list, with zeros after
-pub record RowCounts (rows : List ℕ) (base : ℕ) (all xs : List Bytes) : Type 0 where
-  pub counts : (i : ℕ) → i < length all → getD rows (base + 1 + i) 0 ≡ occurrences (getD all i []) xs
-  pub zeros : (i : ℕ) → i < variableLimit → length all ≤ i → getD rows (base + 1 + i) 0 ≡ 0
+-- the row at base has, for each of these variables, how often it occurs in a term, with zeros after the last
+pub record OccurrencesStand (rows : List ℕ) (base : ℕ) (xs : List Bytes) (t : Term) : Type 0 where
+  pub counts : (i : ℕ) → i < length xs → getD rows (base + 1 + i) 0 ≡ occurrencesIn t (getD xs i [])
+  pub zeros : (i : ℕ) → i < variableLimit → length xs ≤ i → getD rows (base + 1 + i) 0 ≡ 0
 
--- what counting leaves, where the table held the variables `seen`
-pub record CountedFrom (field : Bytes) (seen : List Bytes) (base r : ℕ) (names : List ℕ) (rows : List ℕ) (t : Term) : Type 0 where
+-- the table holds the variables of a term after those seen before, and r is how many they are; or they are too many
+pub record VariablesTabled (seen : List Bytes) (t : Term) (r : ℕ) (names : List ℕ) : Type 0 where
   pub few : length (numbered seen (variables t)) ≤ variableLimit → r ≡ length (numbered seen (variables t))
   pub many : variableLimit < length (numbered seen (variables t)) → r ≡ variableLimit + 1
   pub holds : r ≤ variableLimit → Holds names (numbered seen (variables t))
-  pub row : r ≤ variableLimit → RowCounts rows base (numbered seen (variables t)) (variables t)
 
+-- What the second step leaves of a field that is a term, whatever variables the table held before: how often each occurs.
 pub record Counted (field : Bytes) (names₀ : List ℕ) (known : ℕ) (rows₀ : List ℕ) (base r : ℕ) (names : List ℕ) (rows : List ℕ) : Type 0 where
   pub high : r ≤ variableLimit + 1
   pub full : variableLimit < known → r ≡ variableLimit + 1
-  pub others : (i : ℕ) → (i ≤ base → getD rows i 0 ≡ getD rows₀ i 0) × (base + 17 ≤ i → getD rows i 0 ≡ getD rows₀ i 0)
-  pub size : length rows ≡ length rows₀
+  pub elsewhere : Elsewhere rows₀ base rows
   pub small : SmallRow rows base
   pub nameSize : length names ≡ length names₀
-  pub from : (seen : List Bytes) → Holds names₀ seen → length seen ≡ known → length rows₀ ≡ 1224 → (t : Term) → readTerm field ≡ some t → CountedFrom field seen base r names rows t
-
--- the same of a field that is one variable, told by its words
-pub record CountedAlone (words : Words) (names₀ : List ℕ) (known : ℕ) (rows₀ : List ℕ) (base r : ℕ) (names : List ℕ) (rows : List ℕ) : Type 0 where
-  pub is : (field : Bytes) → isVariable field ≡ true → words ≡ wordsOf field → Counted field names₀ known rows₀ base r names rows
+  pub tabled : (seen : List Bytes) → Holds names₀ seen → length seen ≡ known → length rows₀ ≡ 1224 → (t : Term) → readTerm field ≡ some t → VariablesTabled seen t r names
+  pub row : (seen : List Bytes) → Holds names₀ seen → length seen ≡ known → length rows₀ ≡ 1224 → (t : Term) → readTerm field ≡ some t → r ≤ variableLimit → OccurrencesStand rows base (numbered seen (variables t)) t

@@ -1,18 +1,22 @@
-// The sizes of terms, by the tokens read: a term's constant, how often its variables occur, and measure.
+// The sizes of terms, by the tokens read, worked out as section 1.4 of document 000 has them: first the sum of the arities,
+// then the occurrences of the variables. Every size and every coefficient comes of these two steps.
 ghost use mathlib.Core.Path.{_≡_};
+ghost use mathlib.Core.Bool.{true};
 ghost use Prim.Native.Nat.{_+_, _≤_};
 ghost use Rattle.theory.specs.Measure.{measureOf};
 ghost use Rattle.theory.specs.Answers.{measuredOf};
-ghost use Rattle.tokens.specs.TokenRows.{SmallArities, PlacesStand};
+ghost use Rattle.tokens.specs.TokenRows.{SmallArities, PlacesStand, TokensRead};
 ghost use Rattle.terms.specs.Constants.{AritiesSummed};
-ghost use Rattle.terms.specs.Rows.{Cleared, SmallRow, CountsOne, Counted, CountedAlone};
+ghost use Rattle.terms.specs.Rows.{Cleared, SmallRow, CountsOne, Counted};
+ghost use Rattle.terms.specs.TermForms.{FormTaken};
 use forms::Form;
 use theory::Measurement;
+use tokens::Tokens;
 use words::Hints;
 use words::WordTable;
 use words::Words;
 
-/// The sum of the arities of a term's symbols.
+/// The first step of section 1.4: the sum of the arities of a term's symbols. Of a ground term it is the size.
 pub fn sum_of_arities(arities: &[u8; 512], symbols: usize) -> u16
     requires { ⌜ SmallArities (now arities) symbols ⌝ }
     ensures { λ r. ⌜ AritiesSummed (now (arities .entry)) symbols r ⌝ }
@@ -95,8 +99,8 @@ fn count_variable(
     known + 1
 }
 
-/// Counts the variables of a term, by their places, into the row of a table that starts at `base`: the number at
-/// `base + 1 + i` is how often the ith variable of the table of names occurs. Variables that are not yet in that table are
+/// The second step of section 1.4: counts the occurrences of a term's variables, by their places, into the row of a table that
+/// starts at `base`. The number at `base + 1 + i` is how often the ith variable of the table of names occurs. Variables that are not yet in that table are
 /// put after the others. Gives how many are in it then, or 17 where there would be more than 16. Whatever the hints hold,
 /// the answer is right.
 pub fn count_occurrences(
@@ -114,30 +118,37 @@ pub fn count_occurrences(
 {
     clear_row(rows, base);
     let mut many = known;
-    let mut i: usize = 0;
-    while i < count {
-        let place = places[i];
+    let mut counted: usize = 0;
+    while counted < count {
+        let place = places[counted];
         let start = tokens::start_of(place);
         let end = tokens::end_of(place);
         let words = words::words_at(field, start, end);
         many = count_variable(words, names, many, hints, rows, base);
-        i += 1;
+        counted += 1;
     }
     many
 }
 
-/// As `count_occurrences`, of a field that is one variable, by its words.
-pub fn count_lone_variable(
-    words: Words,
+/// The form of a term, into the row of a table that starts at `base`: its constant by the first step, its coefficients by the
+/// second, in the order of section 1.4. Gives what the second step gives.
+pub fn form_of_term(
+    field: &[u8],
+    read: Tokens,
+    arities: &[u8; 512],
+    places: &[u16; 512],
     names: &mut WordTable,
     known: usize,
     hints: &mut Hints,
     rows: &mut Rows,
     base: usize,
 ) -> usize
-    requires { ⌜ (known ≤ 17) × (base + 17 ≤ 1224) ⌝ }
-    ensures { λ r. ⌜ CountedAlone words (now (names .entry)) known (now (rows .entry)) base r (now (names .exit)) (now (rows .exit)) ⌝ }
+    requires { ⌜ (TokensRead (now field) read (now arities) (now places)) × (read .fine ≡ true) × (known ≤ 17) × (base + 17 ≤ 1224) ⌝ }
+    ensures { λ r. ⌜ FormTaken (now (field .entry)) (now (names .entry)) known (now (rows .entry)) base r (now (names .exit)) (now (rows .exit)) ⌝ }
 {
-    clear_row(rows, base);
-    count_variable(words, names, known, hints, rows, base)
+    let constant = sum_of_arities(arities, read.symbols);
+    let count = read.variables;
+    let many = count_occurrences(field, places, count, names, known, hints, rows, base);
+    rows[base] = constant;
+    many
 }

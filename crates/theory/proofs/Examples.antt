@@ -1,7 +1,8 @@
--- The starred examples of document 01 as one table, and those of 02's 1/14, 2/14 and 3/14 as others: the definitions compute
--- every answer.
+-- The starred examples of document 01 as one table, and those of 02's 1/14, 2/14, 3/14 and 4/14 as others: the definitions
+-- compute every answer.
 use mathlib.Core.Path.{_≡_, refl, sym, ap, subst}
 use mathlib.Core.List.{List, [], _∷_, _++_, map, flatMap, flatten, List·Memᴰ·head, List·Memᴰ·eq-of-singleton}
+use mathlib.Core.Option.{Option, some, Option·map}
 use Prim.Native.Nat.{ℕ}
 use Prim.Native.Char.{code}
 use native.Mathlib.Omega.{arith}
@@ -10,7 +11,8 @@ use lib.IntN.{ℤ, pos, negsuc}
 use lib.ListN.{replicate}
 use Rattle.theory.specs.Lists.{_∈_, total, every, any, isSome, isEmpty}
 use Rattle.theory.specs.Text.{Bytes, bytes, same, among, partsAt, joined, linesOf, isNameByte, isWord, valueAfter, isDecimal, natural, negated, integer, lastDigits, decimal}
-use Rattle.theory.specs.Terms.{variable, nil, cons, arity, symbolFrom, symbolIn, tokenOf, firstTerms, after, afterAll, termsOf, theOnly, readTerm, structural, flagged, size, counted, variables, occurrences}
+use Rattle.theory.specs.Terms.{Term, variable, nil, cons, arity, symbolFrom, symbolIn, tokenOf, firstTerms, after, afterAll, termsOf, theOnly, readTerm, variables}
+use Rattle.theory.specs.Sizes.{aritiesOf, sumOfArities, occurrences, occurrencesIn, structural, flagged, constantOf, counted}
 use Rattle.theory.specs.Forms.{zeroForm, plus, times, minus, constantForm, formOf}
 use Rattle.theory.specs.Packs.{given, Predicate, Atom, Rule, textOf, fromRules, fromFacts, fromClaims, factLine, ruleLines, claimLine, headLine, key, sameKey, declaredAs, claimsOn, noClaim}
 use Rattle.theory.specs.Written.{letterOf, termsFrom, kindFrom, predicateFrom, claimFrom, atomFrom, multipliersFrom, nothing, onLast, add, write, writeAll, packOf}
@@ -39,7 +41,7 @@ pub data Answer : Type 0 where
   filed : Paged → Answer
 
 unfoldable pub answerTo : Example → Answer
-unfolding bytes same among every any partsAt joined linesOf isNameByte isWord valueAfter isDecimal natural negated integer arity symbolFrom symbolIn tokenOf firstTerms after afterAll termsOf theOnly readTerm structural flagged total flatten size counted variables occurrences zeroForm plus times minus constantForm formOf key sameKey declaredAs claimsOn letterOf termsFrom kindFrom predicateFrom claimFrom atomFrom multipliersFrom nothing onLast add write writeAll packOf weighted claimForm subgoalForms combined residual numbered atomsVariables ruleVariables residualNumbers isJustified weightedSizes isMet firstOf isSome isUnfit arityIn isGiven givenIn ruledIn isEmpty noRule lastOf fromRules fromFacts fromClaims ruleLines claimLine factLine headLine mayStand noClaim residualDue predicateTests claimTests atomTests factTests headTests subgoalTests multiplierTests endTests tests fault multiplierLines refused judge isFinished judgementOf checkOf measureTerm measureOf sizeFrom queryFrom queryOf queryFault unknownsAtMostZero knownPart isUsable numerator boundBy usableFrom impossibles smallest bounded impossibleOr reservation refusal answerOf reserveOf flatMap textOf decimal lastDigits spaces rightAligned leftAligned columns sheetLine sheetLines sheet afterVerdict sheetOf
+unfolding bytes same among every any partsAt joined linesOf isNameByte isWord valueAfter isDecimal natural negated integer arity symbolFrom symbolIn tokenOf firstTerms after afterAll termsOf theOnly readTerm structural flagged total flatten constantOf counted variables occurrences zeroForm plus times minus constantForm formOf key sameKey declaredAs claimsOn letterOf termsFrom kindFrom predicateFrom claimFrom atomFrom multipliersFrom nothing onLast add write writeAll packOf weighted claimForm subgoalForms combined residual numbered atomsVariables ruleVariables residualNumbers isJustified weightedSizes isMet firstOf isSome isUnfit arityIn isGiven givenIn ruledIn isEmpty noRule lastOf fromRules fromFacts fromClaims ruleLines claimLine factLine headLine mayStand noClaim residualDue predicateTests claimTests atomTests factTests headTests subgoalTests multiplierTests endTests tests fault multiplierLines refused judge isFinished judgementOf checkOf measureTerm measureOf sizeFrom queryFrom queryOf queryFault unknownsAtMostZero knownPart isUsable numerator boundBy usableFrom impossibles smallest bounded impossibleOr reservation refusal answerOf reserveOf flatMap textOf decimal lastDigits spaces rightAligned leftAligned columns sheetLine sheetLines sheet afterVerdict sheetOf
 answerTo (check pack area) = checked (checkOf (bytes pack) area)
 answerTo (reserve pack query) = reserved (reserveOf (bytes pack) (bytes query))
 answerTo (measure term) = sized (measureOf (bytes term))
@@ -192,3 +194,31 @@ withHeads =
 pub heads-are-met : TableMet withHeads
 unfolding answerTo
 heads-are-met = record { answers = refl; besides = (tt, (tt, (tt, (tt, (tt, (tt, (tt, (tt, (tt, tt))))))))) }
+
+-- ---- 02, 4/14: the examples of 000, section 1.4
+
+-- a term's sum of arities, and how often these variables occur in it
+unfoldable pub partsOf : String → List String → Option (List ℕ)
+partsOf term names = Option·map (λ (t : Term). sumOfArities t ∷ map (λ (x : String). occurrencesIn t (bytes x)) names) (readTerm (bytes term))
+
+-- 3 + U + V; and the two arguments of one head: 4 + V1 + 2 V2, and 0 + V1
+pub record SectionMet : Type 0 where
+  pub alone : partsOf "f/3 U V a/0" ("U" ∷ "V" ∷ []) ≡ some (3 ∷ 1 ∷ 1 ∷ [])
+  pub first : partsOf "f/3 V1 g/1 V2 V2" ("V1" ∷ "V2" ∷ []) ≡ some (4 ∷ 1 ∷ 2 ∷ [])
+  pub second : partsOf "V1" ("V1" ∷ "V2" ∷ []) ≡ some (0 ∷ 1 ∷ 0 ∷ [])
+
+pub section-is-met : SectionMet
+unfolding partsOf bytes same every partsAt isNameByte isWord valueAfter isDecimal natural arity symbolFrom symbolIn tokenOf firstTerms after afterAll termsOf theOnly readTerm aritiesOf sumOfArities total variables occurrences occurrencesIn
+section-is-met = record { alone = refl; first = refl; second = refl }
+
+-- the same sizes as check works them out, each less one more than its constant
+abbrev pub withSizes : List Row
+withSizes =
+    (check "P,p,1,R\nC,p,-4,1\nH,p,f/3 U V a/0\nM\nE\n" before gives unjustified 4 1 1 (left 14 (negsuc 0 ∷ pos 1 ∷ pos 1 ∷ [])))
+    ∷ (check "P,p,2,R\nC,p,-5,1,0\nH,p,f/3 V1 g/1 V2 V2,V1\nM\nE\n" before gives unjustified 4 1 1 (left 14 (negsuc 0 ∷ pos 1 ∷ pos 2 ∷ [])))
+    ∷ (check "P,p,2,R\nC,p,-1,0,1\nH,p,f/3 V1 g/1 V2 V2,V1\nM\nE\n" before gives unjustified 4 1 1 (left 15 (negsuc 0 ∷ pos 1 ∷ [])))
+    ∷ []
+
+pub sizes-are-met : TableMet withSizes
+unfolding answerTo
+sizes-are-met = record { answers = refl; besides = (tt, (tt, (tt, tt))) }

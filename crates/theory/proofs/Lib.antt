@@ -11,6 +11,8 @@ pub mod Soundness
 pub mod Reserving
 -- the sheet
 pub mod Sheets
+-- what sizes are
+pub mod SectionForm
 -- the demands, and what the words tell
 pub mod DemandOne
 pub mod DemandTwo

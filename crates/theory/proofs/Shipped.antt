@@ -13,7 +13,8 @@ use Rattle.groundwork.proofs.Order.{nonneg-pos}
 use Rattle.groundwork.proofs.Truth.{by-truth}
 use Rattle.theory.specs.Lists.{total, every}
 use Rattle.theory.specs.Text.{Bytes, bytes, same, partsAt, linesOf, isNameByte, isWord, valueAfter, isDecimal, natural, negated, integer}
-use Rattle.theory.specs.Terms.{Term, variable, symbol, nil, cons, arity, symbolFrom, symbolIn, tokenOf, firstTerms, after, afterAll, termsOf, theOnly, readTerm, structural, flagged, size, argumentSizes, variables, allVariables, Substitution, under, allUnder}
+use Rattle.theory.specs.Terms.{Term, variable, symbol, nil, cons, arity, symbolFrom, symbolIn, tokenOf, firstTerms, after, afterAll, termsOf, theOnly, readTerm, variables, allVariables, Substitution, under, allUnder}
+use Rattle.theory.specs.Sizes.{structural, flagged, constantOf, argumentSizes}
 use Rattle.theory.specs.Packs.{given, ruled, Claim, Atom, Rule, Pack, key, sameKey, declaredAs, claimsOn}
 use Rattle.theory.specs.Written.{letterOf, termsFrom, kindFrom, predicateFrom, claimFrom, atomFrom, multipliersFrom, nothing, onLast, add, write, writeAll, packOf}
 use Rattle.theory.specs.Facts.{Meets, weightedSizes}
@@ -79,7 +80,7 @@ absent = nexts (next zero) zero
 
 -- document 01 would take it as given
 pub absent-meets : GivenFact (packOf (bytes shipping)) absent
-unfolding bytes same arity key sameKey declaredAs claimsOn size variables allVariables structural flagged total flatten weightedSizes
+unfolding bytes same arity key sameKey declaredAs claimsOn constantOf variables allVariables structural flagged total flatten weightedSizes
 absent-meets = rw written-so (record {
   fact = record { predicate = record { name = bytes "next"; arguments = 2; kind = given }; declared = refl; full = refl; ground = refl };
   isGiven = refl;
@@ -91,7 +92,7 @@ abbrev first-size : Atom → ℕ
 first-size f = getD (argumentSizes structural (f .terms)) 0 0
 
 underivable : (f : Atom) → Derivable pack (ShippedFact pack) f → f ≡ absent → ⊥
-unfolding bytes size arity structural flagged total
+unfolding bytes constantOf arity structural flagged total
 underivable f (Derivable.isGiven shipped) is = let sizes : _≡_ {A = ℕ} 1 2 = ap first-size (sym is ∙ List·Memᴰ·eq-of-singleton (shipped .stands)) in omega arith
 underivable f (byRule r m σ below) is = let names : length (bytes "trail") ≡ 4 = ap (λ (s : Rule). length (s .head .name)) (sym (List·Memᴰ·eq-of-singleton m)) ∙ ap (λ (a : Atom). length (a .name)) is in absurd (omega arith)
 

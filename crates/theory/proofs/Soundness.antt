@@ -1,7 +1,6 @@
 -- From forms and sizes to whole derivations.
 pub mod FormValues
 pub mod Sizes
-pub mod StructuralSizes
 pub mod SubgoalForms
 pub mod Derivable
 pub mod FormBounds

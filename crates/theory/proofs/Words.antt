@@ -11,7 +11,8 @@ use lib.ListN.{length, replicate}
 use Rattle.groundwork.proofs.Truth.{by-truth, ltb-ge, or-not-left}
 use Rattle.theory.specs.Lists.{isEmpty}
 use Rattle.theory.specs.Text.{Bytes}
-use Rattle.theory.specs.Terms.{Term, readTerm, structural, size, variables}
+use Rattle.theory.specs.Terms.{Term, readTerm, variables}
+use Rattle.theory.specs.Sizes.{structural, size}
 use Rattle.theory.specs.Packs.{Atom, lineLimit}
 use Rattle.theory.specs.Written.{packOf}
 use Rattle.theory.specs.Residuals.{areaNeeded}

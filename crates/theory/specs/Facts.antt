@@ -7,7 +7,8 @@ use Prim.Native.Nat.{ℕ}
 use lib.IntN.{ℤ, pos, _+ℤ_, _*ℤ_}
 use lib.Signed.{_≤ℤ_, nonNeg}
 use Rattle.theory.specs.Lists.{_∈_, every}
-use Rattle.theory.specs.Terms.{arity, Measure, structural, argumentSizes, AllGround}
+use Rattle.theory.specs.Terms.{arity, AllGround}
+use Rattle.theory.specs.Sizes.{Measure, structural, argumentSizes}
 use Rattle.theory.specs.Packs.{Predicate, Claim, Atom, Pack, atomKey, declaredAs, claimsOn}
 
 -- What is a fact: an atom of a declared predicate, as many terms as that has arguments, and no variable in them.

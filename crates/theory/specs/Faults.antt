@@ -8,7 +8,8 @@ use lib.IntN.{ℤ}
 use lib.ListN.{length, getD, drop}
 use Rattle.theory.specs.Lists.{every, any, isEmpty, isSome, ending}
 use Rattle.theory.specs.Text.{Bytes, bytes, same, between, isName, natural, integer, fieldsOf}
-use Rattle.theory.specs.Terms.{nil, readTerm, allVariables, structural}
+use Rattle.theory.specs.Terms.{nil, readTerm, allVariables}
+use Rattle.theory.specs.Sizes.{structural}
 use Rattle.theory.specs.Packs.{Kind, given, ruled, Predicate, Claim, Atom, Rule, Pack, noClaim, headAlone, lineLimit, predicateLimit, claimLimit, ruleLimit, subgoalLimit, variableLimit, numberLimit, sameKey, keyOf, claimKey, atomKey, declaredAs, claimsOn, claimsOnAll, fromRules, fromFacts, fromClaims}
 use Rattle.theory.specs.declared.Letter.{Letter}
 use Rattle.theory.specs.declared.Letter.the-variants.{P, C, G, H, B, M, E, NoLetter}

@@ -3,7 +3,8 @@ use mathlib.Core.List.{List, [], _∷_}
 use Prim.Native.Nat.{ℕ}
 use lib.IntN.{ℤ, pos, negsuc, _+ℤ_, _*ℤ_}
 use Rattle.theory.specs.Text.{Bytes}
-use Rattle.theory.specs.Terms.{Term, Measure, size, counted, occurrences}
+use Rattle.theory.specs.Terms.{Term}
+use Rattle.theory.specs.Sizes.{Measure, constantOf, coefficientOf}
 
 -- A form. Its coefficient for a variable goes by the variable's name; the residual area lists them by number (Residuals).
 pub record Form : Type 0 where
@@ -26,9 +27,9 @@ minus f g = plus f (times (negsuc 0) g)
 unfoldable pub constantForm : ℤ → Form
 constantForm c = record { constant = c; coefficient = λ x. pos 0 }
 
--- A term's size by a measure, as a form: what its symbols count, and how often each variable counts.
+-- A term's size by a measure, as a form: both parts together.
 unfoldable pub formOf : Measure → Term → Form
-formOf m t = record { constant = pos (size m t); coefficient = λ x. pos (occurrences x (counted m t)) }
+formOf m t = record { constant = pos (constantOf m t); coefficient = λ x. pos (coefficientOf m t x) }
 
 -- a form's value where each of some variables has a size
 unfoldable pub valueAt : (Bytes → ℕ) → List Bytes → Form → ℤ

@@ -2,6 +2,7 @@
 pub mod Lists
 pub mod Text
 pub mod Terms
+pub mod Sizes
 pub mod Forms
 pub mod Packs
 pub mod Written

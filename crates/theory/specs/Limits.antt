@@ -10,7 +10,8 @@ use lib.ListN.{length, getD}
 use lib.Signed.{_≤ℤ_}
 use Rattle.theory.specs.Lists.{_∈_, every}
 use Rattle.theory.specs.Text.{Bytes, isName}
-use Rattle.theory.specs.Terms.{arity, AllWellFormed, AllGround, structural}
+use Rattle.theory.specs.Terms.{arity, AllWellFormed, AllGround}
+use Rattle.theory.specs.Sizes.{structural}
 use Rattle.theory.specs.Forms.{Form}
 use Rattle.theory.specs.Packs.{given, ruled, Predicate, Claim, Atom, Rule, Pack, opening, textLimit, lineLimit, predicateLimit, claimLimit, ruleLimit, subgoalLimit, variableLimit, numberLimit, Key, keyOf, claimKey, atomKey, declaredAs, claimsOn, claimsOnAll, packLines, written, noClaim}
 use Rattle.theory.specs.Residuals.{residual, ruleVariables, areaNeeded}

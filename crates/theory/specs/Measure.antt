@@ -4,7 +4,8 @@ use mathlib.Core.Option.{Option, some, none}
 use Prim.Native.Nat.{ℕ}
 use Rattle.theory.specs.Lists.{isEmpty}
 use Rattle.theory.specs.Text.{Bytes}
-use Rattle.theory.specs.Terms.{Term, readTerm, structural, size as sizeOf, variables}
+use Rattle.theory.specs.Terms.{Term, readTerm, variables}
+use Rattle.theory.specs.Sizes.{structural, size as sizeOf}
 use Rattle.theory.specs.Faults.{isUnfit}
 
 pub record Measured : Type 0 where

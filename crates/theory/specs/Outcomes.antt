@@ -6,7 +6,7 @@ use Prim.Native.Nat.{ℕ, _+_, _-_, _≤_, _<_}
 use lib.IntN.{ℤ}
 use lib.ListN.{length, getD, drop}
 use Rattle.theory.specs.Text.{Bytes, linesOf, fieldsOf}
-use Rattle.theory.specs.Terms.{structural}
+use Rattle.theory.specs.Sizes.{structural}
 use Rattle.theory.specs.Packs.{Rule, Pack, textLimit, noClaim, atomKey, claimsOn}
 use Rattle.theory.specs.Written.{Written, nothing, write, writeAll, packOf, multipliersFrom}
 use Rattle.theory.specs.Residuals.{areaNeeded, residual, ruleVariables, residualNumbers}

@@ -1,14 +1,16 @@
 -- The three demands, as statements about what check and reserve return, each with its premises; and what the calls' own
--- answers and words tell. Proved in proofs/DemandOne, DemandTwo, DemandThree, Words.
+-- answers and words tell. Proved in proofs/DemandOne, DemandTwo, DemandThree, Words; what sizes are, in proofs/SectionForm.
 use mathlib.Core.Path.{_≡_}
 use mathlib.Core.Logic.{_↔_}
 use mathlib.Core.List.{List}
 use Prim.Native.Nat.{ℕ, _+_, _≤_}
 use Prim.Native.Char.{code}
-use lib.IntN.{ℤ}
+use lib.IntN.{ℤ, pos}
 use lib.ListN.{length, drop}
 use Rattle.theory.specs.Text.{Bytes, linesOf}
-use Rattle.theory.specs.Terms.{structural}
+use Rattle.theory.specs.Terms.{Term}
+use Rattle.theory.specs.Sizes.{sumOfArities, occurrencesIn, structural, constantOf, coefficientOf}
+use Rattle.theory.specs.Forms.{formOf}
 use Rattle.theory.specs.Packs.{Atom}
 use Rattle.theory.specs.Written.{packOf}
 use Rattle.theory.specs.Residuals.{areaNeeded}
@@ -31,6 +33,15 @@ use Rattle.theory.specs.declared.Reservation.{Reservation}
 use Rattle.theory.specs.declared.Reservation.the-variants.{Bounded, Impossible, PackRefused, QueryRefused}
 use Rattle.theory.specs.Facts.{MeetsAll}
 use Rattle.theory.specs.Derivations.{GivenFact, ShippedFact, Derivable}
+
+-- ## Sizes (02, 4/14)
+
+-- By the structural measure a term's form is what 000, section 1.4 makes of the term: the first part is the sum of the
+-- arities of its symbols, the second the number of occurrences of each variable, and both together are the form.
+pub record SectionForm (t : Term) : Type 0 where
+  pub first : constantOf structural t ≡ sumOfArities t
+  pub second : (x : Bytes) → coefficientOf structural t x ≡ occurrencesIn t x
+  pub both : formOf structural t ≡ record { constant = pos (sumOfArities t); coefficient = λ x. pos (occurrencesIn t x) }
 
 -- ## Demand 1
 

@@ -7,7 +7,7 @@ use lib.IntN.{pos, natAbs}
 use lib.ListN.{take}
 use Rattle.theory.specs.Lists.{_∈_}
 use Rattle.theory.specs.Text.{Bytes, linesOf, fieldsOf}
-use Rattle.theory.specs.Terms.{structural}
+use Rattle.theory.specs.Sizes.{structural}
 use Rattle.theory.specs.Forms.{Form, times}
 use Rattle.theory.specs.Packs.{Claim, Atom, Rule, atomKey, claimsOn}
 use Rattle.theory.specs.declared.Letter.the-variants.{M}

@@ -11,7 +11,7 @@ use lib.ListN.{length, getD, drop}
 use lib.Signed.{ltZ, leZ}
 use Rattle.theory.specs.Lists.{every, isSome}
 use Rattle.theory.specs.Text.{Bytes, bytes, same, isName, natural, fieldsOf}
-use Rattle.theory.specs.Terms.{Measure, argumentSizes}
+use Rattle.theory.specs.Sizes.{Measure, argumentSizes}
 use Rattle.theory.specs.Packs.{Claim, Atom, Pack, Key, key, atomKey, declaredAs, claimsOn}
 use Rattle.theory.specs.Written.{field, packOf}
 use Rattle.theory.specs.Faults.{test, firstOf, isUnfit, arityIn}

@@ -7,7 +7,8 @@ use lib.ListN.{take, replicate}
 use lib.Signed.{nonNeg}
 use Rattle.theory.specs.Lists.{every}
 use Rattle.theory.specs.Text.{Bytes, among}
-use Rattle.theory.specs.Terms.{Terms, nil, cons, Measure, allVariables}
+use Rattle.theory.specs.Terms.{Terms, nil, cons, allVariables}
+use Rattle.theory.specs.Sizes.{Measure}
 use Rattle.theory.specs.Forms.{Form, zeroForm, plus, times, minus, constantForm, formOf}
 use Rattle.theory.specs.Packs.{Claim, Atom, variableLimit, claimsOn, atomKey}
 

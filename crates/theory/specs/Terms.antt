@@ -1,13 +1,11 @@
--- Document 01, "Terms and their size": terms, how they are written and read, ground terms, sizes by a measure, substitutions.
+-- Document 01, "Terms and their size": terms, how they are written and read, ground terms, substitutions. Their sizes are in Sizes.
 use mathlib.Core.Path.{_≡_}
-use mathlib.Core.Bool.{Bool, true, cond}
-use mathlib.Core.List.{List, [], _∷_, _++_, flatten}
+use mathlib.Core.Bool.{true, cond}
+use mathlib.Core.List.{List, [], _∷_, _++_}
 use mathlib.Core.Option.{Option, some, none, Option·map}
-use Prim.Native.Nat.{ℕ, zero, suc, _+_, _≤_}
+use Prim.Native.Nat.{ℕ, zero, suc, _≤_}
 use Prim.Native.Char.{code}
-use lib.ListN.{replicate}
-use Rattle.theory.specs.Lists.{total}
-use Rattle.theory.specs.Text.{Bytes, same, partsAt, joined, isName, isVariable, natural, decimal}
+use Rattle.theory.specs.Text.{Bytes, partsAt, joined, isName, isVariable, natural, decimal}
 
 -- A term: a variable by its name, or a symbol by its name with its arguments. A symbol's arity is their number.
 mutual
@@ -102,53 +100,6 @@ theOnly (some (cons t (cons u ts))) = none
 -- The term that a field writes, nothing left over; or the field is no term.
 unfoldable pub readTerm : Bytes → Option Term
 readTerm field = theOnly (termsOf (partsAt (code " ") field))
-
--- ## Sizes (000, section 1.4)
-
--- what a symbol counts in a size: a number of its own, and which of its arguments
-pub record Share : Type 0 where
-  pub constant : ℕ
-  pub flags : List Bool
-
--- A measure gives the share of each symbol, by its name and arity.
-abbrev pub Measure : Type 0
-Measure = Bytes → ℕ → Share
-
--- The structural measure, by which document 01 takes all sizes: a symbol counts its arity and every argument.
-unfoldable pub structural : Measure
-structural name k = record { constant = k; flags = replicate k true }
-
--- those of some values that are flagged
-unfoldable pub flagged : {A : Type 0} → List Bool → List A → List A
-flagged [] values = []
-flagged (flag ∷ flags) [] = []
-flagged (flag ∷ flags) (v ∷ values) = cond flag (v ∷ flagged flags values) (flagged flags values)
-
--- What the symbols of a term count (structurally, the sum of their arities): the size of a ground term, and the constant
--- of any term's size. And the sizes of arguments: si is the size of argument i.
-unfoldable mutual
-  pub size : Measure → Term → ℕ
-  size m (variable x) = 0
-  size m (symbol f ts) = m f (arity ts) .constant + total (flagged (m f (arity ts) .flags) (argumentSizes m ts))
-
-  pub argumentSizes : Measure → Terms → List ℕ
-  argumentSizes m nil = []
-  argumentSizes m (cons t ts) = size m t ∷ argumentSizes m ts
-
--- The variables that count in a term's size as they occur, from left to right (structurally, all of them).
-unfoldable mutual
-  pub counted : Measure → Term → List Bytes
-  counted m (variable x) = x ∷ []
-  counted m (symbol f ts) = flatten (flagged (m f (arity ts) .flags) (argumentsCounted m ts))
-
-  pub argumentsCounted : Measure → Terms → List (List Bytes)
-  argumentsCounted m nil = []
-  argumentsCounted m (cons t ts) = counted m t ∷ argumentsCounted m ts
-
--- how often a variable stands in a list of them
-unfoldable pub occurrences : Bytes → List Bytes → ℕ
-occurrences x [] = 0
-occurrences x (y ∷ ys) = cond (same x y) (suc (occurrences x ys)) (occurrences x ys)
 
 -- ## Variables, ground terms, substitutions
 

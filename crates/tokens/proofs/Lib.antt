@@ -8,7 +8,8 @@ pub mod TokenEnds
 pub mod NextTokens
 pub mod FirstTerms
 pub mod Scan
--- a term's size and variables as sums over its tokens
-pub mod TokenSums
-pub mod Totals
+-- a term's arities and variables as those of its tokens
+pub mod TermTokens
 pub mod TokenLoop
+-- an argument that is empty, or begins with a capital
+pub mod LoneVariables

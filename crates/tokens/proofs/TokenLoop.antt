@@ -9,9 +9,9 @@ use native.Mathlib.Omega.{arith}
 use borrow.Author.Count.{below-more}
 use lib.Dec.{eqb, ltb}
 use lib.ListN.{length, getD, take, drop, set, length-set, length-map}
-use lib.Seq.{getD-set-same, getD-set-other, take-set-le, take-suc-set, length-take-le}
+use lib.Seq.{getD-set-same, getD-set-other, take-suc-set, length-take-le}
 use Rattle.groundwork.proofs.Truth.{never-both, lt-ltb, ge-ltb}
-use Rattle.theory.specs.Lists.{isSome, total}
+use Rattle.theory.specs.Lists.{isSome}
 use Rattle.theory.specs.Text.{Bytes, partsAt, isWord, isVariable}
 use Rattle.theory.specs.Terms.{noToken, symbolIn, tokenOf}
 use Rattle.theory.specs.Faults.{isTerm}
@@ -24,14 +24,13 @@ use Rattle.tokens.specs.declared.Tokens.{Tokens}
 use Rattle.tokens.specs.TokenRows.{standingAt, VariableAt, TokensRead}
 use Rattle.tokens.proofs.TokenKinds.{symbol-token}
 use Rattle.tokens.proofs.Scan.{scan, scan-unwanted, scan-no-token, scan-takes-variable, scan-takes-symbol, scan-end, scan-is-term}
-use Rattle.tokens.proofs.TokenSums.{constants, variableTokens, constants-symbol, constants-variable, variable-first, other-first, token-sums}
-use Rattle.tokens.proofs.Totals.{total-more}
+use Rattle.tokens.proofs.TermTokens.{tokenArities, variableTokens, arities-symbol, arities-variable, variable-first, other-first, term-tokens}
 use Rattle.tokens.proofs.NextTokens.{NoToken, SymbolFound, VariableFound}
 
 -- what the rows hold, and what is to come
 pub record Reading (field : Bytes) (arities places : List ℕ) (wanted symbols variables from : ℕ) : Type 0 where
   pub rest : scan wanted (partsFrom 32 field from) ≡ isTerm field
-  pub sum : total (take symbols arities) + constants (partsFrom 32 field from) ≡ constants (partsAt 32 field)
+  pub numbers : take symbols arities ++ tokenArities (partsFrom 32 field from) ≡ tokenArities (partsAt 32 field)
   pub all : map (standingAt field) (take variables places) ++ variableTokens (partsFrom 32 field from) ≡ variableTokens (partsAt 32 field)
   pub digits : (i : ℕ) → i < symbols → getD arities i 0 ≤ 9
   pub each : (i : ℕ) → i < variables → VariableAt field (getD places i 0)
@@ -42,11 +41,10 @@ pub record Reading (field : Bytes) (arities places : List ℕ) (wanted symbols v
   pub high : from ≤ length field + 1
 
 pub reading-none : (field : Bytes) (arities places : List ℕ) → length arities ≡ 512 → length places ≡ 512 → Reading field arities places 1 0 0 0
-unfolding total
 reading-none field arities places arity-size place-size =
     record {
       rest = ap (scan 1) (parts-all 32 field) ∙ scan-is-term field;
-      sum = omega (arith, ap constants (parts-all 32 field));
+      numbers = ap tokenArities (parts-all 32 field);
       all = ap variableTokens (parts-all 32 field);
       digits = λ i h. absurd (omega arith);
       each = λ i h. absurd (omega arith);
@@ -75,7 +73,7 @@ unfolding tokenOf isWord partsAt symbolIn
 empty-no-token = refl
 
 module _ (field : Bytes) (arities places : List ℕ) (wanted symbols variables from : ℕ) (reading : Reading field arities places wanted symbols variables from) where
-  refused : false ≡ isTerm field → (r : Tokens) → r .fine ≡ false → TokensRead field r arities places
+  pub refused : false ≡ isTerm field → (r : Tokens) → r .fine ≡ false → TokensRead field r arities places
   unfolding isSome
   refused none r h = record { fine = h ∙ none; aritySize = reading .aritySize; placeSize = reading .placeSize; stand = λ k. never-both k h; many = λ t e. never-both (ap isSome e) (sym none) }
 
@@ -108,16 +106,11 @@ module _ (field : Bytes) (arities places : List ℕ) (wanted symbols variables f
           let step : partsFrom 32 field from ≡ w ∷ later = parts-step 32 field from (e + 2) near (symbol .found) ∙ ap (λ (n : ℕ). w ∷ partsFrom 32 field n) end in
           let fits : symbols < 512 = omega (arith, reading .room) in
           let here : getD (set arities symbols arity) symbols 0 ≡ arity = getD-set-same arities symbols arity 0 (omega (arith, reading .aritySize)) in
+          let done : List ℕ = take symbols arities in
+          let longer : take (symbols + 1) (set arities symbols arity) ≡ done ++ (arity ∷ []) = rw (add-one symbols) (take-suc-set arities symbols arity (omega (arith, reading .aritySize))) in
           record {
             rest = rw same (sym (scan-takes-symbol w later wanted (symbol .name) arity (omega arith) (symbol .read)) ∙ ap (scan wanted) (sym step) ∙ reading .rest);
-            sum = omega (
-              arith,
-              reading .sum,
-              ap constants step,
-              constants-symbol w later (symbol .name) arity (symbol .read),
-              total-more (set arities symbols arity) symbols,
-              ap total (take-set-le symbols arities symbols arity (omega arith)),
-            );
+            numbers = ap (λ (l : List ℕ). l ++ tokenArities later) longer ∙ append-assoc done (arity ∷ []) (tokenArities later) ∙ ap (λ (l : List ℕ). done ++ l) (sym (arities-symbol w later (symbol .name) arity (symbol .read)) ∙ ap tokenArities (sym step)) ∙ reading .numbers;
             all = ap (λ (l : List Bytes). map (standingAt field) (take variables places) ++ l) (sym (other-first w later (symbol-token w (symbol .name) arity (symbol .read))) ∙ ap variableTokens (sym step)) ∙ reading .all;
             digits = below-more (λ (i : ℕ). getD (set arities symbols arity) i 0 ≤ 9) symbols (λ i h. rw (getD-set-other arities symbols i arity 0 (λ e. omega arith)) (reading .digits i h)) (omega (arith, symbol .few));
             each = reading .each;
@@ -140,7 +133,7 @@ module _ (field : Bytes) (arities places : List ℕ) (wanted symbols variables f
           rw (add-one variables, take-suc-set places variables place (omega (arith, reading .placeSize)), map-append, variable .same) in
           record {
             rest = sym (scan-takes-variable w later wanted (omega arith) (token-of-variable w proper)) ∙ ap (scan wanted) (sym step) ∙ reading .rest;
-            sum = omega (arith, reading .sum, ap constants step, constants-variable w later (token-of-variable w proper));
+            numbers = ap (λ (l : List ℕ). take symbols arities ++ l) (sym (arities-variable w later (token-of-variable w proper)) ∙ ap tokenArities (sym step)) ∙ reading .numbers;
             all = ap (λ (l : List Bytes). l ++ variableTokens later) longer ∙ append-assoc done (w ∷ []) (variableTokens later) ∙ ap (λ (l : List Bytes). done ++ l) (sym (variable-first w later proper) ∙ ap variableTokens (sym step)) ∙ reading .all;
             digits = reading .digits;
             each =
@@ -157,7 +150,7 @@ module _ (field : Bytes) (arities places : List ℕ) (wanted symbols variables f
   -- ---- after the last token
 
   pub read-all : length field ≤ 1024 → length field ≤ from → TokensRead field record { symbols = symbols; variables = variables; fine = eqb wanted 0 && ltb (length field) from } arities places
-  unfolding variableTokens constants
+  unfolding variableTokens tokenArities
   read-all short past = by (decLt (length field) from)
     where
       by : Dec (length field < from) → TokensRead field record { symbols = symbols; variables = variables; fine = eqb wanted 0 && ltb (length field) from } arities places
@@ -171,10 +164,10 @@ module _ (field : Bytes) (arities places : List ℕ) (wanted symbols variables f
             aritySize = reading .aritySize;
             placeSize = reading .placeSize;
             stand = λ _. (
-              record { digits = record { few = omega arith; small = reading .digits }; sum = λ t e. omega (arith, reading .sum, ap constants none, token-sums field t e .constant) },
-              record { few = omega arith; wide = reading .placeSize; each = reading .each; all = λ t e. sym (found ∙ token-sums field t e .names) },
+              record { digits = record { few = omega arith; small = reading .digits }; all = λ t e. sym (term-tokens field t e .numbers) ∙ sym (sym (append-nil _) ∙ rw none at (reading .numbers)) },
+              record { few = omega arith; wide = reading .placeSize; each = reading .each; all = λ t e. sym (found ∙ term-tokens field t e .names) },
             );
-            many = λ t e. sym (ap length (sym (token-sums field t e .names)) ∙ many);
+            many = λ t e. sym (ap length (sym (term-tokens field t e .names)) ∙ many);
           }
       by (no ahead) =
           let at-end : from ≤ length field = omega arith in

@@ -1,13 +1,13 @@
--- A term's tokens read once, into two rows by which the readers after it go on: the arities of its symbols and the places of its variables.
+-- A term's tokens read once, into two rows for the two steps of its size: the arities of its symbols and the places of its variables.
 use mathlib.Core.Path.{_≡_}
 use mathlib.Core.Bool.{Bool, true, false}
 use mathlib.Core.List.{List, map}
 use mathlib.Core.Option.{some}
 use Prim.Native.Nat.{ℕ, _+_, _/_, _%_, _≤_, _<_}
 use lib.ListN.{length, getD, take}
-use Rattle.theory.specs.Lists.{total}
 use Rattle.theory.specs.Text.{Bytes, isDigit, isVariable}
-use Rattle.theory.specs.Terms.{Term, readTerm, structural, size, variables}
+use Rattle.theory.specs.Terms.{Term, readTerm, variables}
+use Rattle.theory.specs.Sizes.{aritiesOf}
 use Rattle.theory.specs.Faults.{isTerm}
 use Rattle.text.specs.Scans.{part}
 use Rattle.tokens.specs.declared.Tokens.{Tokens}
@@ -47,10 +47,10 @@ pub record SmallArities (arities : List ℕ) (symbols : ℕ) : Type 0 where
   pub few : symbols ≤ 512
   pub small : (i : ℕ) → i < symbols → getD arities i 0 ≤ 9
 
--- the first arities are those of the field's symbols: their sum is the term's size
+-- the first arities are those of the field's symbols, in order
 pub record SymbolsStand (field : Bytes) (arities : List ℕ) (symbols : ℕ) : Type 0 where
   pub digits : SmallArities arities symbols
-  pub sum : (t : Term) → readTerm field ≡ some t → total (take symbols arities) ≡ size structural t
+  pub all : (t : Term) → readTerm field ≡ some t → aritiesOf t ≡ take symbols arities
 
 -- at the first places stand the field's variables, in order
 pub record PlacesStand (field : Bytes) (places : List ℕ) (count : ℕ) : Type 0 where
@@ -65,3 +65,7 @@ pub record TokensRead (field : Bytes) (r : Tokens) (arities places : List ℕ) :
   pub placeSize : length places ≡ 512
   pub stand : r .fine ≡ true → SymbolsStand field arities (r .symbols) × PlacesStand field places (r .variables)
   pub many : (t : Term) → readTerm field ≡ some t → r .variables ≡ length (variables t)
+
+-- the same of a field that begins with a capital: there are no symbols to read
+pub record VariableRead (field : Bytes) (r : Tokens) (places : List ℕ) : Type 0 where
+  pub is : (arities : List ℕ) → length arities ≡ 512 → TokensRead field r arities places

@@ -2,10 +2,10 @@
 ghost use mathlib.Core.Path.{_≡_};
 ghost use mathlib.Core.Bool.{false};
 ghost use Prim.Native.Nat.{_+_, _-_, _*_, _≤_, _<_};
-ghost use lib.ListN.{length};
+ghost use lib.ListN.{length, getD};
 ghost use Rattle.theory.specs.Text.{isDigit};
-ghost use Rattle.words.specs.Classes.{Classes};
-ghost use Rattle.tokens.specs.TokenRows.{EndsAt, ArityAt, Decides, TokensRead, startOf, endOf};
+ghost use Rattle.words.specs.Classes.{Class, Classes};
+ghost use Rattle.tokens.specs.TokenRows.{EndsAt, ArityAt, Decides, VariableRead, TokensRead, startOf, endOf};
 
 fn is_digit(b: u8) -> bool
     ensures { λ r. ⌜ r ≡ isDigit b ⌝ }
@@ -160,4 +160,43 @@ pub fn read_tokens(
         variables,
         fine: (wanted == 0) & (field.len() < from),
     }
+}
+
+/// As `read_tokens`, of a field that begins with a capital: it is one variable or no term.
+fn read_variable(field: &[u8], classes: &[u8; 256], places: &mut [u16; 512]) -> Tokens
+    requires { ⌜ (0 < length (now field)) × (length (now field) ≤ 1024) × (Class (getD (now field) 0 0) 2) × Classes (now classes) × (length (now places) ≡ 512) ⌝ }
+    ensures { λ r. ⌜ VariableRead (now (field .entry)) r (now (places .exit)) ⌝ }
+{
+    let end = words::word_end(field, 1, classes);
+    if end < field.len() {
+        return no_term();
+    }
+    if 16 < end {
+        return no_term();
+    }
+    places[0] = place_of(0, end);
+    Tokens {
+        symbols: 0,
+        variables: 1,
+        fine: true,
+    }
+}
+
+/// As `read_tokens`, of an argument of an atom: most are one variable.
+pub fn read_argument(
+    field: &[u8],
+    classes: &[u8; 256],
+    arities: &mut [u8; 512],
+    places: &mut [u16; 512],
+) -> Tokens
+    requires { ⌜ (length (now field) ≤ 1024) × Classes (now classes) × (length (now arities) ≡ 512) × (length (now places) ≡ 512) ⌝ }
+    ensures { λ r. ⌜ TokensRead (now (field .entry)) r (now (arities .exit)) (now (places .exit)) ⌝ }
+{
+    if field.len() == 0 {
+        return no_term();
+    }
+    if words::class_of(field[0], classes) == 2 {
+        return read_variable(field, classes, places);
+    }
+    read_tokens(field, classes, arities, places)
 }

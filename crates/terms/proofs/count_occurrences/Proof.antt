@@ -6,10 +6,10 @@ use Rattle.terms.proofs.count_occurrences.Statement.{statement}
 use Rattle.terms.proofs.count_occurrences.Tie as tie
 
 abbrev Inv-loop : tie.InvT-loop
-Inv-loop field places count names₀ known hints₀ rows₀ base many₀ i₀ names hints rows many i = Counting field places count names₀ known rows₀ base i many names rows
+Inv-loop field places count names₀ known hints₀ rows₀ base many₀ counted₀ names hints rows many counted = Counting field places count names₀ known rows₀ base counted many names rows
 
 abbrev μ-loop : tie.MeasureT-loop
-μ-loop field places count names₀ known hints₀ rows₀ base many₀ i₀ names hints rows many i = count - i
+μ-loop field places count names₀ known hints₀ rows₀ base many₀ counted₀ names hints rows many counted = count - counted
 
 loop-holds : tie.Need-loop-holds Inv-loop μ-loop
 loop-holds c = search (needs, counting-none)

@@ -9,7 +9,8 @@ use lib.ListN.{length, length-drop, drop}
 use lib.Seq.{drop-cons}
 use Rattle.theory.specs.Lists.{every, isSome, isEmpty, ending}
 use Rattle.theory.specs.Text.{Bytes, isName}
-use Rattle.theory.specs.Terms.{AllWellFormed, allVariables, structural}
+use Rattle.theory.specs.Terms.{AllWellFormed, allVariables}
+use Rattle.theory.specs.Sizes.{structural}
 use Rattle.theory.specs.Packs.{ruled, Claim, Atom, Pack, ruleLimit, subgoalLimit, variableLimit, atomKey, declaredAs, termFields, factLine, headLine, subgoalLine, onSubgoals, onFacts, onRules, headAlone, fromRules}
 use Rattle.theory.specs.declared.Letter.{Letter}
 use Rattle.theory.specs.declared.Letter.the-variants.{G, H, B}

@@ -8,7 +8,7 @@ use lib.Dec.{leb}
 use lib.ListN.{length}
 use Rattle.theory.specs.Lists.{isEmpty, _∈_}
 use Rattle.theory.specs.Text.{Bytes, fieldsOf}
-use Rattle.theory.specs.Terms.{Measure, structural}
+use Rattle.theory.specs.Sizes.{Measure, structural}
 use Rattle.theory.specs.Packs.{Claim, Atom, Pack, ruleLimit, atomKey, declaredAs, claimsOn, claimsOnAll}
 use Rattle.theory.specs.declared.Letter.{Letter}
 use Rattle.theory.specs.declared.Letter.the-variants.{H, B, M}

@@ -7,7 +7,7 @@ use Prim.Native.Nat.{ℕ, _≤_, _<_}
 use lib.ListN.{length}
 use Rattle.theory.specs.Lists.{_∈_, ending}
 use Rattle.theory.specs.Text.{Bytes}
-use Rattle.theory.specs.Terms.{structural}
+use Rattle.theory.specs.Sizes.{structural}
 use Rattle.theory.specs.Packs.{ruled, Predicate, Claim, Atom, Rule, Pack, predicateLimit, claimLimit, ruleLimit, subgoalLimit, variableLimit, keyOf, claimKey, declaredAs, claimsOn, predicateLine, claimLine, factLine, headLine, subgoalLine, multiplierLine, onSubgoals, onMultipliers, onPredicates, onClaims, onFacts, onRules, opening, headAlone, atomKey, fromRules, fromFacts, fromClaims}
 use Rattle.theory.specs.Written.{onLast}
 use Rattle.theory.specs.Residuals.{ruleVariables}

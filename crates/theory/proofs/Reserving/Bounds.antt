@@ -11,7 +11,8 @@ use lib.Signed.{_≤ℤ_, leZ, ltZ, leZ-yes, ≤ℤ-refl}
 use Rattle.groundwork.proofs.Truth.{ltb-lt, holds-from, and-left, and-right}
 use Rattle.groundwork.proofs.Difference.{to-diff, by-naturals, by-diff₂, by-diff₃}
 use Rattle.groundwork.proofs.Order.{≤ℤ-trans, +ℤ-mono, nonneg-rest, nonneg-pos, mul-nonneg, floor-bound, never-below}
-use Rattle.theory.specs.Terms.{arity, Measure, argumentSizes}
+use Rattle.theory.specs.Terms.{arity}
+use Rattle.theory.specs.Sizes.{Measure, argumentSizes}
 use Rattle.theory.specs.Packs.{Claim, Atom}
 use Rattle.theory.specs.Reserve.{Query, sizeGiven, unknownsAtMostZero, knownPart, askedNumber, isUsable, numerator, boundBy, sizeAt}
 use Rattle.theory.specs.Facts.{weightedSizes, Meets}

@@ -11,7 +11,7 @@ use Rattle.theory.specs.Reserve.{Query, queryKey, sizeAt, HasKnownSizes}
 use Rattle.theory.specs.SmallestBound.{UsableClaim, BoundGiven, ImpossibleBy}
 use Rattle.theory.specs.Limits.{ClaimFits}
 use Rattle.theory.specs.Facts.{IsFact, MeetsAll}
-use Rattle.theory.specs.Terms.{structural}
+use Rattle.theory.specs.Sizes.{structural}
 use Rattle.theory.proofs.Reserving.Bounds.{Bounding, numerator-nonneg, asked-bounded}
 use Rattle.theory.proofs.Judging.Keys.{on-member}
 use Rattle.theory.proofs.Reserving.UsableClaims.{numbered-member}

@@ -8,7 +8,8 @@ use Rattle.groundwork.proofs.Order.{nonneg-pos, add-nonneg, mul-nonneg, nonneg-
 use Rattle.groundwork.proofs.Lists.{member-getD}
 use Rattle.theory.specs.Lists.{_∈_}
 use Rattle.theory.specs.Text.{Bytes}
-use Rattle.theory.specs.Terms.{Measure, structural, size, Substitution}
+use Rattle.theory.specs.Terms.{Substitution}
+use Rattle.theory.specs.Sizes.{Measure, structural, size}
 use Rattle.theory.specs.Forms.{Form, valueAt}
 use Rattle.theory.specs.Packs.{Claim, Atom, Rule, Pack, atomKey, claimsOn, noClaim}
 use Rattle.theory.specs.Residuals.{subgoalForms, combined, residual, ruleVariables}

@@ -11,7 +11,8 @@ use Rattle.groundwork.proofs.Truth.{by-truth}
 use Rattle.groundwork.proofs.Magnitude.{natAbs-add, natAbs-mul}
 use Rattle.theory.specs.Lists.{_∈_, total}
 use Rattle.theory.specs.Text.{Bytes, same}
-use Rattle.theory.specs.Terms.{Term, Terms, variable, symbol, nil, cons, arity, tokens, allTokens, WellFormed, AllWellFormed, Measure, structural, flagged, size, argumentSizes, counted, argumentsCounted, occurrences}
+use Rattle.theory.specs.Terms.{Term, Terms, variable, symbol, nil, cons, arity, tokens, allTokens, WellFormed, AllWellFormed}
+use Rattle.theory.specs.Sizes.{Measure, structural, flagged, size, argumentSizes, counted, argumentsCounted, occurrences, constantOf}
 use Rattle.theory.specs.Forms.{Form, zeroForm, plus, times, minus, constantForm, formOf}
 use Rattle.theory.specs.Packs.{Claim, Atom}
 use Rattle.theory.specs.Residuals.{weighted, claimForm, subgoalForms, combined, residual}
@@ -73,7 +74,7 @@ structural-moderate = record { positive = omega arith; small = λ f k h. h }
 
 module _ (share : ℕ) (m : Measure) (moderate : Moderate share m) where
   mutual
-    unfolding size counted tokens flagged total arity
+    unfolding constantOf counted tokens flagged total arity
 
     pub size-of-tokens : (t : Term) → WellFormed t → size m t ≤ share * length (tokens t)
     size-of-tokens (variable x) h = omega arith

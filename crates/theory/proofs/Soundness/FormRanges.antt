@@ -12,7 +12,8 @@ use Rattle.groundwork.proofs.Truth.{not-true}
 use Rattle.groundwork.proofs.Lists.{flatMap-member, length-flatMap, getD-member}
 use Rattle.theory.specs.Lists.{_∈_}
 use Rattle.theory.specs.Text.{Bytes, fieldsOf}
-use Rattle.theory.specs.Terms.{AllWellFormed, structural}
+use Rattle.theory.specs.Terms.{AllWellFormed}
+use Rattle.theory.specs.Sizes.{structural}
 use Rattle.theory.specs.Forms.{Form}
 use Rattle.theory.specs.Packs.{Claim, Atom, Rule, Pack, lineLimit, claimLimit, subgoalLimit, numberLimit, noClaim, atomKey, claimsOn, headLine, subgoalLine, claimLine, factLine, predicateLine, ruleLines, line, fromRules, fromFacts, fromClaims, fromPredicates, opening}
 use Rattle.theory.specs.declared.Letter.the-variants.{M}

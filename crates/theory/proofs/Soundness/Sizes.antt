@@ -11,7 +11,8 @@ use lib.ListN.{length}
 use Rattle.groundwork.proofs.Truth.{by-truth}
 use Rattle.theory.specs.Lists.{_∈_, total}
 use Rattle.theory.specs.Text.{Bytes, same}
-use Rattle.theory.specs.Terms.{Term, Terms, variable, symbol, nil, cons, arity, Measure, flagged, size, argumentSizes, counted, argumentsCounted, variables, allVariables, occurrences, AllGround, IsGround, Substitution, under, allUnder}
+use Rattle.theory.specs.Terms.{Term, Terms, variable, symbol, nil, cons, arity, variables, allVariables, AllGround, IsGround, Substitution, under, allUnder}
+use Rattle.theory.specs.Sizes.{Measure, flagged, size, argumentSizes, counted, argumentsCounted, occurrences, constantOf, constantsOf}
 use Rattle.theory.specs.Forms.{Form, plus, constantForm, formOf, valueAt}
 use Rattle.theory.specs.Packs.{Claim, Atom, atomKey, key}
 use Rattle.theory.specs.Residuals.{weighted, claimForm}
@@ -22,7 +23,7 @@ use Rattle.theory.proofs.Judging.Variables.{Once, once-none, once-more}
 use Rattle.theory.proofs.Soundness.FormValues.{form-path, nothing-plus, value-plus, value-times, value-without, value-constant, value-zero}
 
 pub length-sizes : (m : Measure) (ts : Terms) → length (argumentSizes m ts) ≡ arity ts
-unfolding argumentSizes arity
+unfolding constantsOf arity
 length-sizes m nil = refl
 length-sizes m (cons t ts) = ap suc (length-sizes m ts)
 
@@ -61,11 +62,11 @@ abbrev flaggedForm : Measure → List Bool → Terms → Form
 flaggedForm m flags ts = record { constant = pos (total (flagged flags (argumentSizes m ts))); coefficient = λ x. pos (occurrences x (flatten (flagged flags (argumentsCounted m ts)))) }
 
 symbol-form : (m : Measure) (f : Bytes) (ts : Terms) → formOf m (symbol f ts) ≡ plus (constantForm (pos (m f (arity ts) .constant))) (flaggedForm m (m f (arity ts) .flags) ts)
-unfolding formOf plus constantForm size counted
+unfolding formOf plus constantForm constantOf counted
 symbol-form m f ts = form-path refl (λ x. ap pos (omega arith))
 
 first-form : (m : Measure) (flags : List Bool) (t : Term) (ts : Terms) → flaggedForm m (true ∷ flags) (cons t ts) ≡ plus (formOf m t) (flaggedForm m flags ts)
-unfolding formOf plus size counted flagged total flatten
+unfolding formOf plus constantOf counted flagged total flatten
 first-form m flags t ts = form-path refl (λ x. ap pos (occurrences-append x (counted m t) (flatten (flagged flags (argumentsCounted m ts)))))
 
 -- ---- the size of a term under a substitution
@@ -83,7 +84,7 @@ module _ (sizeOf : Bytes → ℕ) (f : Form) (y : Bytes) (empty : f .constant �
       (List·Memᴰ·cases-cons m)
 
 variable-value : (m : Measure) (sizeOf : Bytes → ℕ) {xs : List Bytes} (y : Bytes) → Once xs → y ∈ xs → valueAt sizeOf xs (formOf m (variable y)) ≡ pos (sizeOf y)
-unfolding formOf size occurrences counted
+unfolding formOf constantOf occurrences counted
 variable-value m sizeOf y =
     only-value sizeOf (formOf m (variable y)) y refl (rw (same-refl y))
     (λ x differ. by-truth (λ b. pos (cond b 1 0) ≡ pos 0) (same x y) (λ h. absurd (differ (same-equal x y h))) (λ h. refl))
@@ -94,7 +95,7 @@ module _ (m : Measure) (σ : Substitution) (xs : List Bytes) (once : Once xs) wh
   given x = size m (σ .for x)
 
   mutual
-    unfolding size counted under arity variables occurrences flagged total flatten
+    unfolding constantOf counted under arity variables occurrences flagged total flatten
 
     pub size-under : (t : Term) → ((x : Bytes) → x ∈ variables t → x ∈ xs) → valueAt (λ x. size m (σ .for x)) xs (formOf m t) ≡ pos (size m (under σ t))
     size-under (variable y) within = variable-value m given y once (within y (List·Memᴰ·head refl))
@@ -110,7 +111,7 @@ module _ (m : Measure) (σ : Substitution) (xs : List Bytes) (once : Once xs) wh
     sizes-under (cons t ts) (false ∷ flags) within = sizes-under ts flags (λ x n. within x (Memᴰ·append-right (variables t) n))
 
   weighted-under : (cs : List ℤ) (ts : Terms) → ((x : Bytes) → x ∈ allVariables ts → x ∈ xs) → valueAt (λ x. size m (σ .for x)) xs (weighted m cs ts) ≡ weightedSizes cs (argumentSizes m (allUnder σ ts))
-  unfolding weighted weightedSizes argumentSizes allUnder allVariables
+  unfolding weighted weightedSizes constantsOf allUnder allVariables
   weighted-under [] ts within = value-zero _ xs
   weighted-under (c ∷ cs) nil within = value-zero _ xs
   weighted-under (c ∷ cs) (cons t ts) within =

@@ -3,7 +3,7 @@ use mathlib.Core.Path.{_≡_, refl, sym}
 use mathlib.Core.Logic.{_⊎_, inl, inr}
 use mathlib.Core.List.{List, [], _∷_, map, List·Memᴰ·head, List·Memᴰ·tail, List·Memᴰ·not-nil, List·Memᴰ·append-cases, Memᴰ·of-map}
 use Rattle.theory.specs.Lists.{_∈_}
-use Rattle.theory.specs.Terms.{Measure}
+use Rattle.theory.specs.Sizes.{Measure}
 use Rattle.theory.specs.Forms.{Form}
 use Rattle.theory.specs.Packs.{Claim, Atom, atomKey, claimsOn}
 use Rattle.theory.specs.Residuals.{claimForm, subgoalForms}
