@@ -134,8 +134,8 @@ module _ {atom index : ℕ} {field : Bytes} {many : ℕ} {names₀ rows₀ : Lis
   taken = rw (t-read done fine .1) at (done .form (t-read done fine .0))
 
   -- past the limit nothing but the count is claimed
-  tabled-after : (known : List Bytes) → (length known ≤ 16 → many ≡ length known) → (16 < length known → many ≡ 17) → (many ≤ 16 → HoldsVariables names₀ known) → VariablesTabled known t n names
-  tabled-after known few full holds = by-truth (λ b. VariablesTabled known t n names) (ltb 16 (length known))
+  tabled-after : (known : List Bytes) → (length known ≤ 16 → many ≡ length known) → (16 < length known → many ≡ 17) → (many ≤ 16 → HoldsVariables names₀ known) → VariablesTabled (λ xs. RowStands rows (rowPlace atom index) xs t) known t n names
+  tabled-after known few full holds = by-truth (λ b. VariablesTabled (λ xs. RowStands rows (rowPlace atom index) xs t) known t n names) (ltb 16 (length known))
       (λ h.
       let past = ltb-lt 16 (length known) h in
       let is : n ≡ 17 = taken .full (omega (arith, full past)) in
@@ -143,11 +143,12 @@ module _ {atom index : ℕ} {field : Bytes} {many : ℕ} {names₀ rows₀ : Lis
         few = λ k. absurd (omega (arith, numbered-length known (variables t)));
         many = λ k. is;
         holds = λ k. absurd (omega arith);
+        row = λ k. absurd (omega arith);
       })
       (λ h.
       let within = ltb-ge 16 (length known) h in
       let count = few within in
-      taken .tabled known (holds (omega arith)) (sym count) size t reads)
+      taken .from known (holds (omega arith)) (sym count) size t reads)
 
 module _ {atom : ℕ} {seen fs : List Bytes} {index many : ℕ} {names₀ names rows₀ rows₁ rows : List ℕ} {r : Fielding} {n : ℕ} where
   pub term-field : atom ≤ 8 → index < 8 → index < length fs → length rows₁ ≡ 1224 → ProgressTerms atom seen fs index many names₀ rows₀ rows₁ → FieldTerm atom index (at fs index) many names₀ rows₁ r names rows → r ≡ Read n
@@ -167,7 +168,7 @@ module _ {atom : ℕ} {seen fs : List Bytes} {index many : ℕ} {names₀ names 
       reads : readTerm (at fs index) ≡ some t
       reads = value-read readTerm (variable []) (at fs index) (t-read done fine .0)
 
-      left : VariablesTabled (known seen fs index) t n names
+      left : VariablesTabled (λ xs. RowStands rows (rowPlace atom index) xs t) (known seen fs index) t n names
       left = tabled-after done size n fine t reads (known seen fs index) (before .few) (before .many-more) (before .holds)
 
       kept : (i : ℕ) → i < rowPlace atom index → getD rows i 0 ≡ getD rows₁ i 0
@@ -176,17 +177,12 @@ module _ {atom : ℕ} {seen fs : List Bytes} {index many : ℕ} {names₀ names 
       Stands : ℕ → Type 0
       Stands k = RowStands rows (rowPlace atom k) (numbered (known seen fs index) (variables t)) (argument (termsFrom fs) k)
 
-      earlier-few : n ≤ 16 → length (known seen fs index) ≤ 16
-      earlier-few h = omega (arith, left .holds h .few, numbered-length (known seen fs index) (variables t))
-
       earlier : n ≤ 16 → (k : ℕ) → k < index → Stands k
       earlier h k lower =
           let holds = left .holds h in
-          let fewer = earlier-few h in
+          let fewer : length (known seen fs index) ≤ 16 = omega (arith, holds .few, numbered-length (known seen fs index) (variables t)) in
           row-over-more (known seen fs index) (variables t) (holds .once) (holds .few) rows (rowPlace atom k) (argument (termsFrom fs) k) (known-variable seen fs index k lower (omega arith))
           (row-same rows₁ rows (rowPlace atom k) (known seen fs index) (argument (termsFrom fs) k) fewer (λ i low high. kept i (omega arith)) (before .row (omega (arith, before .few fewer)) k lower))
 
       latest : n ≤ 16 → Stands index
-      latest h =
-          let fewer = earlier-few h in
-          rw (argument-from fs index inside) (taken done size n fine t reads .row (known seen fs index) (before .holds (omega (arith, before .few fewer))) (sym (before .few fewer)) size t reads h)
+      latest h = rw (argument-from fs index inside) (left .row h)

@@ -28,11 +28,11 @@ row-of-parts rows base xs t first second = record {
 }
 
 module _ (field : Bytes) (read : Tokens) (arities places : List ℕ) (read-is : TokensRead field read arities places) (good : read .fine ≡ true) where
-  pub form-arities : SmallArities arities (read .symbols)
-  form-arities = read-is .stand good .0 .digits
+  pub read-arities : SmallArities arities (read .symbols)
+  read-arities = read-is .stand good .0 .digits
 
-  pub form-places : PlacesStand field places (read .variables)
-  form-places = read-is .stand good .1
+  pub read-places : PlacesStand field places (read .variables)
+  read-places = read-is .stand good .1
 
   module _ (sum : ℕ) (first : AritiesSummed arities (read .symbols) sum) (names₀ : List ℕ) (known : ℕ) (rows₀ : List ℕ) (base r : ℕ) (names counts : List ℕ) (room : base + 17 ≤ 1224) (second : Counted field names₀ known rows₀ base r names counts) where
     abbrev rows : List ℕ
@@ -63,8 +63,13 @@ module _ (field : Bytes) (read : Tokens) (arities places : List ℕ) (read-is : 
       above = λ i high. elsewhere i (λ e. omega arith) ∙ second .elsewhere .above i high;
       small = λ safe i. replaced (λ (n : ℕ). n < 65536) counts base i sum 0 (omega (arith, first .small)) (counted-fits safe i (decLe i base) (decLe (base + 17) i));
       nameSize = second .nameSize;
-      tabled = second .tabled;
-      row = λ seen holds number size t e few. row-of-parts rows base _ t
-          (getD-set-same counts base sum 0 (omega (arith, second .elsewhere .size)) ∙ first .is field (read-is .stand good .0) t e)
-          (occurrences-kept _ t (second .tabled seen holds number size t e .holds few .few) (second .row seen holds number size t e few));
+      from = λ seen holds number size t e.
+          let found = second .from seen holds number size t e in
+          let constant = getD-set-same counts base sum 0 (omega (arith, second .elsewhere .size)) ∙ first .is field (read-is .stand good .0) t e in
+          record {
+            few = found .few;
+            many = found .many;
+            holds = found .holds;
+            row = λ within. row-of-parts rows base _ t constant (occurrences-kept _ t (found .holds within .few) (found .row within));
+          };
     }

@@ -18,7 +18,7 @@ use Rattle.theory.specs.Answers.{measuredOf}
 use Rattle.theory.proofs.SectionForm.{section-form}
 use Rattle.theory.proofs.Reading.Presence.{is-some, is-none, empty-is, filled-is}
 use Rattle.tokens.specs.declared.Tokens.{Tokens}
-use Rattle.tokens.specs.TokenRows.{SmallArities, TokensRead}
+use Rattle.tokens.specs.TokenRows.{TokensRead}
 use Rattle.terms.specs.Constants.{AritiesSummed}
 
 module _ (s : Bytes) (unfit : Bool) (unfit-is : unfit ≡ isUnfit s) where
@@ -37,9 +37,6 @@ module _ (s : Bytes) (unfit : Bool) (unfit-is : unfit ≡ isUnfit s) where
       measure-no-term h = rw (sym unfit-is ∙ fit, is-none (readTerm s) (sym (read-is .fine) ∙ h))
 
       module _ (good : read .fine ≡ true) where
-        pub measure-digits : SmallArities arities (read .symbols)
-        measure-digits = read-is .stand good .0 .digits
-
         found : (t : Term) × (readTerm s ≡ some t)
         found = is-some (readTerm s) (sym (read-is .fine) ∙ good)
 

@@ -16,7 +16,7 @@ use Rattle.tokens.specs.TokenRows.{startOf, endOf, standingAt, PlacesStand}
 use Rattle.terms.specs.Rows.{Holds, Elsewhere, Cleared, SmallRow, CountsOne, Counted}
 use Rattle.terms.proofs.RowStores.{countAt, none-stored, stored-again}
 use Rattle.terms.proofs.OneOccurrence.{leaves}
-use Rattle.terms.proofs.Tally.{Tallied, none-tallied, tally-tabled, tally-row, one-tallied}
+use Rattle.terms.proofs.Tally.{Tallied, none-tallied, tally-counted, one-tallied}
 
 -- at a place; rows₀ is the table with the row cleared
 pub record Counting (field : Bytes) (places : List ℕ) (count : ℕ) (names₀ : List ℕ) (known : ℕ) (rows₀ : List ℕ) (base i many : ℕ) (names : List ℕ) (rows : List ℕ) : Type 0 where
@@ -87,9 +87,5 @@ module _ (field : Bytes) (places : List ℕ) (count : ℕ) (stand : PlacesStand 
             elsewhere = stored-again (cleared .elsewhere) (before .elsewhere);
             small = counting-small;
             nameSize = before .nameSize;
-            tabled = λ seen holds number size t e. tally-tabled t (tallied-all seen holds number size t e);
-            row = λ seen holds number size t e. tally-row t (tallied-all seen holds number size t e);
+            from = λ seen holds number size t e. tally-counted t (rw (all-passed t e) at (before .tallied seen holds number (cleared .elsewhere .size ∙ size)));
           }
-        where
-          tallied-all : (seen : List Bytes) → Holds names₀ seen → length seen ≡ known → length entry ≡ 1224 → (t : Term) → readTerm field ≡ some t → Tallied seen (variables t) base many names rows
-          tallied-all seen holds number size t e = rw (all-passed t e) at (before .tallied seen holds number (cleared .elsewhere .size ∙ size))

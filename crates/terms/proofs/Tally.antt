@@ -27,14 +27,11 @@ unfolding numbered occurrences
 none-tallied holds number zeros = all-placed (sym number) holds (record { counts = λ i h. zeros i (omega (arith, holds .few)); zeros = λ i h _. zeros i h })
 
 -- all variables of a term counted
-pub tally-tabled : {seen : List Bytes} (t : Term) {base many : ℕ} {names rows : List ℕ} → Tallied seen (variables t) base many names rows → VariablesTabled seen t many names
-tally-tabled t (all-placed number holds row) = record { few = λ h. number; many = λ h. absurd (omega (arith, holds .few)); holds = λ h. holds }
-tally-tabled t (too-many number more) = record { few = λ h. absurd (omega arith); many = λ h. number; holds = λ h. absurd (omega arith) }
-
-pub tally-row : {seen : List Bytes} (t : Term) {base many : ℕ} {names rows : List ℕ} → Tallied seen (variables t) base many names rows → many ≤ 16 → OccurrencesStand rows base (numbered seen (variables t)) t
+pub tally-counted : {seen : List Bytes} (t : Term) {base many : ℕ} {names rows : List ℕ} → Tallied seen (variables t) base many names rows → VariablesTabled (λ xs. OccurrencesStand rows base xs t) seen t many names
 unfolding occurrencesIn
-tally-row t (all-placed number holds row) h = record { counts = row .counts; zeros = row .zeros }
-tally-row t (too-many number more) h = absurd (omega arith)
+tally-counted t (all-placed number holds row) =
+    record { few = λ h. number; many = λ h. absurd (omega (arith, holds .few)); holds = λ h. holds; row = λ h. record { counts = row .counts; zeros = row .zeros } }
+tally-counted t (too-many number more) = record { few = λ h. absurd (omega arith); many = λ h. number; holds = λ h. absurd (omega arith); row = λ h. absurd (omega arith) }
 
 module _ (seen done : List Bytes) (x : Bytes) (proper : isVariable x ≡ true) (base : ℕ) where
   abbrev all : List Bytes

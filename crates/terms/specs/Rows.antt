@@ -53,11 +53,13 @@ pub record OccurrencesStand (rows : List ℕ) (base : ℕ) (xs : List Bytes) (t 
   pub counts : (i : ℕ) → i < length xs → getD rows (base + 1 + i) 0 ≡ occurrencesIn t (getD xs i [])
   pub zeros : (i : ℕ) → i < variableLimit → length xs ≤ i → getD rows (base + 1 + i) 0 ≡ 0
 
--- the table holds the variables of a term after those seen before, and r is how many they are; or they are too many
-pub record VariablesTabled (seen : List Bytes) (t : Term) (r : ℕ) (names : List ℕ) : Type 0 where
+-- the table holds the variables of a term after those seen before, r is how many they are, and there is a row for them; or they
+-- are too many
+pub record VariablesTabled (Row : List Bytes → Type 0) (seen : List Bytes) (t : Term) (r : ℕ) (names : List ℕ) : Type 0 where
   pub few : length (numbered seen (variables t)) ≤ variableLimit → r ≡ length (numbered seen (variables t))
   pub many : variableLimit < length (numbered seen (variables t)) → r ≡ variableLimit + 1
   pub holds : r ≤ variableLimit → Holds names (numbered seen (variables t))
+  pub row : r ≤ variableLimit → Row (numbered seen (variables t))
 
 -- What the second step leaves of a field that is a term, whatever variables the table held before: how often each occurs.
 pub record Counted (field : Bytes) (names₀ : List ℕ) (known : ℕ) (rows₀ : List ℕ) (base r : ℕ) (names : List ℕ) (rows : List ℕ) : Type 0 where
@@ -66,5 +68,4 @@ pub record Counted (field : Bytes) (names₀ : List ℕ) (known : ℕ) (rows₀ 
   pub elsewhere : Elsewhere rows₀ base rows
   pub small : SmallRow rows base
   pub nameSize : length names ≡ length names₀
-  pub tabled : (seen : List Bytes) → Holds names₀ seen → length seen ≡ known → length rows₀ ≡ 1224 → (t : Term) → readTerm field ≡ some t → VariablesTabled seen t r names
-  pub row : (seen : List Bytes) → Holds names₀ seen → length seen ≡ known → length rows₀ ≡ 1224 → (t : Term) → readTerm field ≡ some t → r ≤ variableLimit → OccurrencesStand rows base (numbered seen (variables t)) t
+  pub from : (seen : List Bytes) → Holds names₀ seen → length seen ≡ known → length rows₀ ≡ 1224 → (t : Term) → readTerm field ≡ some t → VariablesTabled (λ xs. OccurrencesStand rows base xs t) seen t r names

@@ -6,11 +6,10 @@ use Prim.Native.Nat.{ℕ, _+_, _≤_, _<_}
 use lib.IntN.{pos}
 use lib.ListN.{length, getD}
 use Rattle.theory.specs.Text.{Bytes}
-use Rattle.theory.specs.Terms.{Term, readTerm, variables}
+use Rattle.theory.specs.Terms.{Term, readTerm}
 use Rattle.theory.specs.Sizes.{structural}
 use Rattle.theory.specs.Forms.{formOf}
 use Rattle.theory.specs.Packs.{variableLimit}
-use Rattle.theory.specs.Residuals.{numbered}
 use Rattle.terms.specs.Rows.{Holds, VariablesTabled}
 
 -- the row from base on is the form of a term over a rule's variables, zeros after the last
@@ -28,5 +27,4 @@ pub record FormTaken (field : Bytes) (names₀ : List ℕ) (known : ℕ) (rows�
   pub above : (i : ℕ) → base + 17 ≤ i → getD rows i 0 ≡ getD rows₀ i 0
   pub small : ((i : ℕ) → getD rows₀ i 0 < 65536) → (i : ℕ) → getD rows i 0 < 65536
   pub nameSize : length names ≡ length names₀
-  pub tabled : (seen : List Bytes) → Holds names₀ seen → length seen ≡ known → length rows₀ ≡ 1224 → (t : Term) → readTerm field ≡ some t → VariablesTabled seen t r names
-  pub row : (seen : List Bytes) → Holds names₀ seen → length seen ≡ known → length rows₀ ≡ 1224 → (t : Term) → readTerm field ≡ some t → r ≤ variableLimit → RowStands rows base (numbered seen (variables t)) t
+  pub from : (seen : List Bytes) → Holds names₀ seen → length seen ≡ known → length rows₀ ≡ 1224 → (t : Term) → readTerm field ≡ some t → VariablesTabled (λ xs. RowStands rows base xs t) seen t r names

@@ -1,14 +1,14 @@
 -- `terms::form_of_term` meets its contract. Assumes nothing.
 use borrow.Author.Needs.{needs}
-use Rattle.terms.proofs.FormRows.{form-arities, form-places, form-taken}
+use Rattle.terms.proofs.FormRows.{read-arities, read-places, form-taken}
 use Rattle.terms.proofs.form_of_term.Statement.{statement}
 use Rattle.terms.proofs.form_of_term.Tie as tie
 
 sum-of-arities-requires : tie.Need-sum-of-arities-requires
-sum-of-arities-requires c κs = search (needs, form-arities)
+sum-of-arities-requires c κs = search (needs, read-arities)
 
 count-occurrences-requires : tie.Need-count-occurrences-requires
-count-occurrences-requires c κs = (search (needs, form-places), search needs, search needs)
+count-occurrences-requires c κs = (search (needs, read-places), search needs, search needs)
 
 returns : tie.Need-returns
 returns c = search (needs, form-taken)

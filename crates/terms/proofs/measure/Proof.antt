@@ -1,6 +1,7 @@
 -- `terms::measure` meets its contract. Assumes nothing.
 use Rattle.groundwork.proofs.Truth.{not-true, not-false}
-use Rattle.terms.proofs.Measures.{measure-unfit, measure-short, measure-no-term, measure-digits, measure-variable, measure-size}
+use Rattle.terms.proofs.Measures.{measure-unfit, measure-short, measure-no-term, measure-variable, measure-size}
+use Rattle.terms.proofs.FormRows.{read-arities}
 use borrow.Author.Needs.{needs}
 use Rattle.terms.proofs.measure.Statement.{statement}
 use Rattle.terms.proofs.measure.Tie as tie
@@ -18,7 +19,7 @@ returns-3 : tie.Need-returns-3
 returns-3 c = search (needs, measure-variable, not-false)
 
 sum-of-arities-requires : tie.Need-sum-of-arities-requires
-sum-of-arities-requires c κs = search (needs, measure-digits, not-false)
+sum-of-arities-requires c κs = search (needs, read-arities, not-false)
 
 returns-4 : tie.Need-returns-4
 returns-4 c = search (needs, measure-size, not-false)
