@@ -150,11 +150,12 @@ fn in_words(answer: &Reservation) -> String {
 #[cfg(test)]
 mod tests {
     use super::*;
+    use crate::naming::Naming;
     use crate::pack::{lines_of, tests::JOIN, Pack};
 
     fn answered(text: &[u8], query: &[u8]) -> Reservation {
         let pack = Pack::read(&lines_of(text)).ok().unwrap();
-        let predicate = pack.named(fields_of(query)[0]).unwrap();
+        let predicate = pack.declared(&Naming::of_query(query)).unwrap();
         answer(&work_out(predicate, &read_query(predicate, query).unwrap()))
     }
 

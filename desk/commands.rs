@@ -37,9 +37,9 @@ fails a claim, its sizes and the claim with them put in.",
         most: usize::MAX,
         about: "answer queries by a pack, with the working",
         help: "\
-Checks the pack and answers each QUERY, name,i,s1,..,sn: how large argument i can be, where
-each s is a known size or - (unknown). PACK or one QUERY may be -, for standard input, where
-queries stand one on a line. Shows for each claim on the predicate what it gives, or why it is
+Checks the pack and answers each QUERY, name,i,s1,..,sn: how large argument i of name/n can be,
+where each s is a known size or - (unknown). PACK or one QUERY may be -, for standard input,
+where queries stand one on a line. Shows for each claim on the predicate what it gives, or why it is
 not usable.",
         run: reserve::run,
     },

@@ -3,6 +3,7 @@
 
 mod bytes;
 mod counts;
+mod declarations;
 mod facts;
 mod fields;
 mod heads;
@@ -44,7 +45,7 @@ pub fn of_line(number: u8, seen: &Pack, line: &[u8]) -> Option<Fault> {
         4 => bytes::explain("line", line),
         5 => order::explain(seen, line),
         7 => names::of_line(line),
-        8 => names::of_declaration(seen, line),
+        8 => declarations::of_line(seen, line),
         9 => fields::of_line(seen, line),
         10 => numbers::of_line(line),
         11 => terms::of_line(line),
@@ -61,8 +62,7 @@ pub fn of_line(number: u8, seen: &Pack, line: &[u8]) -> Option<Fault> {
 pub fn of_query(number: u8, pack: &Pack, query: &[u8]) -> Option<Fault> {
     match number {
         4 => bytes::explain("query", query),
-        14 => names::of_query(pack, query),
-        15 => fields::of_query(pack, query),
+        14 => declarations::of_query(pack, query),
         16 => numbers::of_asked_argument(pack, query),
         17 => numbers::of_size(query),
         18 => numbers::of_asked_size(query),

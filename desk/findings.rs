@@ -233,6 +233,26 @@ mod tests {
     }
 
     #[test]
+    fn a_refusal_by_name_or_arity_alone_is_a_disagreement() {
+        let cases: [(&[u8], u8, u16); 10] = [
+            (b"P,k,1,R\nH,K,X\nE\n", 8, 2),
+            (b"P,k,1,R\nP,k,2,R\nE\n", 8, 2),
+            (b"P,k,1,R\nP,k,x,R\nE\n", 8, 2),
+            (b"P,k,1,R\nP,k\nE\n", 8, 2),
+            (b"P,k,1,R\nC,k,0\nE\n", 9, 2),
+            (b"P,k,1,R\nH,k\nE\n", 9, 2),
+            (b"P,k,1,R\nG,k,a/0,b/0\nE\n", 20, 2),
+            (b"P,k,1,R\nG,k,a/0,b/0\nE\n", 9, 2),
+            (b"P,k,1,G\nP,k,2,R\nH,k,X,Y\nE\n", 8, 3),
+            (b"P,k,1,R\nP,k,2,R\nC,k,0,1\nH,k,X\nM\nE\n", 24, 6),
+        ];
+        for (text, number, line) in cases {
+            let verdict = Verdict::Refused { number, line };
+            assert_eq!(status_of(text, verdict), Status::Disagreement, "number {number}, {}", text.escape_ascii());
+        }
+    }
+
+    #[test]
     fn an_unjustified_claim_that_is_justified_is_a_disagreement() {
         for line in 0..=12 {
             let verdict = Verdict::Unjustified { line, rule: 2, claim: 1, residual: [0; 17] };

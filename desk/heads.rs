@@ -1,9 +1,9 @@
 //! Ruled predicates that have claims and head no rule. The desk finds them where the library refuses the `E` line for
-//! them (24), with predicates of near names that head rules, and sees that there is none where the library has passed
-//! the line.
+//! them (24), with predicates of the same name or of near names that head rules, and sees that there is none where the
+//! library has passed the line.
 
 use crate::claims::inequality;
-use crate::near::near_names;
+use crate::near::near_predicates;
 use crate::pack::{Pack, Predicate};
 use crate::report::Disagreement;
 use crate::words::{capital, count, listed};
@@ -23,10 +23,11 @@ pub struct IdleClaim {
     pub inequality: String,
 }
 
-/// A predicate of a near name that heads rules.
+/// A predicate of a near name, or of the same name and another arity, that heads rules.
 pub struct NearHead {
     /// Name and arity.
     pub predicate: String,
+    pub has_same_name: bool,
     pub line: usize,
     pub rules: usize,
 }
@@ -45,9 +46,12 @@ pub fn headless(pack: &Pack) -> Vec<HeadlessPredicate> {
 
 fn describe(pack: &Pack, predicate: &Predicate) -> HeadlessPredicate {
     let heads = pack.predicates.iter().filter(|other| rules_of(pack, other) > 0);
-    let near = near_names(predicate.name, heads).into_iter();
-    let near =
-        near.map(|other| NearHead { predicate: other.indicator(), line: other.line, rules: rules_of(pack, other) });
+    let near = near_predicates(predicate.name, Some(predicate.arity), heads).into_iter().map(|other| NearHead {
+        predicate: other.indicator(),
+        has_same_name: other.name == predicate.name,
+        line: other.line,
+        rules: rules_of(pack, other),
+    });
     let claims = predicate.claims.iter();
     let claims = claims.map(|claim| IdleClaim { line: claim.line, inequality: inequality(&claim.numbers) });
     HeadlessPredicate {
@@ -82,7 +86,7 @@ pub fn wrong(headless: &[HeadlessPredicate]) -> String {
     headless.iter().map(HeadlessPredicate::wrong).collect::<Vec<String>>().join(" ")
 }
 
-/// What to mend: the name on the rules where there is a near one, else rules, kind or claims.
+/// What to mend: name or arguments on the rules where there is a near one, else rules, kind or claims.
 pub fn mend(headless: &[HeadlessPredicate]) -> String {
     let misspelt: Vec<String> = headless
         .iter()
@@ -99,10 +103,21 @@ pub fn mend(headless: &[HeadlessPredicate]) -> String {
         return capital(&otherwise);
     }
     format!(
-        "If {} was meant, correct the name on the rules' H and B lines, and give each rule an M line for every claim \
-         on its head. If not, {otherwise}",
-        listed(&misspelt, "or")
+        "If {} was meant, correct {} on the rules' H and B lines, and give each rule an M line for every claim on its \
+         head. If not, {otherwise}",
+        listed(&misspelt, "or"),
+        to_correct(headless)
     )
+}
+
+/// What makes a rule's head another predicate than the one that was meant.
+fn to_correct(headless: &[HeadlessPredicate]) -> &'static str {
+    let has = |same: bool| headless.iter().flat_map(|found| &found.near).any(|near| near.has_same_name == same);
+    match (has(false), has(true)) {
+        (false, _) => "the number of arguments",
+        (true, false) => "the name",
+        (true, true) => "the name or the number of arguments",
+    }
 }
 
 /// The library has passed the `E` line only if each ruled predicate with a claim heads a rule.
@@ -154,6 +169,23 @@ mod tests {
         let [trail, trial] = &found("C,trial,0,1\nH,rail\nE\n")[..] else { panic!("two are found") };
         assert_eq!(trail.2, [("rail/0".to_string(), 1)]);
         assert_eq!(*trial, ("trial/1".to_string(), 1, vec![]));
+    }
+
+    #[test]
+    fn another_arity_of_the_name_is_near() {
+        let other = "P,trail,3,R\nP,trail,2,R\nP,rail,2,R\nP,trail,1,R\nC,trail,0,1,1\n";
+        let mended = |rest: &str| {
+            let text = format!("{other}{rest}");
+            let found = headless(&Pack::read(&lines_of(text.as_bytes())).ok().unwrap());
+            let near: Vec<String> = found[0].near.iter().map(|near| near.predicate.clone()).collect();
+            assert_eq!(found[0].predicate, "trail/2");
+            (near, to_correct(&found))
+        };
+        let near = |names: &[&str]| names.iter().map(|name| name.to_string()).collect::<Vec<String>>();
+        assert_eq!(mended("H,trail,X\nE\n"), (near(&["trail/1"]), "the number of arguments"));
+        assert_eq!(mended("H,rail,X,Y\nE\n"), (near(&["rail/2"]), "the name"));
+        let all = mended("H,trail,X\nH,rail,X,Y\nH,trail,X,Y,Z\nE\n");
+        assert_eq!(all, (near(&["trail/3", "trail/1", "rail/2"]), "the name or the number of arguments"));
     }
 
     #[test]

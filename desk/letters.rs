@@ -1,7 +1,7 @@
 //! The letters that lines begin with: where each may stand, and how its line is written. A letter more is a case more
 //! here and in the reading of lines (pack.rs).
 
-use crate::pack::{Pack, Predicate};
+use crate::pack::Pack;
 
 #[derive(Clone, Copy, Debug, PartialEq)]
 pub enum Letter {
@@ -77,11 +77,6 @@ impl Letter {
         }
     }
 
-    /// Whether that name is of a predicate that a line before it declares.
-    pub fn takes_a_declared_name(self) -> bool {
-        self.takes_a_name() && self != Letter::Predicate
-    }
-
     /// Whether the fields after its name are terms.
     pub fn takes_terms(self) -> bool {
         matches!(self, Letter::Fact | Letter::Head | Letter::Subgoal)
@@ -100,36 +95,23 @@ impl Letter {
         }
     }
 
-    /// How many fields a line of this letter has here, if its second field names this predicate.
-    pub fn fields_due(self, pack: &Pack, named: Option<&Predicate>) -> usize {
-        let arity = named.map_or(0, |predicate| predicate.arity);
+    /// How many fields a line of this letter has here, and how it is written: `M,m1,m2`. Nothing where the fields tell
+    /// the arity of the predicate that the line names, so that any number may be right.
+    pub fn fields_due(self, pack: &Pack) -> Option<(usize, String)> {
         match self {
-            Letter::Predicate => 4,
-            Letter::Claim => 3 + arity,
-            Letter::Fact | Letter::Head | Letter::Subgoal => 2 + arity,
-            Letter::Multipliers => 1 + pack.multipliers_due(),
-            Letter::End => 1,
-        }
-    }
-
-    /// How a line of this letter is written here: `C,join,c0,c1,c2,c3`.
-    pub fn form(self, pack: &Pack, named: Option<&Predicate>) -> String {
-        let name = named.map_or("name".to_string(), Predicate::name_shown);
-        let arity = named.map_or(0, |predicate| predicate.arity);
-        match self {
-            Letter::Predicate => "P,name,n,kind".to_string(),
-            Letter::Claim => format!("C,{name}{}", numbered('c', 0, arity)),
-            Letter::Fact | Letter::Head | Letter::Subgoal => {
-                format!("{},{name}{}", self.written(), numbered('t', 1, arity))
+            Letter::Predicate => Some((4, "P,name,n,kind".to_string())),
+            Letter::Multipliers => {
+                let due = pack.multipliers_due();
+                Some((1 + due, format!("M{}", numbered('m', 1, due))))
             }
-            Letter::Multipliers => format!("M{}", numbered('m', 1, pack.multipliers_due())),
-            Letter::End => "E".to_string(),
+            Letter::End => Some((1, "E".to_string())),
+            Letter::Claim | Letter::Fact | Letter::Head | Letter::Subgoal => None,
         }
     }
 }
 
 /// `,c0,c1,c2`: a letter with the numbers from the first to the last; many are cut short.
-fn numbered(letter: char, first: usize, last: usize) -> String {
+pub fn numbered(letter: char, first: usize, last: usize) -> String {
     let written = |number: usize| format!(",{letter}{number}");
     if last > first + 8 {
         return format!("{}{},..{}", written(first), written(first + 1), written(last));

@@ -19,6 +19,7 @@ mod json;
 mod letters;
 mod limits;
 mod measure;
+mod naming;
 mod near;
 mod output;
 mod pack;

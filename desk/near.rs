@@ -1,14 +1,16 @@
-//! Names that are near to each other, for "Did you mean".
+//! Predicates whose names are near to one, for "Did you mean".
 
 use crate::pack::Predicate;
 
-/// How many names are offered at most.
+/// How many predicates are offered at most.
 const OFFERED: usize = 3;
 
 /// Of these predicates those with names near to this one, the nearest first: alike but for capitals, of the same letters
-/// in another order, or a letter in three apart, two at most.
-pub fn near_names<'p, 't: 'p>(
+/// in another order, or a letter in three apart, two at most. Of equally near names those come first whose arity is
+/// nearest to this one, where there is one.
+pub fn near_predicates<'p, 't: 'p>(
     name: &[u8],
+    arity: Option<usize>,
     predicates: impl Iterator<Item = &'p Predicate<'t>>,
 ) -> Vec<&'p Predicate<'t>> {
     let name = name.to_ascii_lowercase();
@@ -19,7 +21,7 @@ pub fn near_names<'p, 't: 'p>(
         .filter(|(apart, is_reordered, _)| *apart <= reach || *is_reordered)
         .map(|(apart, _, predicate)| (apart, predicate))
         .collect();
-    near.sort_by_key(|(apart, _)| *apart);
+    near.sort_by_key(|(apart, predicate)| (*apart, arity.map_or(0, |arity| predicate.arity.abs_diff(arity))));
     near.into_iter().take(OFFERED).map(|(_, predicate)| predicate).collect()
 }
 
@@ -63,29 +65,38 @@ mod tests {
         assert_eq!(distance(b"path", b"path"), 0);
     }
 
-    /// The names among these that are near to one.
-    fn near(name: &str, others: &[&'static str]) -> Vec<String> {
-        let declared = |name: &&'static str| Predicate {
+    /// The predicates among these, by name and arity, that are near to one.
+    fn near(name: &str, arity: Option<usize>, others: &[(&'static str, usize)]) -> Vec<String> {
+        let declared = |(name, arity): &(&'static str, usize)| Predicate {
             name: name.as_bytes(),
-            arity: 0,
+            arity: *arity,
             is_given: false,
             line: 1,
             claims: Vec::new(),
         };
         let predicates: Vec<Predicate> = others.iter().map(declared).collect();
-        near_names(name.as_bytes(), predicates.iter()).iter().map(|predicate| predicate.name_shown()).collect()
+        near_predicates(name.as_bytes(), arity, predicates.iter()).iter().map(|near| near.indicator()).collect()
     }
 
     #[test]
     fn the_nearest_names_come_first() {
-        assert_eq!(near("trail", &["rail", "trial", "train", "traiL", "rule"]), ["traiL", "rail", "trial"]);
-        assert_eq!(near("join", &["link", "joins"]), ["joins"]);
+        let others = [("rail", 1), ("trial", 1), ("train", 1), ("traiL", 1), ("rule", 1)];
+        assert_eq!(near("trail", Some(1), &others), ["traiL/1", "rail/1", "trial/1"]);
+        assert_eq!(near("join", None, &[("link", 1), ("joins", 1)]), ["joins/1"]);
+    }
+
+    #[test]
+    fn of_equally_near_names_the_nearest_arity_comes_first() {
+        let others = [("trial", 0), ("trial", 5), ("trial", 3), ("trial", 2), ("rail", 3), ("traiL", 8)];
+        assert_eq!(near("trail", Some(3), &others), ["traiL/8", "trial/3", "rail/3"]);
+        assert_eq!(near("trail", Some(4), &others[..4]), ["trial/5", "trial/3", "trial/2"]);
+        assert_eq!(near("trail", None, &others[..4]), ["trial/0", "trial/5", "trial/3"]);
     }
 
     #[test]
     fn names_of_the_same_letters_are_near() {
-        assert_eq!(near("liart", &["trail", "tail"]), ["trail"]);
-        assert_eq!(near("pq", &["qp", "pp"]), ["qp"]);
-        assert!(near("p", &["q", "pq"]).is_empty());
+        assert_eq!(near("liart", Some(1), &[("trail", 1), ("tail", 1)]), ["trail/1"]);
+        assert_eq!(near("pq", Some(1), &[("qp", 1), ("pp", 1)]), ["qp/1"]);
+        assert!(near("p", Some(1), &[("q", 1), ("pq", 1)]).is_empty());
     }
 }

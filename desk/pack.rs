@@ -3,10 +3,11 @@
 
 use crate::forms::Form;
 use crate::letters::Letter;
-use crate::limits::{HIGHEST_ARITY, HIGHEST_NUMBER};
+use crate::limits::HIGHEST_NUMBER;
+use crate::naming::{declared_arity, Naming};
 use crate::terms::{applied, read_term, Term, Token};
 use crate::tokens::{is_name, number};
-use crate::words::shown;
+use crate::words::{are, listed, shown};
 
 pub struct Predicate<'t> {
     pub name: &'t [u8],
@@ -153,8 +154,8 @@ impl<'t> Pack<'t> {
             b"R" => false,
             _ => return None,
         };
-        let arity = number(arity, 0, HIGHEST_ARITY).ok()? as usize;
-        if !is_name(name) {
+        let arity = declared_arity(arity)?;
+        if !is_name(name) || self.place_of(&Naming::of_fields(fields)?).is_some() {
             return None;
         }
         self.predicates.push(Predicate { name, arity, is_given, line: self.lines, claims: Vec::new() });
@@ -162,11 +163,8 @@ impl<'t> Pack<'t> {
     }
 
     fn read_claim(&mut self, fields: &[&'t [u8]]) -> Option<()> {
-        let place = self.place_of(fields.get(1)?)?;
-        let numbers = read_numbers(fields.get(2..)?, -HIGHEST_NUMBER)?;
-        if numbers.len() != self.predicates[place].arity + 1 {
-            return None;
-        }
+        let place = self.place_of(&Naming::of_fields(fields)?)?;
+        let numbers = read_numbers(&fields[2..], -HIGHEST_NUMBER)?;
         self.predicates[place].claims.push(Claim { line: self.lines, numbers });
         Some(())
     }
@@ -191,10 +189,10 @@ impl<'t> Pack<'t> {
 
     /// The head, subgoal or fact that a line states.
     pub fn read_atom(&self, fields: &[&'t [u8]]) -> Option<Atom<'t>> {
-        let name = *fields.get(1)?;
-        let predicate = self.place_of(name)?;
+        let naming = Naming::of_fields(fields)?;
+        let predicate = self.place_of(&naming)?;
         let arguments: Vec<Term> = fields[2..].iter().map(|field| read_term(field).ok()).collect::<Option<_>>()?;
-        (arguments.len() == self.predicates[predicate].arity).then_some(Atom { predicate, name, arguments })
+        Some(Atom { predicate, name: naming.name, arguments })
     }
 
     fn read_multipliers(&mut self, fields: &[&'t [u8]]) -> Option<()> {
@@ -206,13 +204,32 @@ impl<'t> Pack<'t> {
         Some(())
     }
 
-    fn place_of(&self, name: &[u8]) -> Option<usize> {
-        self.predicates.iter().position(|predicate| predicate.name == name)
+    fn place_of(&self, naming: &Naming) -> Option<usize> {
+        let arity = naming.arity?;
+        self.predicates.iter().position(|predicate| predicate.name == naming.name && predicate.arity == arity)
     }
 
-    /// The predicate of this name.
-    pub fn named(&self, name: &[u8]) -> Option<&Predicate<'t>> {
-        self.place_of(name).map(|place| &self.predicates[place])
+    /// The predicate of this name and arity.
+    pub fn declared(&self, naming: &Naming) -> Option<&Predicate<'t>> {
+        self.place_of(naming).map(|place| &self.predicates[place])
+    }
+
+    /// The predicates of this name, by arity.
+    pub fn of_name(&self, name: &[u8]) -> Vec<&Predicate<'t>> {
+        let mut found: Vec<&Predicate> = self.predicates.iter().filter(|predicate| predicate.name == name).collect();
+        found.sort_by_key(|predicate| predicate.arity);
+        found
+    }
+
+    /// A sentence, after a space, on the predicates of the same name and the other kind; empty if there are none.
+    pub fn of_other_kind(&self, predicate: &Predicate) -> String {
+        let others = self.of_name(predicate.name).into_iter().filter(|other| other.is_given != predicate.is_given);
+        let others: Vec<String> = others.map(|other| format!("{} (line {})", other.indicator(), other.line)).collect();
+        let kind = if predicate.is_given { "ruled" } else { "given" };
+        match others.len() {
+            0 => String::new(),
+            number => format!(" Of the same name {} {} {kind}.", listed(&others, "and"), are(number)),
+        }
     }
 
     pub fn predicate_of(&self, atom: &Atom) -> &Predicate<'t> {
@@ -272,10 +289,29 @@ pub mod tests {
     }
 
     #[test]
+    fn predicates_go_by_name_and_arity() {
+        let text = b"P,k,2,R\nP,k,1,G\nP,l,1,R\nC,k,0,1\nC,k,0,1,1\nC,k,1,1\nG,k,a/0\nH,k,X,Y\nB,k,X\n";
+        let pack = Pack::read(&lines_of(text)).ok().unwrap();
+        let claims: Vec<usize> = pack.predicates.iter().map(|predicate| predicate.claims.len()).collect();
+        assert_eq!((claims, pack.facts[0].atom.predicate), (vec![1, 2, 0], 1));
+        assert_eq!((pack.rules[0].head.predicate, pack.rules[0].subgoals[0].predicate), (0, 1));
+        assert_eq!((pack.multiplier_lines_due(), pack.multipliers_due()), (1, 2));
+        let of_name: Vec<String> = pack.of_name(b"k").iter().map(|predicate| predicate.indicator()).collect();
+        assert_eq!(of_name, ["k/1", "k/2"]);
+        let declared = |query: &'static [u8]| pack.declared(&Naming::of_query(query)).map(|found| found.line);
+        assert_eq!(
+            [declared(b"k"), declared(b"k,1"), declared(b"k,1,-"), declared(b"k,1,-,-")],
+            [None, None, Some(2), Some(1)]
+        );
+    }
+
+    #[test]
     fn a_line_that_cannot_be_read_is_told() {
         for (text, line) in [
             (&b"P,k,9,R\nE\n"[..], 1),
             (b"P,k,1,R\nC,k,0\nE\n", 2),
+            (b"P,k,0,R\nC,k\nE\n", 2),
+            (b"P,k,1,R\nP,k,2,R\nP,k,1,G\nE\n", 3),
             (b"P,k,1,G\nG,k\nE\n", 2),
             (b"P,k,1,G\nG,l,a/0\nE\n", 2),
             (b"P,k,1,R\nH,k,x\nE\n", 2),

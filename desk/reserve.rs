@@ -8,11 +8,12 @@ use crate::findings_json::{refusal_json, verdict_json};
 use crate::findings_page::{show_refusal, show_verdict};
 use crate::input::{read_lines, read_pack, Source};
 use crate::json::Json;
-use crate::pack::{fields_of, Pack};
+use crate::naming::Naming;
+use crate::pack::Pack;
 use crate::page::{Page, Style};
 use crate::quoting::shortened;
 use crate::report::{disagreement_json, Disagreement, Misuse, Report, Status};
-use crate::words::{listed, shown};
+use crate::words::{capital, listed, shown};
 use cerrundix::{Reservation, Verdict};
 use std::ffi::OsStr;
 
@@ -100,7 +101,7 @@ fn refused<'t>(pack: &Pack, query: &'t [u8], number: u8) -> Result<Explanation<'
 }
 
 fn by_claims<'t>(pack: &Pack, query: &'t [u8], library: &Reservation) -> Result<Explanation<'t>, Disagreement> {
-    let predicate = pack.named(fields_of(query)[0]);
+    let predicate = pack.declared(&Naming::of_query(query));
     let read = predicate.and_then(|predicate| bounds::read_query(predicate, query).map(|read| (predicate, read)));
     let Some((predicate, read)) = read else {
         return Disagreement::that("The library answers the query; the desk cannot read it.");
@@ -137,7 +138,7 @@ fn show(page: &mut Page, answer: &Answer) {
             if uses.is_empty() {
                 page.item(2, &format!("There are no claims on {predicate}."));
             }
-            for sentence in claim_sentences(&argument_name(*asked), &answer.library, uses) {
+            for sentence in claim_sentences(predicate, &argument_name(*asked), &answer.library, uses) {
                 page.item(2, &sentence);
             }
         }
@@ -148,18 +149,18 @@ fn show(page: &mut Page, answer: &Answer) {
 }
 
 /// A sentence for the claim that decides, then one for each other claim.
-fn claim_sentences(asked: &str, library: &Reservation, uses: &[ClaimUse]) -> Vec<String> {
+fn claim_sentences(predicate: &str, asked: &str, library: &Reservation, uses: &[ClaimUse]) -> Vec<String> {
     let decides = |used: &&ClaimUse| match library {
         Reservation::Bound { claim, .. } | Reservation::Impossible { claim } => used.claim == usize::from(*claim),
         _ => false,
     };
     let (first, others): (Vec<&ClaimUse>, Vec<&ClaimUse>) = uses.iter().partition(decides);
-    let deciding = first.iter().map(|used| deciding_sentence(asked, used));
-    deciding.chain(others.iter().map(|used| other_sentence(used))).collect()
+    let called = |used: &ClaimUse| format!("claim {} on {predicate} ({})", used.claim, used.inequality);
+    let deciding = first.iter().map(|used| deciding_sentence(&called(used), asked, used));
+    deciding.chain(others.iter().map(|used| other_sentence(&capital(&called(used)), used))).collect()
 }
 
-fn deciding_sentence(asked: &str, used: &ClaimUse) -> String {
-    let claim = format!("claim {} ({})", used.claim, used.inequality);
+fn deciding_sentence(claim: &str, asked: &str, used: &ClaimUse) -> String {
     match &used.gives {
         Gives::Usable { working, numerator, divisor, left_out } if *numerator >= 0 => {
             let bound = numerator / divisor;
@@ -185,8 +186,7 @@ fn in_brackets(left_out: &[String]) -> String {
     }
 }
 
-fn other_sentence(used: &ClaimUse) -> String {
-    let claim = format!("Claim {} ({})", used.claim, used.inequality);
+fn other_sentence(claim: &str, used: &ClaimUse) -> String {
     match &used.gives {
         Gives::Usable { working, numerator, divisor, .. } if *numerator >= 0 => {
             format!("{claim} gives {}: numerator {working}, divisor {divisor}.", numerator / divisor)
@@ -261,6 +261,17 @@ mod tests {
         for number in 0..=40 {
             let refused = Reservation::Refused { number };
             assert_eq!(status_of(b"join,3,20,6,-", refused), Status::Disagreement, "number {number}");
+        }
+    }
+
+    #[test]
+    fn a_wrong_count_of_sizes_is_14_and_nothing_else() {
+        for query in [&b"join"[..], b"join,3", b"join,3,20,6", b"join,3,20,6,-,-"] {
+            for number in 0..=40 {
+                let wanted = if number == 14 { Status::Refused } else { Status::Disagreement };
+                assert_eq!(status_of(query, Reservation::Refused { number }), wanted, "number {number}");
+            }
+            assert_eq!(status_of(query, Reservation::NoBound), Status::Disagreement);
         }
     }
 

@@ -83,6 +83,7 @@ fn entries_json(pack: &Pack) -> Json {
         Json::object([
             ("rule", Json::number(number)),
             ("head", Json::text(shown(rule.head.name))),
+            ("arity", Json::number(rule.head.arguments.len())),
             ("subgoals", Json::number(rule.subgoals.len())),
             ("multiplier_lines", Json::number(rule.multipliers.len())),
         ])

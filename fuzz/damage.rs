@@ -1,5 +1,7 @@
 //! Takes packs, queries and terms and changes them a little: one field or line, or some bytes.
 
+#[path = "damage_arities.rs"]
+pub mod arities;
 #[path = "damage_heads.rs"]
 mod heads;
 
@@ -42,7 +44,7 @@ fn edit_lines(random: &mut Random, lines: &mut Vec<Vec<u8>>) {
         return;
     }
     let (one, other) = (random.below(lines.len()), random.below(lines.len()));
-    match random.below(29) {
+    match random.below(33) {
         0..=3 => edit_number(random, &mut lines[one]),
         4..=6 => edit_multiplier(random, lines),
         7..=8 => lines[one] = edited_fields(random, &lines[one]),
@@ -60,6 +62,7 @@ fn edit_lines(random: &mut Random, lines: &mut Vec<Vec<u8>>) {
         23..=24 => add_fact(random, lines),
         25..=26 => heads::edit_heads(random, lines),
         27 => heads::edit_end(random, lines),
+        28..=31 => arities::edit_arities(random, lines),
         _ => change_letter(random, &mut lines[one]),
     }
 }

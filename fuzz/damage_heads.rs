@@ -18,7 +18,7 @@ pub fn edit_heads(random: &mut Random, lines: &mut Vec<Vec<u8>>) {
 }
 
 /// The second field.
-fn name_of(line: &[u8]) -> Vec<u8> {
+pub(super) fn name_of(line: &[u8]) -> Vec<u8> {
     line.split(|byte| *byte == b',').nth(1).unwrap_or_default().to_vec()
 }
 
@@ -36,7 +36,7 @@ fn take_out_rules(name: &[u8], lines: &mut Vec<Vec<u8>>) {
 }
 
 /// Puts another name in the place of this one, on lines with these letters.
-fn rename(letters: &[u8], name: &[u8], other: &[u8], lines: &mut [Vec<u8>]) {
+pub(super) fn rename(letters: &[u8], name: &[u8], other: &[u8], lines: &mut [Vec<u8>]) {
     for line in lines {
         let mut fields: Vec<&[u8]> = line.split(|byte| *byte == b',').collect();
         let is_due = fields[0].first().is_some_and(|first| letters.contains(first));

@@ -2,6 +2,8 @@
 //! predicates, then facts and rules, then claims that suit both, then multipliers that justify the claims. The
 //! arithmetic here only steers the making; what a pack is worth is for the library and the plain implementation to say.
 
+#[path = "generate_arities.rs"]
+mod arities;
 #[path = "generate_facts.rs"]
 mod facts;
 #[path = "generate_heads.rs"]
@@ -213,9 +215,12 @@ impl Model {
         let first = random.below(NAMES.len());
         for index in 0..plan.predicates {
             let arity = if random.chance(8) { 0 } else { 1 + plan.up_to(random, plan.most_arity - 1) };
-            let name = predicate_name(first + index);
+            let mut named = (predicate_name(first + index), arity);
+            if plan.shared > 0 && index > 0 && random.chance(plan.shared) {
+                named = self.shared_predicate(random).unwrap_or(named);
+            }
             let is_given = random.chance(if index == 0 { 15 } else { 45 });
-            self.predicates.push(Predicate { name, arity, is_given });
+            self.predicates.push(Predicate { name: named.0, arity: named.1, is_given });
         }
     }
 

@@ -7,13 +7,19 @@ impl Model {
     /// Rules of ruled predicates, if there are such.
     pub(super) fn add_rules(&mut self, random: &mut Random, plan: &Plan) {
         for head in self.heads(random, plan) {
-            let rule = match random.below(9) {
-                0..=1 => self.passing_rule(random, plan, head),
-                2..=5 => self.recursive_rule(random, plan, head),
-                6..=7 => self.base_rule(random, plan, head),
-                _ => self.free_rule(random, plan, head),
-            };
+            let calls_namesake = plan.shared > 0 && random.chance(35);
+            let rule = if calls_namesake { self.namesake_rule(random, plan, head) } else { None };
+            let rule = rule.unwrap_or_else(|| self.any_rule(random, plan, head));
             self.rules.push(rule);
+        }
+    }
+
+    fn any_rule(&self, random: &mut Random, plan: &Plan, head: usize) -> Rule {
+        match random.below(9) {
+            0..=1 => self.passing_rule(random, plan, head),
+            2..=5 => self.recursive_rule(random, plan, head),
+            6..=7 => self.base_rule(random, plan, head),
+            _ => self.free_rule(random, plan, head),
         }
     }
 

@@ -5,6 +5,9 @@ use crate::random::Random;
 /// How large a pack is to be.
 pub struct Plan {
     pub predicates: usize,
+    /// How many of a hundred predicates take the name of an earlier one, with another arity. None here: who wants some
+    /// says how many.
+    pub shared: usize,
     pub most_arity: usize,
     pub most_claims: usize,
     /// How many facts come with the pack, if it has a given predicate. None here: who wants some says how many.
@@ -26,6 +29,7 @@ impl Plan {
     pub fn small(random: &mut Random) -> Plan {
         Plan {
             predicates: 1 + random.below(4),
+            shared: 0,
             most_arity: if random.chance(8) { 8 } else { 1 + random.below(4) },
             most_claims: if random.chance(10) { 0 } else { 1 + random.below(4) },
             facts: 0,
@@ -43,6 +47,7 @@ impl Plan {
     pub fn large(random: &mut Random) -> Plan {
         Plan {
             predicates: 4 + random.below(28),
+            shared: 0,
             most_arity: 1 + random.below(8),
             most_claims: 1 + random.below(8),
             facts: 0,
@@ -60,6 +65,7 @@ impl Plan {
     pub fn heavy(random: &mut Random) -> Plan {
         Plan {
             predicates: 1 + random.below(3),
+            shared: 0,
             most_arity: 8,
             most_claims: 16,
             facts: 0,
@@ -77,6 +83,7 @@ impl Plan {
     pub fn full(predicates: usize) -> Plan {
         Plan {
             predicates,
+            shared: 0,
             most_arity: 7,
             most_claims: 5,
             facts: 0,

@@ -9,7 +9,7 @@ use crate::random::Random;
 /// limit has other faults too, which have lower numbers.
 pub fn pack_at_a_limit(random: &mut Random) -> Pack {
     let step = random.below(3);
-    let (letter, mut lines) = match random.below(17) {
+    let (letter, mut lines) = match random.below(20) {
         0 => ('P', at_predicates(31 + step)),
         1 => ('C', at_claims(15 + step)),
         2 => ('H', at_rules(63 + step)),
@@ -26,6 +26,9 @@ pub fn pack_at_a_limit(random: &mut Random) -> Pack {
         13 => ('G', at_fact_line_bytes(1_023 + step)),
         14 => ('G', at_facts(random, 32_767 + step)),
         15 => ('E', at_heads(random)),
+        16 => ('P', at_shared_predicates(random, 31 + step)),
+        17 => ('C', at_shared_claims(random, step)),
+        18 => ('E', at_shared_heads(random)),
         _ => ('H', at_text_bytes(32_767 + step)),
     };
     if random.chance(40) {
@@ -91,6 +94,35 @@ fn at_heads(random: &mut Random) -> Vec<String> {
     heads.truncate(31 + random.below(2));
     for number in heads {
         lines.extend([format!("H,k{number},X"), "M".to_string()]);
+    }
+    lines.push("E".to_string());
+    lines
+}
+
+/// So many predicates of four names, each at up to nine arities.
+fn at_shared_predicates(random: &mut Random, count: usize) -> Vec<String> {
+    let mut both: Vec<String> = (0..36).map(|number| format!("P,k{},{},G", number / 9, number % 9)).collect();
+    random.shuffle(&mut both);
+    lines_from(&both.iter().map(String::as_str).collect::<Vec<&str>>()[..count], [].into_iter(), &["E"])
+}
+
+/// Sixteen claims on one arity of a name and 15 to 17 on the other, mixed.
+fn at_shared_claims(random: &mut Random, step: usize) -> Vec<String> {
+    let mut claims = [vec!["C,k,9,-1"; 16], vec!["C,k,7,0,-1"; 15 + step]].concat();
+    random.shuffle(&mut claims);
+    lines_from(&["P,k,1,G", "P,k1,1,R", "P,k,2,G"], claims.into_iter().map(String::from), &["E"])
+}
+
+/// Nine arities of a name with a claim each: all of them head a rule, or all but one.
+fn at_shared_heads(random: &mut Random) -> Vec<String> {
+    let mut arities: Vec<usize> = (0..9).collect();
+    random.shuffle(&mut arities);
+    let mut lines: Vec<String> = arities.iter().map(|arity| format!("P,k,{arity},R")).collect();
+    lines.extend(arities.iter().map(|arity| format!("C,k,{arity}{}", ",1".repeat(*arity))));
+    random.shuffle(&mut arities);
+    arities.truncate(8 + random.below(2));
+    for arity in arities {
+        lines.extend([format!("H,k{}", ",X".repeat(arity)), "M".to_string()]);
     }
     lines.push("E".to_string());
     lines

@@ -8,46 +8,22 @@ mod limits;
 mod plain;
 mod question;
 mod random;
+mod tally;
 
 use generate::{Model, Pack, Plan};
 use question::{Answer, Call, Question};
 use random::Random;
-use std::collections::BTreeMap;
 use std::process::exit;
 use std::sync::atomic::{AtomicU64, Ordering};
 use std::time::Instant;
+use tally::{count_lines, Tally};
 
 const DEFAULT_PACKS: u64 = 200_000;
 const DEFAULT_SEED: u64 = 20_260_101;
 const SHOWN_DIFFERENCES: u64 = 5;
 
-/// Among the accepted packs, those with facts are counted a second time under this name.
-const ACCEPTED_WITH_FACTS: &str = "check 0 with facts";
-
-/// The tests next to 24 are counted a second time under these names: packs refused with it that have lines after the
-/// `E` line, which would be 4 or 5, and packs refused with 9 on an `E` line that would be 24 without its further fields.
-const LINES_AFTER_24: &str = "check 24 with lines after E";
-const FIELDS_BEFORE_24: &str = "check 9 in place of 24";
-
-/// Among the sheets that were written, the shortest and the longest are counted a second time under these names; those of
-/// refused packs, which leave the page, under the last.
-const SHEET_WITHOUT_RULES: &str = "sheet 0 without rules";
-const LONGEST_SHEET: &str = "sheet 0 of 64 rules";
-const SHEET_OF_REFUSED: &str = "sheet (refused pack)";
-
 /// The pack in work, so that a panic can name it.
 static CURRENT_PACK: AtomicU64 = AtomicU64::new(0);
-
-/// What has been counted in a run.
-#[derive(Default)]
-struct Tally {
-    /// How often each kind of answer occurred, under names as `check 13` or `reserve B`.
-    answers: BTreeMap<String, u64>,
-    bytes: u64,
-    differences: u64,
-    /// Whether every question is shown: for a pack that is made again alone.
-    shows_questions: bool,
-}
 
 fn main() {
     let arguments: Vec<String> = std::env::args().skip(1).collect();
@@ -58,14 +34,14 @@ fn main() {
     println!("fuzz: {made} from seed {seed}, the first is number {first}");
     name_the_pack_in_panics();
     let start = Instant::now();
-    let mut tally = Tally { shows_questions: packs == 1, ..Tally::default() };
+    let mut tally = Tally::new(packs == 1);
     for number in first..first + packs {
         CURRENT_PACK.store(number, Ordering::Relaxed);
         ask_about_pack(&mut Random::for_pack(seed, number), number, &mut tally);
     }
     // one pack alone is made to be looked at, and cannot meet every answer
-    report(&tally, start);
-    let missing = packs > 1 && say_missing(&tally);
+    tally.report(start);
+    let missing = packs > 1 && tally.say_missing();
     if tally.differences > 0 || missing {
         println!("FAILED: {made}, {} differences", tally.differences);
         exit(1);
@@ -114,7 +90,11 @@ fn make_pack(random: &mut Random) -> Pack {
 }
 
 fn made_pack(random: &mut Random, plan: fn(&mut Random) -> Plan) -> Pack {
-    let plan = Plan { facts: number_of_facts(random), headless: random.chance(15), ..plan(random) };
+    let mut plan = Plan { facts: number_of_facts(random), headless: random.chance(15), ..plan(random) };
+    if random.chance(45) {
+        plan.shared = 40 + random.below(61);
+        plan.predicates = plan.predicates.max(2);
+    }
     let justified = random.chance(85);
     Model::make(random, &plan, justified).pack()
 }
@@ -155,8 +135,9 @@ fn make_area(random: &mut Random) -> Vec<i64> {
 fn make_query(random: &mut Random, pack: &Pack) -> Vec<u8> {
     let query = generate::query(random, &pack.declared);
     match random.below(100) {
-        0..=69 => query,
-        70..=89 => damage::edited_fields(random, &query),
+        0..=64 => query,
+        65..=74 => damage::arities::other_count(random, &query),
+        75..=89 => damage::edited_fields(random, &query),
         90..=97 => damage::damaged_bytes(random, &query),
         _ => [query, vec![b'1'; 1_000 + random.below(40)]].concat(),
     }
@@ -194,18 +175,14 @@ fn ask_about_pack(random: &mut Random, number: u64, tally: &mut Tally) {
     let (area, query, page) = (make_area(random), Vec::new(), Vec::new());
     let check = Question { call: Call::Check, text: pack.text.clone(), area, query, page, guard };
     let answer = compare(&check, number, tally);
-    tally.count(format!("check {}", answer.word & 255));
-    count_end(answer.word, &pack.text, tally);
+    tally.count_check(answer.word, &pack.text);
 
     let accepted = answer.word & 255 == 0;
-    if accepted && count_lines(&pack.text, b"G,") > 0 {
-        tally.count(ACCEPTED_WITH_FACTS.to_string());
-    }
     for _ in 0..if accepted { 4 } else { 1 } {
         let query = make_query(random, &pack);
         let reserve = Question { call: Call::Reserve, area: Vec::new(), query, ..check.clone() };
         let answer = compare(&reserve, number, tally);
-        tally.count(name_of_reservation(answer.word, accepted));
+        tally.count_reservation(answer.word, &pack.text, &reserve.query, accepted);
     }
     for _ in 0..2 {
         let text = make_term(random);
@@ -216,49 +193,7 @@ fn ask_about_pack(random: &mut Random, number: u64, tally: &mut Tally) {
     let page = make_page(random, &pack.text);
     let sheet = Question { call: Call::Sheet, area: Vec::new(), page, ..check };
     let answer = compare(&sheet, number, tally);
-    count_sheet(answer.numbers, tally);
-}
-
-/// How many lines of the text begin so.
-fn count_lines(text: &[u8], beginning: &[u8]) -> usize {
-    text.split(|byte| *byte == 10).filter(|line| line.starts_with(beginning)).count()
-}
-
-/// Whether check's answer is one next to 24, by what the text has at and after the line of the refusal.
-fn count_end(word: u64, text: &[u8], tally: &mut Tally) {
-    let (number, line) = (word & 0xFF, (word >> 8 & 0xFFFF) as usize);
-    let lines: Vec<&[u8]> = text.split_inclusive(|byte| *byte == 10).collect();
-    if number == 24 && line < lines.len() {
-        tally.count(LINES_AFTER_24.to_string());
-    }
-    if number == 9 && lines[line - 1].starts_with(b"E,") {
-        let mended = [lines[..line - 1].concat(), b"E\n".to_vec()].concat();
-        if plain::check(&mended, &mut [0; plain::AREA_NEEDED])[0] == 24 {
-            tally.count(FIELDS_BEFORE_24.to_string());
-        }
-    }
-}
-
-/// A pack's own refusals are one kind of answer here: check is asked about each of them.
-fn count_sheet(numbers: [u64; 4], tally: &mut Tally) {
-    match numbers {
-        [0 | 23, ..] => tally.count(format!("sheet {}", numbers[0])),
-        _ => tally.count(SHEET_OF_REFUSED.to_string()),
-    }
-    match numbers {
-        [0, _, 0, _] => tally.count(SHEET_WITHOUT_RULES.to_string()),
-        [0, _, 64, _] => tally.count(LONGEST_SHEET.to_string()),
-        _ => {}
-    }
-}
-
-/// A refusal of an accepted pack's query is named by its number.
-fn name_of_reservation(word: u64, accepted: bool) -> String {
-    match (word & 255) as u8 {
-        b'R' if accepted => format!("reserve R {}", word >> 16),
-        b'R' => "reserve R (pack)".to_string(),
-        letter => format!("reserve {}", letter as char),
-    }
+    tally.count_sheet(answer.numbers);
 }
 
 /// Asks both and returns the library's answer; a difference is counted, and shown if it is among the first.
@@ -278,12 +213,6 @@ fn compare(question: &Question, number: u64, tally: &mut Tally) -> Answer {
 
 // ---------------------------------------------------------------------------------------------------------------
 // Reporting.
-
-impl Tally {
-    fn count(&mut self, name: String) {
-        *self.answers.entry(name).or_default() += 1;
-    }
-}
 
 fn show_difference(question: &Question, number: u64) {
     println!("DIFFERENCE in {:?} at pack number {number} (reduced):", question.call);
@@ -344,33 +273,4 @@ fn show_answer(side: &str, call: Call, answer: &Answer) {
 
 fn hexadecimal(bytes: &[u8]) -> String {
     bytes.iter().map(|byte| format!("{byte:02x}")).collect()
-}
-
-/// All answers that a run must have met.
-fn needed_answers() -> Vec<String> {
-    let check = (0..=13).chain([20, 21, 22, 24]).map(|number| format!("check {number}"));
-    let check = check.chain([ACCEPTED_WITH_FACTS, LINES_AFTER_24, FIELDS_BEFORE_24].map(String::from));
-    let letters = ["B", "N", "I"].iter().map(|letter| format!("reserve {letter}"));
-    let refusals = [4, 14, 15, 16, 17, 18].iter().map(|number| format!("reserve R {number}"));
-    let measure = [0, 4, 11, 19].iter().map(|number| format!("measure {number}"));
-    let sheet = ["sheet 0", "sheet 23", SHEET_OF_REFUSED, SHEET_WITHOUT_RULES, LONGEST_SHEET].map(String::from);
-    check.chain(letters).chain(refusals).chain(measure).chain(sheet).collect()
-}
-
-/// Prints how often each answer occurred.
-fn report(tally: &Tally, start: Instant) {
-    let mut names: Vec<&String> = tally.answers.keys().collect();
-    names.sort_by_key(|name| (name.split(' ').next(), name.len(), name.to_string()));
-    let counts: Vec<String> = names.iter().map(|name| format!("{name}: {}", tally.answers[*name])).collect();
-    println!("{}", counts.join(", "));
-    println!("{} bytes of packs, {:.1} seconds", tally.bytes, start.elapsed().as_secs_f64());
-}
-
-/// Names the answers that must occur and did not; true if there is one.
-fn say_missing(tally: &Tally) -> bool {
-    let missing: Vec<String> = needed_answers().into_iter().filter(|name| !tally.answers.contains_key(name)).collect();
-    for name in &missing {
-        println!("FAILED: never met: {name}");
-    }
-    !missing.is_empty()
 }

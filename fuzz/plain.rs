@@ -1,4 +1,4 @@
-//! Document 01, with 02's 1/14 to 3/14, in plain Rust: `check`, `reserve`, `measure` and `sheet`, written from the
+//! Document 01, with 02's 1/14 to 5/14, in plain Rust: `check`, `reserve`, `measure` and `sheet`, written from the
 //! documents' words and not from the code under `crates/`. The fuzz test compares the project's library with it, so it
 //! aims at being easy to compare with the documents, not at speed. All arithmetic on forms is checked: an overflow stops
 //! the test.
@@ -231,28 +231,32 @@ impl<'a> Pack<'a> {
         self.predicates[rule.head.predicate].claims.len() - rule.multiplier_lines
     }
 
-    fn find(&self, name: &[u8]) -> Option<usize> {
-        self.predicates.iter().position(|predicate| predicate.name == name)
+    /// The place of the predicate that has both this name and this arity.
+    fn find(&self, name: &[u8], arity: usize) -> Option<usize> {
+        self.predicates.iter().position(|predicate| predicate.name == name && predicate.arity == arity)
     }
 
-    /// The second field as a declared predicate: refusals 7 and 8.
-    fn find_second(&self, fields: &[&'a [u8]]) -> Result<usize, Refusal> {
+    /// The declared predicate of a line on which so many fields are no arguments: refusals 7 and 8. The arity is the
+    /// number of the others; where there are not as many fields, it is below 0, and nothing is declared with that.
+    fn find_second(&self, fields: &[&'a [u8]], no_arguments: usize) -> Result<usize, Refusal> {
         refuse_unless(fields.len() > 1 && is_name(fields[1]), 7)?;
-        match self.find(fields[1]) {
+        let arity = fields.len().checked_sub(no_arguments);
+        match arity.and_then(|arity| self.find(fields[1], arity)) {
             Some(predicate) => Ok(predicate),
             None => refuse(8),
         }
     }
 
-    /// `P,name,n,kind`
+    /// `P,name,n,kind`: without an arity that can be read, the line passes 8.
     fn read_predicate(&mut self, fields: &[&'a [u8]]) -> Result<(), Refusal> {
         refuse_unless(fields.len() > 1 && is_name(fields[1]), 7)?;
-        refuse_unless(self.find(fields[1]).is_none(), 8)?;
-        refuse_unless(fields.len() == 4, 9)?;
-        let arity = match fields[2] {
-            [digit @ b'0'..=b'8'] => usize::from(digit - b'0'),
-            _ => return refuse(10),
+        let arity = match fields.get(2) {
+            Some([digit @ b'0'..=b'8']) => Some(usize::from(digit - b'0')),
+            _ => None,
         };
+        refuse_unless(arity.is_none_or(|arity| self.find(fields[1], arity).is_none()), 8)?;
+        refuse_unless(fields.len() == 4, 9)?;
+        let Some(arity) = arity else { return refuse(10) };
         refuse_unless(fields[3] == b"G" || fields[3] == b"R", 10)?;
         refuse_unless(self.predicates.len() < PREDICATES, 12)?;
         let is_given = fields[3] == b"G";
@@ -262,8 +266,7 @@ impl<'a> Pack<'a> {
 
     /// `C,name,c0,c1,..,cn`
     fn read_claim(&mut self, fields: &[&'a [u8]]) -> Result<(), Refusal> {
-        let predicate = self.find_second(fields)?;
-        refuse_unless(fields.len() == self.predicates[predicate].arity + 3, 9)?;
+        let predicate = self.find_second(fields, 3)?;
         let claim = read_numbers(&fields[2..], -9999)?;
         let claims = &mut self.predicates[predicate].claims;
         refuse_unless(claims.len() < CLAIMS, 12)?;
@@ -274,9 +277,9 @@ impl<'a> Pack<'a> {
 
     /// `G,name,t1,..,tn`: a fact that comes with the pack. Ground, so its sizes are constants.
     fn read_fact(&mut self, fields: &[&'a [u8]]) -> Result<(), Refusal> {
-        let predicate = &self.predicates[self.find_second(fields)?];
+        let predicate = &self.predicates[self.find_second(fields, 2)?];
         refuse_unless(predicate.is_given, 20)?;
-        let terms = read_terms(fields, predicate.arity)?;
+        let terms = read_terms(fields)?;
         refuse_unless(terms.iter().all(|term| term.variables.is_empty()), 21)?;
         let sizes: Vec<Form> = terms.iter().map(|term| Form::constant(term.arities)).collect();
         refuse_unless(predicate.claims.iter().all(|claim| claim_at(claim, &sizes).is_at_least_zero()), 22)?;
@@ -286,9 +289,9 @@ impl<'a> Pack<'a> {
 
     /// `H,name,t1,..,tn`
     fn read_head(&mut self, fields: &[&'a [u8]]) -> Result<(), Refusal> {
-        let predicate = self.find_second(fields)?;
+        let predicate = self.find_second(fields, 2)?;
         refuse_unless(!self.predicates[predicate].is_given, 8)?;
-        let terms = read_terms(fields, self.predicates[predicate].arity)?;
+        let terms = read_terms(fields)?;
         refuse_unless(self.rules < RULES, 12)?;
         let mut variables = Vec::new();
         let head = Atom { predicate, sizes: sizes_of(&terms, &mut variables)? };
@@ -301,8 +304,8 @@ impl<'a> Pack<'a> {
 
     /// `B,name,t1,..,tn`
     fn read_subgoal(&mut self, fields: &[&'a [u8]]) -> Result<(), Refusal> {
-        let predicate = self.find_second(fields)?;
-        let terms = read_terms(fields, self.predicates[predicate].arity)?;
+        let predicate = self.find_second(fields, 2)?;
+        let terms = read_terms(fields)?;
         let rule = self.rule.as_mut().expect("a subgoal stands after a head");
         refuse_unless(rule.subgoals.len() < SUBGOALS, 12)?;
         let sizes = sizes_of(&terms, &mut rule.variables)?;
@@ -361,9 +364,8 @@ fn read_numbers(fields: &[&[u8]], lowest: i64) -> Result<Vec<i64>, Refusal> {
     }
 }
 
-/// The arguments of a `G`, `H` or `B` line: refusals 9 and 11.
-fn read_terms<'a>(fields: &[&'a [u8]], arity: usize) -> Result<Vec<Term<'a>>, Refusal> {
-    refuse_unless(fields.len() == arity + 2, 9)?;
+/// The arguments of a `G`, `H` or `B` line: refusal 11.
+fn read_terms<'a>(fields: &[&'a [u8]]) -> Result<Vec<Term<'a>>, Refusal> {
     let terms: Option<Vec<Term<'a>>> = fields[2..].iter().map(|field| read_term(field)).collect();
     match terms {
         Some(terms) => Ok(terms),

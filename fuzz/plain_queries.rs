@@ -12,16 +12,17 @@ pub(super) struct Query<'p> {
     pub(super) sizes: Vec<Option<i64>>,
 }
 
-/// `name,i,s1,..,sn`: refusals 4 and 14 to 18.
+/// `name,i,s1,..,sn`: refusals 4, 14 and 16 to 18. The fields but two are the arguments, and a predicate is looked for by
+/// its name and their number.
 pub(super) fn read_query<'p>(pack: &'p Pack, line: &[u8]) -> Result<Query<'p>, Refusal> {
     refuse_unless(is_clean(line), 4)?;
     let fields = fields_of(line);
     refuse_unless(is_name(fields[0]), 14)?;
-    let predicate = match pack.find(fields[0]) {
+    let arity = fields.len().checked_sub(2);
+    let predicate = match arity.and_then(|arity| pack.find(fields[0], arity)) {
         Some(predicate) => &pack.predicates[predicate],
         None => return refuse(14),
     };
-    refuse_unless(fields.len() == predicate.arity + 2, 15)?;
     let asked = match read_number_within(fields[1], 1, predicate.arity as i64) {
         Some(asked) => asked as usize,
         None => return refuse(16),

@@ -2,7 +2,7 @@
  *
  * Link with libcerrundix.a (`scripts/prepare library` makes it, for x86-64 Linux). The library keeps no state, so threads
  * may call it at the same time; it takes no memory from the heap, and calls nothing but memset and memcpy. Each call
- * returns, whatever the bytes, given enough stack (check, reserve and the sheet used 17,624 bytes at most, measure 1,944:
+ * returns, whatever the bytes, given enough stack (check, reserve and the sheet used 17,608 bytes at most, measure 1,944:
  * bench/README.md); no call reads or writes outside the buffers that it is lent. What each answer means is proved against
  * documents 01 and 02 (docs/MAP.md).
  *
@@ -43,7 +43,7 @@ uint64_t check(const uint8_t *text, size_t text_length, int64_t *area, size_t ar
  *   'B': the asked size is at most middle, by claim `by`
  *   'N': no claim gives a bound
  *   'I': there is no such fact, by claim `by`
- *   'R': refused; middle is the pack's number (2 to 13, 20 to 22, 24) or the query's (4, 14 to 18), see
+ *   'R': refused; middle is the pack's number (2 to 13, 20 to 22, 24) or the query's (4, 14, 16 to 18), see
  *   cerrundix_reason */
 uint64_t reserve(const uint8_t *text, size_t text_length, const uint8_t *query, size_t query_length);
 
@@ -112,7 +112,9 @@ static inline uint64_t cerrundix_middle(uint64_t word) { return word >> 16; }
 static inline unsigned cerrundix_refusal(uint64_t word) { return (unsigned)(word & 0xff); }
 static inline uint64_t cerrundix_size(uint64_t word) { return word >> 8; }
 
-/* A refusal in words, with what to mend. */
+/* A refusal in words, with what to mend. Predicates go by name and arity, and the arity of a line or a query is what its
+ * count of fields leaves for arguments. So a wrong count of fields is 8 on C, G, H and B lines, and 14 in a query. 15,
+ * which a query of a declared name and a wrong count had before, is no longer given, and stands for nothing else. */
 static inline const char *cerrundix_reason(unsigned number) {
     switch (number) {
     case 0: return "accepted";
@@ -123,14 +125,14 @@ static inline const char *cerrundix_reason(unsigned number) {
     case 5: return "a line of this letter may not stand here: check the order, count the M lines; comments and blank lines are not allowed";
     case 6: return "the text ends without an E line: add it";
     case 7: return "the second field is missing or no name: a small letter first, at most 16 characters";
-    case 8: return "on a P line the name is taken; on other lines it is not declared, or on H it is of a given predicate";
-    case 9: return "the wrong number of fields: compare with the predicate's arguments, for M with the subgoals' claims";
+    case 8: return "on a P line the name is taken with this arity; on other lines no P line declares it with so many arguments, or on H it is of a given predicate: compare name and number of fields with the P lines";
+    case 9: return "the wrong number of fields on a P, M or E line: P has four, M one and a multiplier for each claim on a subgoal, E one";
     case 10: return "an arity, kind, claim number or multiplier is malformed or out of range";
     case 11: return "a field is no term: each symbol needs its arity and that many terms, parted by single spaces";
     case 12: return "the line passes a count limit";
     case 13: return "a claim is not justified, check's area holds the residual: other multipliers, one more claim on a subgoal, another base case, or a weaker claim";
-    case 14: return "the query's name is missing, malformed or not declared";
-    case 15: return "the query has not two fields more than the predicate has arguments";
+    case 14: return "the query's name is missing or malformed, or no P line declares it with so many arguments: a query has two fields more than its predicate has arguments";
+    case 15: return "no longer given: a query of a declared name with a wrong number of fields is 14";
     case 16: return "the asked argument is malformed, or the predicate has none of that number";
     case 17: return "a size is malformed or over 65535";
     case 18: return "the asked argument's own size is not -";
@@ -139,7 +141,7 @@ static inline const char *cerrundix_reason(unsigned number) {
     case 21: return "a fact on a G line has a variable: a constant starts with a small letter and has its arity";
     case 22: return "a fact on a G line fails a claim on its predicate: correct the fact or weaken the claim";
     case 23: return "the page is shorter than the sheet, 65 bytes for each rule: lend a longer one, 4,160 bytes do for every pack";
-    case 24: return "a ruled predicate has a claim and heads no rule: look for a misspelt head, add its rules, or take its claims out";
+    case 24: return "a ruled predicate has a claim and heads no rule: look for a head that is misspelt or has another number of arguments, add its rules, or take its claims out";
     default: return "no refusal of this library";
     }
 }

@@ -34,7 +34,7 @@ pub enum Reservation {
     Bound { size: u64, claim: u8 },
     NoBound,
     Impossible { claim: u8 },
-    /// The pack's number (2 to 13, 20 to 22, 24) or the query's (4, 14 to 18).
+    /// The pack's number (2 to 13, 20 to 22, 24) or the query's (4, 14, 16 to 18; 15 is no longer given).
     Refused { number: u8 },
 }
 

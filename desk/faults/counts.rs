@@ -4,6 +4,7 @@ use super::terms::argument_tokens;
 use super::Fault;
 use crate::letters::Letter;
 use crate::limits::{CLAIMS, PREDICATES, RULES, SUBGOALS, VARIABLES};
+use crate::naming::Naming;
 use crate::pack::{fields_of, Pack, Rule};
 use crate::tokens::is_variable;
 use crate::words::{listed, shown};
@@ -14,7 +15,7 @@ pub fn of_line(seen: &Pack, line: &[u8]) -> Option<Fault> {
     match Letter::of(fields[0])? {
         Letter::Predicate => passed(line, seen.predicates.len(), PREDICATES, "predicates in a pack", SPLIT),
         Letter::Claim => {
-            let predicate = seen.named(fields.get(1)?)?;
+            let predicate = seen.declared(&Naming::of_fields(&fields)?)?;
             let what = format!("claims on {}", predicate.indicator());
             let mend = "Take out a claim that follows from the others.";
             passed(line, predicate.claims.len(), CLAIMS, &what, mend)

@@ -4,6 +4,7 @@ use super::terms::{argument_tokens, explain_variables};
 use super::{place_of_field, Detail, Fault};
 use crate::facts::judge;
 use crate::letters::Letter;
+use crate::naming::Naming;
 use crate::pack::{fields_of, Atom, Pack};
 
 /// The fields of a line that states a fact.
@@ -18,11 +19,13 @@ fn read_fact<'t>(seen: &Pack<'t>, line: &'t [u8]) -> Option<Atom<'t>> {
 
 /// 20: the name.
 pub fn of_ruled_predicate(seen: &Pack, line: &[u8]) -> Option<Fault> {
-    let predicate = seen.named(fields_of_fact(line)?.get(1)?).filter(|predicate| !predicate.is_given)?;
+    let naming = Naming::of_fields(&fields_of_fact(line)?)?;
+    let predicate = seen.declared(&naming).filter(|predicate| !predicate.is_given)?;
     let called = predicate.indicator();
     let wrong = format!(
-        "{called} is ruled (kind R, line {}): rules derive its facts, and none can come with the pack.",
-        predicate.line
+        "{called} is ruled (kind R, line {}): rules derive its facts, and none can come with the pack.{}",
+        predicate.line,
+        seen.of_other_kind(predicate)
     );
     let mend = format!(
         "Declare it with kind G if its facts are given. Or make the fact a rule without subgoals: an H line after the \

@@ -4,9 +4,10 @@ use super::{place_of_field, Fault};
 use crate::claims::argument_name;
 use crate::letters::Letter;
 use crate::limits::{HIGHEST_ARITY, HIGHEST_NUMBER, HIGHEST_SIZE};
-use crate::pack::{fields_of, Pack};
+use crate::naming::Naming;
+use crate::pack::{fields_of, Pack, Predicate};
 use crate::tokens::{number, NumberFault};
-use crate::words::{capital, count, quoted, shown};
+use crate::words::{capital, count, listed, quoted, shown};
 
 /// What a field's number is called, and from where to where it goes.
 struct Range {
@@ -63,16 +64,34 @@ fn of_kind(line: &[u8]) -> Option<Fault> {
 
 /// 16: the asked argument.
 pub fn of_asked_argument(pack: &Pack, query: &[u8]) -> Option<Fault> {
-    let predicate = pack.named(fields_of(query)[0])?;
-    let called = "the asked argument".to_string();
+    let predicate = pack.declared(&Naming::of_query(query))?;
     if predicate.arity == 0 {
-        let wrong = format!("{} has no arguments, so none can be asked for.", predicate.indicator());
-        return Fault::at(place_of_field(query, 1), wrong, "Ask of a predicate that has arguments.");
+        return no_arguments(pack, query, predicate);
     }
+    let called = "the asked argument".to_string();
     let outside = ["Write the asked argument's number, counted from 1."; 2];
     let mut fault = explain(query, 1, Range { called, lowest: 1, highest: predicate.arity as i64, outside })?;
     fault.wrong += &format!(" {} has {}.", predicate.indicator(), count(predicate.arity, "argument"));
+    let asked = number(fields_of(query)[1], 1, HIGHEST_ARITY).ok();
+    if let Some(others) = asked.and_then(|asked| larger_ones(pack, predicate.name, asked as usize)) {
+        fault.mend += &format!(" Or ask of {others}.");
+    }
     Some(fault)
+}
+
+/// The query has no sizes, so it is of the predicate without arguments; others of the name may have some.
+fn no_arguments(pack: &Pack, query: &[u8], predicate: &Predicate) -> Option<Fault> {
+    let wrong = format!("{} has no arguments, so none can be asked for.", predicate.indicator());
+    let others = larger_ones(pack, predicate.name, 1);
+    let mend = format!("Ask of {}.", others.unwrap_or("a predicate that has arguments".to_string()));
+    Fault::at(place_of_field(query, 1), wrong, mend)
+}
+
+/// The predicates of a name that have so many arguments at least, as the end of a mend, if there are any.
+fn larger_ones(pack: &Pack, name: &[u8], least: usize) -> Option<String> {
+    let others = pack.of_name(name).into_iter().filter(|other| other.arity >= least);
+    let others: Vec<String> = others.map(Predicate::indicator).collect();
+    (!others.is_empty()).then(|| format!("{}, with a size for each argument", listed(&others, "or")))
 }
 
 /// 17: the first size that is malformed or out of range.

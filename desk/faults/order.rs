@@ -31,7 +31,7 @@ fn after_the_end(seen: &Pack, line: &[u8], end: usize) -> (String, String) {
     let first = fields_of(line)[0];
     let mend = if line.is_empty() {
         "Remove it: a blank line is a line too."
-    } else if seen.named(first).is_some() {
+    } else if !seen.of_name(first).is_empty() {
         "Remove it. If it is a query, hand it over as an argument: packdesk reserve PACK QUERY."
     } else {
         "Remove it, or move the E line to the end."

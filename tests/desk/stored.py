@@ -30,19 +30,19 @@ def fields(answer):
 
 
 def rules_of(pack):
-    """For each rule its number, its head's name, how many subgoals and how many M lines it has."""
+    """For each rule its number, its head's name and arity, how many subgoals and how many M lines it has."""
     rules = []
     with open(pack, encoding="ascii") as file:
         for fields in (line.rstrip("\n").split(",") for line in file):
             if fields[0] == "H":
-                rules.append({"rule": len(rules) + 1, "head": fields[1], "subgoals": 0, "multiplier_lines": 0})
+                rules.append({"rule": len(rules) + 1, "head": fields[1], "arity": len(fields) - 2, "subgoals": 0, "multiplier_lines": 0})
             elif fields[0] in ("B", "M"):
                 rules[-1]["subgoals" if fields[0] == "B" else "multiplier_lines"] += 1
     return rules
 
 
 def sheet_of(rules):
-    """Four columns with a space between them, then spaces up to 64."""
+    """Four columns with a space between them, none of them the arity, then spaces up to 64."""
     widths = {"rule": str.rjust, "head": str.ljust, "subgoals": str.rjust, "multiplier_lines": str.rjust}
     rows = [[align(str(rule[key]), width) for (key, align), width in zip(widths.items(), (4, 16, 2, 3))] for rule in rules]
     return "".join(" ".join(row).ljust(64) + "\n" for row in rows)

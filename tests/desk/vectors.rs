@@ -1,5 +1,5 @@
 //! The desk against the library: every text, query and term of the stored vectors, and some thousands of packs made of
-//! them, and of packs with facts, by damage. Whatever the library answers, the desk must find the fault that it names or
+//! them, of packs with facts and of packs with one name at several arities, by damage (damage.rs). Whatever the library answers, the desk must find the fault that it names or
 //! work out the same numbers and the same sheet: no disagreement and no panic. `tests/desk/run` runs this with the other
 //! unit tests, from the project's folder.
 
@@ -7,17 +7,21 @@ use crate::check;
 use crate::findings::{examine, Finding};
 use crate::input::Source;
 use crate::measure;
-use crate::pack::{fields_of, lines_of};
+use crate::pack::lines_of;
 use crate::report::{Report, Status};
 use crate::reserve;
 use crate::sheet;
 use cerrundix::{Filing, Reservation, Verdict, SHEET_LIMIT};
+use damage::{damage, damaged_bytes, query_of};
 use random::Random;
 use std::collections::{BTreeMap, BTreeSet};
 
 #[path = "../../fuzz/random.rs"]
 #[allow(dead_code)]
 mod random;
+
+#[path = "damage.rs"]
+mod damage;
 
 const VECTORS: &str = "tests/vectors";
 const DAMAGED_PACKS: usize = 6_000;
@@ -28,6 +32,17 @@ const PACKS_WITH_FACTS: [&[u8]; 4] = [
     include_bytes!("../../packs/refused/20-fact-of-ruled.pack"),
     include_bytes!("../../packs/refused/21-variable-in-fact.pack"),
     include_bytes!("../../packs/refused/22-claim-not-met.pack"),
+];
+
+/// Packs with one name at several arities: kinds, claims and rules of each are its own.
+const PACKS_WITH_ARITIES: [&[u8]; 3] = [
+    b"P,path,2,R\nP,path,3,R\nP,path,1,G\nC,path,0,1,-1\nC,path,0,1,1,-1\nC,path,2,-1\nG,path,up/1 tray/0\n\
+      H,path,X,Y\nB,path,X,nil/0,Y\nM,1\nH,path,nil/0,Y,Y\nM\n\
+      H,path,cons/2 X Xs,Y,Z\nB,path,Xs,cons/2 X Y,Z\nB,path,X\nM,1,0\nE\n",
+    b"P,k,0,R\nP,k,1,G\nP,k,8,R\nC,k,0\nC,k,7,-2\nC,k,7,-1,0,0,0,0,0,0,1\nC,k,0,1\n\
+      H,k\nB,k,X\nM,0,0\nH,k,nil/0,B,C,D,E,F,G,H\nM\nE\n",
+    b"P,k,0,G\nP,k,1,G\nP,k,2,G\nP,k,3,G\nP,k,4,G\nP,k,5,G\nP,k,6,G\nP,k,7,G\nP,k,8,G\n\
+      C,k,4,-1\nC,k,-2,1,-1\nC,k,-9,0,1,-1\nG,k\nG,k,a/0\nG,k,s/2 a/0 a/0,a/0\nE\n",
 ];
 
 // ---------------------------------------------------------------------------------------------------------------
@@ -205,91 +220,6 @@ fn explain_measure(term: &[u8]) -> u8 {
 }
 
 // ---------------------------------------------------------------------------------------------------------------
-// Damage.
-
-#[rustfmt::skip]
-const FIELDS: [&[u8]; 34] = [
-    b"", b"0", b"1", b"2", b"-1", b"-2", b"7", b"9", b"01", b"+1", b"-0", b"-", b"10000", b"65536", b"x", b"X", b"Xs", b"_",
-    b"nil/0", b"cons/2 X Xs", b"cons/2 X", b"f/1  X", b"a/0 a/0", b"s/1 Y", b"cons(X,Xs)", b"G", b"R", b"E", b"M", b"join",
-    b"next", b"trail", b"tray/0", b"up/1 tray/0",
-];
-const BYTES: &[u8] = b"PCGHBME,, /019-+XYan_.#(\n\n\r\t\x00\x7f\xc3\xa9";
-
-fn damage(text: &mut Vec<u8>, random: &mut Random) {
-    if text.is_empty() {
-        text.push(random.pick(BYTES));
-        return;
-    }
-    match random.below(6) {
-        0 => {
-            let place = random.below(text.len());
-            text[place] = random.pick(BYTES);
-        }
-        1 => {
-            text.remove(random.below(text.len()));
-        }
-        _ => damage_lines(text, random),
-    }
-}
-
-/// Changes a field, or takes out, doubles or moves a line.
-fn damage_lines(text: &mut Vec<u8>, random: &mut Random) {
-    let mut lines: Vec<Vec<u8>> = lines_of(text).into_iter().map(<[u8]>::to_vec).collect();
-    let place = random.below(lines.len());
-    match random.below(6) {
-        0 => {
-            lines.remove(place);
-        }
-        1 => lines.insert(place, lines[random.below(lines.len())].clone()),
-        2 => {
-            let other = random.below(lines.len());
-            lines.swap(place, other);
-        }
-        _ => {
-            let mut fields: Vec<Vec<u8>> = fields_of(&lines[place]).into_iter().map(<[u8]>::to_vec).collect();
-            let field = random.below(fields.len());
-            fields[field] = random.pick(&FIELDS).to_vec();
-            lines[place] = fields.join(&b',');
-        }
-    }
-    *text = lines.join(&b'\n');
-    text.push(b'\n');
-}
-
-fn damaged_bytes(bytes: &[u8], random: &mut Random) -> Vec<u8> {
-    let mut damaged = bytes.to_vec();
-    for _ in 0..random.below(3) {
-        if damaged.is_empty() || random.chance(30) {
-            let piece = random.pick(&FIELDS);
-            let place = random.below(damaged.len() + 1);
-            damaged.splice(place..place, piece.iter().copied());
-        } else {
-            let place = random.below(damaged.len());
-            damaged[place] = random.pick(BYTES);
-        }
-    }
-    damaged
-}
-
-/// A query of a predicate that the pack declares, mostly well-formed.
-fn query_of(text: &[u8], random: &mut Random) -> Vec<u8> {
-    let declared: Vec<&[u8]> = lines_of(text).into_iter().filter(|line| line.starts_with(b"P,")).collect();
-    if declared.is_empty() {
-        return b"k,1,-".to_vec();
-    }
-    let fields = fields_of(declared[random.below(declared.len())]);
-    let arity: usize = fields.get(2).and_then(|field| String::from_utf8_lossy(field).parse().ok()).unwrap_or(1);
-    let asked = 1 + random.below(arity.clamp(1, 8));
-    let mut query = [fields[1], b",", asked.to_string().as_bytes()].concat();
-    for argument in 1..=arity {
-        let is_unknown = argument == asked || random.chance(30);
-        let size = if is_unknown { "-".to_string() } else { random.below(40).to_string() };
-        query.extend([b",", size.as_bytes()].concat());
-    }
-    query
-}
-
-// ---------------------------------------------------------------------------------------------------------------
 // The tests.
 
 #[test]
@@ -331,8 +261,21 @@ fn damaged_packs_are_explained() {
     let (verdicts, answers) = explain_damaged(&packs.map(Vec::as_slice).collect::<Vec<&[u8]>>(), 1);
     let wanted = [0, 2, 3, 4, 5, 6, 7, 8, 9, 10, 11, 12, 13, 24];
     assert!(wanted.iter().all(|number| verdicts.contains(number)), "each verdict has occurred: {verdicts:?}");
-    let wanted = [('B', 0), ('N', 0), ('I', 0), ('R', 14), ('R', 15), ('R', 16), ('R', 17), ('R', 18), ('R', 24)];
+    let wanted = [('B', 0), ('N', 0), ('I', 0), ('R', 14), ('R', 16), ('R', 17), ('R', 18), ('R', 24)];
     assert!(wanted.iter().all(|answer| answers.contains(answer)), "each answer has occurred: {answers:?}");
+}
+
+#[test]
+fn damaged_packs_with_arities_are_explained() {
+    for pack in PACKS_WITH_ARITIES {
+        assert_eq!(explain_check(pack), 0);
+    }
+    let (verdicts, answers) = explain_damaged(&PACKS_WITH_ARITIES, 4);
+    let wanted = [0, 3, 4, 5, 6, 7, 8, 9, 10, 11, 13, 20, 22, 24];
+    assert!(wanted.iter().all(|number| verdicts.contains(number)), "each verdict has occurred: {verdicts:?}");
+    let wanted = [('B', 0), ('N', 0), ('I', 0), ('R', 8), ('R', 14), ('R', 16), ('R', 17), ('R', 18)];
+    assert!(wanted.iter().all(|answer| answers.contains(answer)), "each answer has occurred: {answers:?}");
+    assert!(!answers.contains(&('R', 15)), "15 is no longer given");
 }
 
 #[test]

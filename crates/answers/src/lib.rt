@@ -126,7 +126,6 @@ pub fn query_number(refusal: QueryRefusal) -> u8
     match refusal {
         QueryRefusal::UnfitQuery => 4,
         QueryRefusal::QueryName => 14,
-        QueryRefusal::QueryFieldCount => 15,
         QueryRefusal::AskedArgument => 16,
         QueryRefusal::SizeField => 17,
         QueryRefusal::AskedIsKnown => 18,

@@ -1,12 +1,12 @@
 -- Lines that state an atom: their faults from the terms on, and what their terms leave when all are read.
 use mathlib.Core.Path.{_≡_, refl, sym, _∙_, ap}
 use mathlib.Core.Bool.{Bool, true, not}
-use mathlib.Core.List.{List, [], _∷_, _++_}
+use mathlib.Core.List.{List, [], _∷_}
 use Prim.Native.Nat.{ℕ, suc, _≤_, _<_}
 use native.Mathlib.Omega.{arith}
 use lib.Dec.{ltb}
 use lib.ListN.{length, getD, drop, length-drop}
-use lib.Seq.{take-length}
+use lib.Seq.{take-length, drop-append-seam}
 use Rattle.groundwork.proofs.Truth.{by-truth, ltb-lt, ltb-ge, lt-ltb, ge-ltb}
 use Rattle.theory.specs.Lists.{every}
 use Rattle.theory.specs.Text.{Bytes, fieldsOf}
@@ -14,6 +14,7 @@ use Rattle.theory.specs.Terms.{arity, allVariables}
 use Rattle.theory.specs.Packs.{Pack, Key}
 use Rattle.theory.specs.Written.{Written, termsFrom}
 use Rattle.theory.specs.Residuals.{numbered}
+use Rattle.theory.specs.declared.Letter.{Letter}
 use Rattle.theory.specs.Faults.{Test, test, isTerm, firstOf, atomTests}
 use Rattle.theory.proofs.Judging.Tests.{first-passed, first-found}
 use Rattle.theory.proofs.Reading.Places.{places-every, not-every}
@@ -35,22 +36,18 @@ use Rattle.atoms.proofs.TermRows.{terms-begin, term-field}
 
 -- ---- faults
 
-past-seam : (ts : List Test) (t : Test) (us : List Test) → drop (suc (length ts)) (ts ++ (t ∷ us)) ≡ us
-past-seam [] t us = refl
-past-seam (u ∷ ts) t us = past-seam ts t us
-
-module _ (isRefused : Bool) (afterName afterTerms : List Test) (fields : List Bytes) (p : Pack) where
+module _ (l : Letter) (isRefused : Bool) (afterName afterTerms : List Test) (fields : List Bytes) (p : Pack) where
   -- the tests from 11 on
-  from-terms : firstOf (drop (suc (suc (suc (length afterName)))) (atomTests isRefused afterName afterTerms fields p)) ≡ firstOf (test 11 (not (every isTerm (drop 2 fields))) ∷ afterTerms)
+  from-terms : firstOf (drop (suc (suc (length afterName))) (atomTests l isRefused afterName afterTerms fields p)) ≡ firstOf (test 11 (not (every isTerm (drop 2 fields))) ∷ afterTerms)
   unfolding atomTests
-  from-terms = ap firstOf (past-seam afterName _ _)
+  from-terms = ap firstOf (drop-append-seam afterName _)
 
   -- all are terms: those after 11 decide
-  pub atom-ended : every isTerm (drop 2 fields) ≡ true → firstOf (drop (suc (suc (suc (length afterName)))) (atomTests isRefused afterName afterTerms fields p)) ≡ firstOf afterTerms
+  pub atom-ended : every isTerm (drop 2 fields) ≡ true → firstOf (drop (suc (suc (length afterName))) (atomTests l isRefused afterName afterTerms fields p)) ≡ firstOf afterTerms
   atom-ended good = from-terms ∙ first-passed 11 _ afterTerms (ap not good)
 
   pub atom-fault : {atom index many : ℕ} {names₀ names rows₀ rows : List ℕ} {r : Fielding} {f : Fault} → index < length (drop 2 fields) → FieldTerm atom index (at (drop 2 fields) index) many names₀ rows₀ r names rows → r ≡ Misread f
-      → firstOf (drop (suc (suc (suc (length afterName)))) (atomTests isRefused afterName afterTerms fields p)) ≡ numberOf f
+      → firstOf (drop (suc (suc (length afterName))) (atomTests l isRefused afterName afterTerms fields p)) ≡ numberOf f
   atom-fault {index = index} inside done bad =
       let found = field-fails (done .known) NoTerm (isTerm (at (drop 2 fields) index)) (done .answer) bad in
       from-terms ∙ first-found 11 _ afterTerms (ap not (not-every isTerm (drop 2 fields) [] index inside (found .0))) ∙ ap numberOf (found .1)

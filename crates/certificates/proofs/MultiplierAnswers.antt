@@ -12,19 +12,20 @@ use Rattle.groundwork.proofs.Truth.{not-true}
 use Rattle.theory.specs.Lists.{every}
 use Rattle.theory.specs.Text.{Bytes, fieldsOf}
 use Rattle.theory.specs.Terms.{arity}
-use Rattle.theory.specs.Packs.{Key, claimsOn, noClaim}
+use Rattle.theory.specs.Packs.{atomKey, Key, claimsOn, noClaim}
 use Rattle.theory.specs.declared.Letter.the-variants.{M}
 use Rattle.theory.specs.Written.{Written, multipliersFrom}
 use Rattle.theory.specs.Residuals.{isJustified}
 use Rattle.theory.specs.Faults.{firstOf, isMultiplier, lastRule, isComplete, mayStand, claimDue, residualDue, multiplierTests, whole, tests, fault}
 use Rattle.theory.proofs.Reading.Places.{places-every, not-every}
+use Rattle.theory.proofs.Judging.Keys.{on-arity}
 use Rattle.theory.proofs.Judging.Completeness.{rule-from-incomplete, due-from-incomplete}
 use Rattle.forms.specs.declared.Form.{Form}
 use Rattle.tables.specs.declared.State.{State}
 use Rattle.tables.specs.declared.Opened.{Opened}
 use Rattle.tables.specs.declared.Closing.{Closing}
 use Rattle.tables.specs.declared.Closing.the-variants.{Done, Misclosed}
-use Rattle.tables.specs.Tables.{Tables, claimPlace, predicateAt, ClaimAt, RuleStands, Holds, Safe}
+use Rattle.tables.specs.Tables.{Tables, claimPlace, ClaimAt, RuleStands, Holds, Safe}
 use Rattle.tables.specs.Faults.{numberOf, closingNumber}
 use Rattle.tables.specs.Lines.{Passed}
 use Rattle.residuals.specs.Sums.{width, atomsSum, numberAt, formNumbers, SumsTo}
@@ -52,14 +53,14 @@ module _ {line : Bytes} {t : Tables} {s : State} {w : Written} {o : Opened} {wei
   -- the claim that is due stands in the table, in full
   due-claim : ClaimAt (t .claims) (claimPlace (s .head) (s .multipliers)) (claimDue (w .pack)) × (length (claimDue (w .pack) .coefficients) ≡ arity (lastRule (w .pack) .head .terms))
   due-claim =
-      let onKey = subst OnKey (stands .headKey) (λ j below. (holds .claims .at (s .head) j (stands .head) below, holds .claims .full (s .head) j (stands .head) below)) in
-      let found = onKey (length (lastRule (w .pack) .multipliers)) (due-from-incomplete (w .pack) incomplete) in
-      rw (stands .multipliers) (found .0, found .1 ∙ sym (stands .headFull))
+      let onKey = subst OnKey (stands .headKey) (λ j below. holds .claims .at (s .head) j (stands .head) below) in
+      let due = length (lastRule (w .pack) .multipliers) in
+      let inside = due-from-incomplete (w .pack) incomplete in
+      rw (stands .multipliers) (onKey due inside, on-arity (atomKey (lastRule (w .pack) .head)) (w .pack .claims) due inside)
     where
       OnKey : Key → Type 0
       OnKey k = (j : ℕ) → j < length (claimsOn k (w .pack .claims))
           → ClaimAt (t .claims) (claimPlace (s .head) j) (getD (claimsOn k (w .pack .claims)) j noClaim)
-          × (length (getD (claimsOn k (w .pack .claims)) j noClaim .coefficients) ≡ predicateAt (w .pack .predicates) (s .head) .arguments)
 
   abbrev residue : List ℤ
   residue = residualDue (w .pack) (multipliersFrom (fieldsOf line))

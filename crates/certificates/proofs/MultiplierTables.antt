@@ -43,7 +43,6 @@ module _ (t : Tables) (s : State) (w : Written) (line : Bytes) (is : lineLetter 
       record {
         head = rule .head;
         headKey = rule .headKey;
-        headFull = rule .headFull;
         subgoals = rule .subgoals;
         variables = rule .variables;
         holdsVariables = rule .holdsVariables;

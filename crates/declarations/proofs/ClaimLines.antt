@@ -8,7 +8,7 @@ use native.Mathlib.Omega.{arith}
 use borrow.Author.Count.{below-more}
 use lib.Dec.{leb}
 use lib.IntN.{ℤ, pos, natAbs}
-use lib.ListN.{length, getD, set, drop, length-set, length-map, length-drop}
+use lib.ListN.{length, getD, set, drop, length-set}
 use lib.Seq.{getD-set-other}
 use Rattle.groundwork.proofs.Truth.{and-right, leb-gt}
 use Rattle.groundwork.proofs.Stretches.{replaced}
@@ -16,7 +16,7 @@ use Rattle.theory.specs.Lists.{every, isEmpty}
 use Rattle.theory.specs.Text.{Bytes, integer, fieldsOf}
 use Rattle.theory.specs.Packs.{claimKey, claimsOn, claimLimit, numberLimit}
 use Rattle.theory.specs.declared.Letter.the-variants.{C}
-use Rattle.theory.specs.Written.{Written, claimFrom, integerFrom, add}
+use Rattle.theory.specs.Written.{Written, claimFrom, add}
 use Rattle.theory.specs.Faults.{isClaimNumber, firstOf, claimTests, whole, tests, fault}
 use Rattle.theory.proofs.Reading.Presence.{some-is, is-empty, end-filled}
 use Rattle.theory.proofs.Reading.Places.{places-every, not-every}
@@ -98,8 +98,7 @@ c-holds line t s w o row claims holds safe passed done room laid =
       claims = claims-more (t .signatures) (t .claims) claims ps cs (holds .claims) few (safe .signatures) (safe .sizes .signatures) p below
           (λ i h e. declares .distinct i p (omega arith) (omega arith) e)
           c (passed .named .is) row (getD (t .signatures) p 0) room laid
-          (claim-laid fields (t .claims) claims _ row _ laid done full)
-          (omega (arith, length-map (drop 3 fields) integerFrom, length-drop 3 fields));
+          (claim-laid fields (t .claims) claims _ row _ laid done full);
       claimed = rw (end-filled cs c);
       shipped = holds .shipped;
       owing = owed ps cs c p (key-alone declares p below) below (passed .named .is) (holds .owing) (getD (t .signatures) (32 + p) 0) (declares .kind p (omega arith));

@@ -139,14 +139,13 @@ module _ (signatures : List ℕ) (claims₀ claims : List ℤ) (ps : List Predic
       let known = holds .count i h in
       places-apart i j p count (omega (arith, safe .count i (omega arith))) room (λ e. omega (arith, ap (λ (q : ℕ). getD signatures (64 + q) 0) e))
 
-  pub claims-more : (row : List ℤ) (arity : ℕ) → count < 16 → Laid claims₀ (claimPlace p count) row arity claims → ClaimAt claims (claimPlace p count) c → length (c .coefficients) ≡ predicateAt ps p .arguments
+  pub claims-more : (row : List ℤ) (arity : ℕ) → count < 16 → Laid claims₀ (claimPlace p count) row arity claims → ClaimAt claims (claimPlace p count) c
       → HoldsClaims (set signatures (64 + p) (count + 1)) claims ps (cs ++ (c ∷ []))
-  claims-more row arity room laid here full =
+  claims-more row arity room laid here =
       record {
         count = count-more;
         none = λ i high low. getD-set-other signatures (64 + p) (64 + i) (count + 1) 0 (λ e. omega arith) ∙ holds .none i high low;
         at = each-claim ps cs c p is below distinct (λ i j d. ClaimAt claims (claimPlace i j) d)
             (λ i j h k. stays claims₀ claims (claimPlace i j) (claimPlace p count) row arity _ laid (apart i j h k room) (holds .at i j h k))
             (rw (← holds .count p below) here);
-        full = each-claim ps cs c p is below distinct (λ i j d. length (d .coefficients) ≡ predicateAt ps i .arguments) (holds .full) full;
       }

@@ -2,7 +2,7 @@
 use mathlib.Core.Path.{_≡_, refl, sym, _∙_, ap}
 use mathlib.Core.Bool.{Bool, false, cond, not, _&&_}
 use mathlib.Core.List.{List, [], _∷_, _++_}
-use mathlib.Core.Option.{some}
+use mathlib.Core.Option.{some, none}
 use Prim.Native.Nat.{ℕ, zero, suc, _+_, _≤_, _<_}
 use native.Mathlib.Omega.{arith}
 use lib.Dec.{leb}
@@ -13,12 +13,13 @@ use Rattle.groundwork.proofs.Lists.{length-end}
 use Rattle.groundwork.proofs.Stretches.{replaced}
 use Rattle.theory.specs.Lists.{any, isSome, isEmpty}
 use Rattle.theory.specs.Text.{Bytes, natural, fieldsOf}
-use Rattle.theory.specs.Packs.{predicateLimit}
+use Rattle.theory.specs.Packs.{predicateLimit, keyOf, declaredAs}
 use Rattle.theory.specs.declared.Letter.the-variants.{P}
 use Rattle.theory.specs.Written.{Written, predicateFrom, add, field}
-use Rattle.theory.specs.Faults.{isKind, isGiven, firstOf, predicateTests, whole, tests, fault}
+use Rattle.theory.specs.Faults.{lineArity, isKind, isGiven, firstOf, predicateTests, whole, tests, fault}
 use Rattle.theory.proofs.Reading.Presence.{some-is, is-empty}
 use Rattle.theory.proofs.Judging.Sections.{predicates-stand}
+use Rattle.theory.proofs.Judging.LineKeys.{declared-with}
 use Rattle.theory.proofs.Judging.LineWriting.{writes-letter}
 use Rattle.words.specs.Words.{wordsOf}
 use Rattle.terms.proofs.VariableTable.{withWords}
@@ -104,13 +105,22 @@ p-signature line known small signatures done =
     let kind = done .kind (omega arith) in
     rw (← getD-drop 2 (fieldsOf line) 0 [], ← getD-drop 2 (fieldsOf line) 1 [], arity, kind)
 
+-- the key is new, now that its arity is read
+p-new : (line : Bytes) (s : State) (w : Written) (o : Opened) (small : List ℕ) → Passed P line s w o → ProgressP (drop 2 (fieldsOf line)) 2 small
+    → declaredAs (keyOf (predicateFrom (fieldsOf line))) (w .pack .predicates) ≡ none
+unfolding predicateFrom lineArity
+p-new line s w o small passed done =
+    let fields = fieldsOf line in
+    let arity = ap (natural 8) (sym (getD-drop 2 fields 0 [])) ∙ done .arity (omega arith) in
+    rw arity (sym (declared-with (field 1 fields) (w .pack .predicates) (natural 8 (field 2 fields)) (getD small 0 0) arity) ∙ passed .named .isNew)
+
 -- the tables with the predicate that a line writes, and a pack with it
-p-holds : (line : Bytes) (t : Tables) (s : State) (w : Written) (o : Opened) → Holds t s w → Safe t s → Passed P line s w o → s .predicates < 32
+p-holds : (line : Bytes) (t : Tables) (s : State) (w : Written) (o : Opened) → Holds t s w → Safe t s → Passed P line s w o → declaredAs (keyOf (predicateFrom (fieldsOf line))) (w .pack .predicates) ≡ none → s .predicates < 32
     → let x = predicateFrom (fieldsOf line) in
     Holds (tables (withWords (t .names) (s .predicates) (wordsOf (field 1 (fieldsOf line)))) (withSignature (t .signatures) (s .predicates) (x .arguments) (flag (x .kind))) (t .claims) (t .variables) (t .rows) (t .slots))
     (withPredicates (s .predicates + 1) s) (record { pack = add P (fieldsOf line) (w .pack); ended = w .ended })
 unfolding add predicateFrom any
-p-holds line t s w o holds safe passed room =
+p-holds line t s w o holds safe passed isNew room =
     let x = predicateFrom (fieldsOf line) in
     let ps = w .pack .predicates in
     let known = s .predicates in
@@ -121,7 +131,7 @@ p-holds line t s w o holds safe passed room =
     let noFacts = is-empty (w .pack .facts) (and-left (isEmpty (w .pack .facts)) _ others) in
     let noRules = is-empty (w .pack .rules) (and-right (isEmpty (w .pack .facts)) _ others) in
     record {
-      declares = declares-more (t .names) (t .signatures) known ps x declares (passed .named .isNew) room (safe .sizes .names) (safe .sizes .signatures) (passed .named .named);
+      declares = declares-more (t .names) (t .signatures) known ps x declares isNew room (safe .sizes .names) (safe .sizes .signatures) (passed .named .named);
       claims = rw noClaims (claimless (t .signatures) (t .claims) ps (rw noClaims at (holds .claims)) _ (ps ++ (x ∷ [])) (omega (arith, length-end ps x, declares .count))
           λ i h. signature-stays (t .signatures) known (x .arguments) (flag (x .kind)) (64 + i) (λ e. omega arith) (λ e. omega arith));
       claimed = holds .claimed;
@@ -155,7 +165,7 @@ p-close line t s w o small names signatures r holds safe passed done closes =
       holds = λ next is.
           let fits = room closes next is in
           rw (writes-letter P w line (passed .first) refl, ← fits .1, closes .namesAre (fits .0), closes .signaturesAre (fits .0), p-signature line known small (t .signatures) done, passed .named .words)
-          (p-holds line t s w o holds safe passed (fits .0));
+          (p-holds line t s w o holds safe passed (p-new line s w o small passed done) (fits .0));
     }
 
 -- the ranges are kept

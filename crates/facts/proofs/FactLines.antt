@@ -19,6 +19,7 @@ use Rattle.theory.specs.Residuals.{numbered}
 use Rattle.theory.specs.Facts.{meetsEvery}
 use Rattle.theory.specs.Faults.{test, firstOf, factTests, whole, tests, fault}
 use Rattle.theory.proofs.Reading.Presence.{is-empty, empty-is, filled-is}
+use Rattle.theory.proofs.Judging.Keys.{on-arity}
 use Rattle.theory.proofs.Judging.LineWriting.{writes-letter}
 use Rattle.theory.proofs.Judging.Variables.{member-numbered}
 use Rattle.theory.proofs.Judging.Sections.{facts-stand}
@@ -44,7 +45,7 @@ use Rattle.facts.proofs.Meeting.{met-is}
 pub g-fault : {line : Bytes} {s : State} {w : Written} {o : Opened} {atom index many : ℕ} {variables₀ variables rows₀ rows : List ℕ} {r : Fielding} {f : Fault} → Passed G line s w o → index < length (drop 2 (fieldsOf line))
     → FieldTerm atom index (at (drop 2 (fieldsOf line)) index) many variables₀ rows₀ r variables rows → r ≡ Misread f → fault whole w line ≡ numberOf f
 unfolding tests factTests
-g-fault {line = line} {w = w} passed inside done bad = passed .left ∙ atom-fault false (_ ∷ []) _ (fieldsOf line) (w .pack) inside done bad
+g-fault {line = line} {w = w} passed inside done bad = passed .left ∙ atom-fault G false (_ ∷ []) _ (fieldsOf line) (w .pack) inside done bad
 
 -- ---- what the line's end answers
 
@@ -115,7 +116,7 @@ module _ {line : Bytes} {t : Tables} {s : State} {w : Written} {o : Opened} {man
       rw (holds .declares .arity p known ∙ full, holds .claims .count p below, key)
       (met-is p fact (claimsOn (atomKey fact) (w .pack .claims)) (terms .stands (omega (arith, ltb-ge 0 many e)))
       (λ j less. rw key at (holds .claims .at p j below (rw key less)))
-      (λ j less. (rw key at (holds .claims .full p j below (rw key less))) ∙ full))
+      (on-arity (atomKey fact) (w .pack .claims)))
 
   fact-holds : Holds (tables (t .names) (t .signatures) (t .claims) variables rows (t .slots)) (withFact (o .predicate) s) (record { pack = add G (fieldsOf line) (w .pack); ended = w .ended })
   unfolding add
@@ -137,7 +138,7 @@ module _ {line : Bytes} {t : Tables} {s : State} {w : Written} {o : Opened} {man
   g-close closes = record {
     answer =
         passed .left
-        ∙ atom-ended false (_ ∷ []) _ (fieldsOf line) (w .pack) (terms .good)
+        ∙ atom-ended G false (_ ∷ []) _ (fieldsOf line) (w .pack) (terms .good)
         ∙ rw (← ground-told terms) (end-number o s (ltb 0 many) met (meetsEvery (w .pack .claims) fact) met-told (closes .answer));
     holds = λ next fine. rw (← end-done o s (ltb 0 many) met (closes .answer) fine .2, writes-letter G w line (passed .first) refl) fact-holds;
   }

@@ -57,7 +57,6 @@ e-holds line t s w holds =
       last = λ some. let rule = holds .last some in record {
         head = rule .head;
         headKey = rule .headKey;
-        headFull = rule .headFull;
         subgoals = rule .subgoals;
         variables = rule .variables;
         holdsVariables = rule .holdsVariables;

@@ -1,168 +1,201 @@
--- What the opening of a line answers, by the way in which its letter opens: what `open_declaration`, `open_reference` and `open_bare` cite.
+-- What the opening of a line answers by its letter: what `open_named`, `open_bare` and `open_letter` cite.
 use mathlib.Core.Path.{_≡_, refl, sym, _∙_, ap, subst⁻¹}
-use mathlib.Core.Bool.{Bool, true, false}
+use mathlib.Core.Bool.{Bool, true, false, not}
 use mathlib.Core.List.{List, [], _∷_}
-use mathlib.Core.Option.{some, none}
+use mathlib.Core.Option.{some, none, Option·getD}
 use Prim.Native.Nat.{ℕ, _+_, _≤_, _<_}
 use native.Mathlib.Omega.{arith}
-use lib.ListN.{length, getD}
+use lib.ListN.{length, getD, drop}
 use types.Run.{OneOf, miss}
 use denote.Enum.Declared.{tagOf}
 use Rattle.theory.proofs.Letter.{the-type}
-use Rattle.groundwork.proofs.Truth.{not-true, never-both}
+use Rattle.groundwork.proofs.Truth.{not-true, never-both, equal-eqb}
 use Rattle.theory.specs.declared.Letter.{Letter}
 use Rattle.theory.specs.declared.Letter.the-variants.{P, C, G, H, B, M, E, NoLetter}
-use Rattle.theory.specs.Text.{Bytes, partsAt, fieldsOf}
-use Rattle.theory.specs.Written.{Written}
-use Rattle.theory.specs.Faults.{isComplete, mayStand}
-use Rattle.theory.proofs.Judging.Tests.{Clear}
+use Rattle.theory.specs.Text.{Bytes, isName, partsAt, fieldsOf}
+use Rattle.theory.specs.Packs.{Key, atomKey, declaredAs}
+use Rattle.theory.specs.Written.{field, atomFrom, Written}
+use Rattle.theory.specs.Faults.{lineArity, meantBy, isComplete, mayStand}
+use Rattle.theory.proofs.Judging.Keys.{declared-member}
+use Rattle.theory.proofs.Judging.LineKeys.{less-is, StatesAtom, atom-arity, claim-full, claim-declared, atom-full, atom-declared}
 use Rattle.theory.proofs.Judging.Completeness.{rule-from-incomplete}
-use Rattle.theory.proofs.Reading.Presence.{some-is, none-is}
+use Rattle.theory.proofs.Reading.Presence.{none-is}
+use Rattle.text.specs.Scans.{partsFrom}
 use Rattle.words.specs.declared.Words.{Words}
+use Rattle.words.specs.Words.{wordsOf, StandsAt}
 use Rattle.tables.specs.declared.State.{State}
 use Rattle.tables.specs.declared.Fault.{Fault}
 use Rattle.tables.specs.declared.Fault.the-variants.{Name, Declaration, FieldCount}
 use Rattle.tables.specs.declared.Opened.{Opened}
 use Rattle.tables.specs.declared.Opening.{Opening}
 use Rattle.tables.specs.declared.Opening.the-variants.{Line, Misopened}
-use Rattle.tables.specs.Tables.{SafeState, SafeSignatures, predicateAt, Outline}
+use Rattle.tables.specs.Tables.{SafeState, SafeSignatures, predicateAt, signature, signatureAt, noArity, Outline}
 use Rattle.tables.specs.Lines.{skipped, openingTests, most, OldPredicate, NamedFor}
+use Rattle.tables.proofs.Lookup.{found-arity, key-declared, key-absent}
 use Rattle.opening.specs.declared.Named.{Named}
 use Rattle.opening.specs.declared.Naming.{Naming}
 use Rattle.opening.specs.declared.Naming.the-variants.{Found, NoName}
-use Rattle.opening.specs.Opening.{besides, bars, barredBy, HasName, Refers, Nameless, Begins, NameStands, NameRead, OpensLetter, OpensDeclaration, OpensBare}
+use Rattle.opening.specs.Opening.{declares, bars, barredBy, HasName, Nameless, Begins, NameStands, NameRead, OpensLetter, OpensBare}
 use Rattle.opening.proofs.Standing.{other-than-m}
-use Rattle.opening.proofs.LetterTests.{refers-names, keyIn, foundIn, isBarred, findsEight, afterEight, fieldsDue, undeclared-found, admitted, declared-fields, fault-barred, barred-other, fault-seven, fault-eight, fault-nine, past-nine, fault-nine-alone, past-nine-alone}
-use Rattle.opening.proofs.NamedPredicate.{looked-up, looked-up-is, looked-up-none, barred-mark}
+use Rattle.opening.proofs.LetterTests.{Refers, refers-names, isBarred, fieldsDue, undeclared-found, admitted, fault-barred, barred-other, fault-seven, fault-eight, fault-nine, past-opening, fault-nine-alone, past-nine-alone}
+use Rattle.opening.proofs.Barred.{barred-mark}
 use Rattle.opening.proofs.Outcomes.{opened, refuses, passes}
 
--- ---- no name
+-- ---- a line that names a predicate
 
-module _ (names : List ℕ) (s : State) (line : Bytes) (naming : Naming) (read : NameRead line names (s .predicates) naming) (other : naming ≡ NoName) where
-  unnamed : {l : Letter} → HasName l → (signatures : List ℕ) → OpensLetter l line names signatures s (Misopened Name)
-  unnamed {l} names-it signatures = refuses l Name (λ e. omega arith) λ w outline stands. fault-seven (fieldsOf line) (w .pack) l names-it (read .none other)
-
-  pub declares-unnamed : OpensDeclaration line names s (Misopened Name)
-  declares-unnamed = record { opens = unnamed HasName.predicate }
-
-  pub refers-unnamed : {l : Letter} → Refers l → (signatures : List ℕ) → OpensLetter l line names signatures s (Misopened Name)
-  refers-unnamed refers = unnamed (refers-names refers)
-
--- ---- a line that refers to a declared predicate
-
+-- what the letters that refer to one have in common
 record Shape (l : Letter) : Type 0 where
   skips : skipped l ≡ 2
-  fits : (s : State) → 8 + besides l < skipped l + most l s
+  few : (fields : List Bytes) (s : State) (n : ℕ) → lineArity l fields ≡ some n → n ≤ 8 → length fields ≤ 2 + most l s
   other : l ≡ M → ⊥
-  named : (line : Bytes) (s : State) (w : Written) (o : Opened) → OldPredicate (keyIn l (fieldsOf line)) (besides l + 1) line w o → NamedFor l line s w o
+  named : (line : Bytes) (s : State) (w : Written) (o : Opened) → isName (field 1 (fieldsOf line)) ≡ true → o .predicate < length (w .pack .predicates)
+      → meantBy l (fieldsOf line) (w .pack) ≡ some (predicateAt (w .pack .predicates) (o .predicate)) → NamedFor l line s w o
+
+old-predicate : (k : Key) (more : ℕ) (line : Bytes) (w : Written) (o : Opened) → isName (field 1 (fieldsOf line)) ≡ true → o .predicate < length (w .pack .predicates)
+    → declaredAs k (w .pack .predicates) ≡ some (predicateAt (w .pack .predicates) (o .predicate))
+    → length (fieldsOf line) ≡ predicateAt (w .pack .predicates) (o .predicate) .arguments + more → OldPredicate k more line w o
+old-predicate k more line w o named below declared full =
+    record { named = named; below = below; declared = declared; is = sym (declared-member k _ _ declared .1); full = full }
+
+atom-shape : {l : Letter} (states : StatesAtom l) → (fields : List Bytes) (n : ℕ) → lineArity l fields ≡ some n → length fields ≡ n + 2
+atom-shape states fields n is = less-is (length fields) 2 n (sym (atom-arity states fields) ∙ is)
+
+atom-named : {l : Letter} (states : StatesAtom l) (line : Bytes) (w : Written) (o : Opened) → isName (field 1 (fieldsOf line)) ≡ true → o .predicate < length (w .pack .predicates)
+    → meantBy l (fieldsOf line) (w .pack) ≡ some (predicateAt (w .pack .predicates) (o .predicate)) → OldPredicate (atomKey (atomFrom (fieldsOf line))) 2 line w o
+atom-named states line w o named below found =
+    old-predicate _ 2 line w o named below (atom-declared (fieldsOf line) (w .pack .predicates) _ states found) (atom-full (fieldsOf line) (w .pack .predicates) _ states found)
 
 shape : {l : Letter} → Refers l → Shape l
-shape Refers.claim = record { skips = refl; fits = λ s. omega arith; other = other-than-m; named = λ line s w o old. old }
-shape Refers.fact = record { skips = refl; fits = λ s. omega arith; other = other-than-m; named = λ line s w o old. old }
-shape Refers.head = record { skips = refl; fits = λ s. omega arith; other = other-than-m; named = λ line s w o old. old }
-shape Refers.subgoal = record { skips = refl; fits = λ s. omega arith; other = other-than-m; named = λ line s w o old. old }
+unfolding lineArity
+shape Refers.claim = record {
+  skips = refl;
+  few = λ fields s n is low. omega (arith, less-is (length fields) 3 n is);
+  other = other-than-m;
+  named = λ line s w o named below found. old-predicate _ 3 line w o named below (claim-declared (fieldsOf line) (w .pack .predicates) _ found) (claim-full (fieldsOf line) (w .pack .predicates) _ found);
+}
+shape Refers.fact = record { skips = refl; few = λ fields s n is low. omega (arith, atom-shape StatesAtom.fact fields n is); other = other-than-m; named = λ line s. atom-named StatesAtom.fact line }
+shape Refers.head = record { skips = refl; few = λ fields s n is low. omega (arith, atom-shape StatesAtom.head fields n is); other = other-than-m; named = λ line s. atom-named StatesAtom.head line }
+shape Refers.subgoal = record { skips = refl; few = λ fields s n is low. omega (arith, atom-shape StatesAtom.subgoal fields n is); other = other-than-m; named = λ line s. atom-named StatesAtom.subgoal line }
 
-module _ (l : Letter) (refers : Refers l) (names signatures : List ℕ) (s : State) (line : Bytes) (naming : Naming) (read : NameRead line names (s .predicates) naming) (name : Named) (is : naming ≡ Found name) where
-  named : NameStands line names (s .predicates) name
-  named = read .found name is
+-- the one letter that declares, and the others
+declares-is : {l : Letter} → HasName l → declares l ≡ true → l ≡ P
+declares-is HasName.predicate e = refl
+declares-is HasName.claim e = never-both e refl
+declares-is HasName.fact e = never-both e refl
+declares-is HasName.head e = never-both e refl
+declares-is HasName.subgoal e = never-both e refl
 
-  pub refers-undeclared : s .predicates ≤ name .place → OpensLetter l line names signatures s (Misopened Declaration)
-  refers-undeclared h =
+others-refer : {l : Letter} → HasName l → (l ≡ P → ⊥) → Refers l
+others-refer HasName.predicate other = absurd (other refl)
+others-refer HasName.claim other = Refers.claim
+others-refer HasName.fact other = Refers.fact
+others-refer HasName.head other = Refers.head
+others-refer HasName.subgoal other = Refers.subgoal
+
+-- the second field is a name, and that is where it stands in the tables with the arity that the line gives
+record LookedUp (l : Letter) (names signatures : List ℕ) (s : State) (line : Bytes) (name : Named) (place : ℕ) : Type 0 where
+  stands : NameStands line name
+  few : s .predicates ≤ 32
+  safe : SafeSignatures signatures
+  at : StandsAt (signatureAt names signatures) (s .predicates) (signature (wordsOf (field 1 (fieldsOf line))) (Option·getD (lineArity l (fieldsOf line)) noArity)) place
+
+module _ {l : Letter} {names signatures : List ℕ} {s : State} {line : Bytes} {name : Named} {place : ℕ} (looked : LookedUp l names signatures s line name place) (w : Written) (outline : Outline names signatures s w) where
+  is-meant : place < s .predicates → meantBy l (fieldsOf line) (w .pack) ≡ some (predicateAt (w .pack .predicates) place)
+  is-meant = key-declared (outline .declares) (field 1 (fieldsOf line)) (looked .stands .named) (looked .safe) (looked .few) (lineArity l (fieldsOf line)) (looked .at)
+
+  none-meant : s .predicates ≤ place → meantBy l (fieldsOf line) (w .pack) ≡ none
+  none-meant = key-absent (outline .declares) (field 1 (fieldsOf line)) (looked .stands .named) (looked .safe) (looked .few) (lineArity l (fieldsOf line)) (looked .at)
+
+-- ---- a predicate that is not declared
+
+module _ {names signatures : List ℕ} {s : State} {line : Bytes} {name : Named} {place : ℕ} (above : s .predicates ≤ place) where
+  undeclared : {l : Letter} → Refers l → LookedUp l names signatures s line name place → OpensLetter l line names signatures s (Misopened Declaration)
+  undeclared {l} refers looked =
       refuses l Declaration (λ e. omega arith) λ w outline stands.
-      fault-eight (fieldsOf line) (w .pack) l (refers-names refers) (named .named) (undeclared-found (fieldsOf line) (w .pack) refers (looked-up-none (refers-names refers) outline named h))
+      fault-eight (fieldsOf line) (w .pack) l (refers-names refers) (looked .stands .named) (undeclared-found (fieldsOf line) (w .pack) refers (none-meant looked w outline above))
 
-  module _ (below : name .place < s .predicates) where
-    module _ (w : Written) (outline : Outline names signatures s w) where
-      is-meant : foundIn l (fieldsOf line) (w .pack) ≡ some (predicateAt (w .pack .predicates) (name .place))
-      is-meant = looked-up (refers-names refers) outline named below
+  module _ (looked : LookedUp P names signatures s line name place) where
+    miscounted : (length (fieldsOf line) ≡ 4 → ⊥) → OpensLetter P line names signatures s (Misopened FieldCount)
+    miscounted other =
+        refuses P FieldCount (λ e. omega arith) λ w outline stands.
+        fault-nine (fieldsOf line) (w .pack) (looked .stands .named) (none-is _ (none-meant looked w outline above)) other
 
-      barred-told : isBarred l (some (predicateAt (w .pack .predicates) (name .place))) ≡ bars l (getD signatures (32 + name .place) 0)
-      barred-told = barred-mark l _ (outline .declares .kind (name .place) below)
+    declared : length line ≤ 1024 → length (fieldsOf line) ≡ 4 → OpensLetter P line names signatures s (Line (opened P (s .predicates) (name .words) (name .stop + 1)))
+    declared short four =
+        passes P (s .predicates) (name .words) (name .stop + 1) short
+        (record { rest = looked .stands .rest; few = omega arith; place = λ e. absurd (e refl); due = λ e. absurd (other-than-m e) })
+        λ w outline stands.
+        let new = none-meant looked w outline above in
+        record {
+          left = past-opening (fieldsOf line) (w .pack) P HasName.predicate (looked .stands .named) (none-is _ new) (ap not (equal-eqb (length (fieldsOf line)) 4 four), tt);
+          named = record { named = looked .stands .named; isNew = new; four = four; words = looked .stands .words };
+        }
 
-      fields-due : fieldsDue l (fieldsOf line) (w .pack) ≡ getD signatures (name .place) 0 + (besides l + 1)
-      fields-due = declared-fields (fieldsOf line) (w .pack) _ refers is-meant ∙ ap (λ (n : ℕ). n + (besides l + 1)) (sym (outline .declares .arity (name .place) below))
+-- ---- a predicate that is declared
 
-    -- what `is_barred` answers
-    module _ (barred : Bool) (told : barred ≡ bars l (getD signatures (32 + name .place) 0)) where
-      pub refers-barred : barred ≡ true → {f : Fault} → f ≡ barredBy l → OpensLetter l line names signatures s (Misopened f)
-      refers-barred e {f} is =
-          subst⁻¹ (λ (g : Fault). OpensLetter l line names signatures s (Misopened g)) is
-          (refuses l (barredBy l) (barred-other l) λ w outline stands. fault-barred (fieldsOf line) (w .pack) _ refers (named .named) (is-meant w outline) (barred-told w outline ∙ sym told ∙ e))
+module _ {l : Letter} (names-it : HasName l) {names signatures : List ℕ} {s : State} {line : Bytes} {name : Named} {place : ℕ} (looked : LookedUp l names signatures s line name place) (below : place < s .predicates) where
+  barred-told : (w : Written) → Outline names signatures s w → isBarred l (some (predicateAt (w .pack .predicates) place)) ≡ bars l (getD signatures (32 + place) 0)
+  barred-told w outline = barred-mark l _ (outline .declares .kind place below)
 
-      -- n commas, the arity a, and the commas besides
-      module _ (unbarred : barred ≡ false) (n a more : ℕ) (count : n + 1 ≡ length (partsAt 44 line)) (arity : a ≡ getD signatures (name .place) 0) (rest : more ≡ besides l) where
-        clear : (w : Written) → Outline names signatures s w → (findsEight l (fieldsOf line) (w .pack) ≡ false) × Clear (afterEight l (fieldsOf line) (w .pack))
-        clear w outline = admitted (fieldsOf line) (w .pack) _ refers (is-meant w outline) (barred-told w outline ∙ sym told ∙ unbarred)
+  barred : bars l (getD signatures (32 + place) 0) ≡ true → OpensLetter l line names signatures s (Misopened (barredBy l))
+  barred e = refuses l (barredBy l) (barred-other l) λ w outline stands. fault-barred (fieldsOf line) (w .pack) _ names-it (looked .stands .named) (is-meant looked w outline below) (barred-told w outline ∙ e)
 
-        pub refers-miscounted : (n ≡ a + more → ⊥) → OpensLetter l line names signatures s (Misopened FieldCount)
-        refers-miscounted other =
-            refuses l FieldCount (λ e. omega arith) λ w outline stands.
-            fault-nine (fieldsOf line) (w .pack) l (refers-names refers) (named .named) (clear w outline .0) (clear w outline .1) (λ e. other (omega (arith, fields-due w outline)))
+  referred : length line ≤ 1024 → bars l (getD signatures (32 + place) 0) ≡ false → OpensLetter l line names signatures s (Line (opened l place (name .words) (name .stop + 1)))
+  referred short free =
+      let refers = others-refer names-it (λ is. never-both (ap (λ (k : Letter). bars k (getD signatures (32 + place) 0)) is) free) in
+      let (n, given, low, read) = found-arity names signatures (looked .safe) (looked .few) _ (lineArity l (fieldsOf line)) (looked .at) below in
+      passes l place (name .words) (name .stop + 1) short
+      (record {
+        rest = rw (shape refers .skips) (looked .stands .rest);
+        few = rw (shape refers .skips) (shape refers .few (fieldsOf line) s n given low);
+        place = λ e. omega (arith, looked .few);
+        due = λ e. absurd (shape refers .other e);
+      })
+      λ w outline stands.
+      let found = is-meant looked w outline below in
+      let clear = admitted (fieldsOf line) (w .pack) _ refers found (barred-told w outline ∙ free) in
+      record {
+        left = past-opening (fieldsOf line) (w .pack) l names-it (looked .stands .named) (clear .0) (clear .1);
+        named = shape refers .named line s w (opened l place (name .words) (name .stop + 1)) (looked .stands .named) (omega (arith, outline .declares .count)) found;
+      }
 
-        pub refers-passed : SafeState s → SafeSignatures signatures → length line ≤ 1024 → n ≡ a + more
-            → OpensLetter l line names signatures s (Line (record { letter = l; predicate = name .place; words = name .words; from = name .stop + 1 }))
-        refers-passed state safe short right =
-            passes l (name .place) (name .words) (name .stop + 1) short
-            (record {
-              rest = rw (shape refers .skips) (named .rest);
-              few = omega (arith, shape refers .fits s, safe .arity (name .place) (omega arith));
-              place = λ e. omega arith;
-              due = λ e. absurd (shape refers .other e);
-            })
-            λ w outline stands.
-            record {
-              left = past-nine (fieldsOf line) (w .pack) l (refers-names refers) (named .named) (clear w outline .0) (clear w outline .1) (omega (arith, fields-due w outline));
-              named = shape refers .named line s w (opened l (name .place) (name .words) (name .stop + 1)) (record {
-                named = named .named;
-                below = omega (arith, outline .declares .count);
-                declared = is-meant w outline;
-                is = looked-up-is (refers-names refers) outline named below;
-                full = omega (arith, outline .declares .arity (name .place) below);
-              });
-            }
+-- ---- together: what `open_named` cites
 
--- ---- a predicate that is to be new
+module _ (l : Letter) (names-it : HasName l) (names signatures : List ℕ) (s : State) (line : Bytes) (naming : Naming) (read : NameRead line naming) where
+  pub opens-unnamed : naming ≡ NoName → OpensLetter l line names signatures s (Misopened Name)
+  opens-unnamed other = refuses l Name (λ e. omega arith) λ w outline stands. fault-seven (fieldsOf line) (w .pack) l names-it (read .none other)
 
-module _ (names : List ℕ) (s : State) (line : Bytes) (naming : Naming) (read : NameRead line names (s .predicates) naming) (name : Named) (is : naming ≡ Found name) where
-  pub declares-again : name .place < s .predicates → OpensDeclaration line names s (Misopened Declaration)
-  declares-again below = record {
-    opens = λ signatures.
-        refuses P Declaration (λ e. omega arith) λ w outline stands.
-        fault-eight (fieldsOf line) (w .pack) P HasName.predicate (read .found name is .named) (some-is _ _ (looked-up HasName.predicate outline (read .found name is) below));
-  }
+  pub name-rest : (name : Named) → naming ≡ Found name → partsFrom 44 line (name .stop + 1) ≡ drop 2 (fieldsOf line)
+  name-rest name is = read .found name is .rest
 
-  module _ (above : s .predicates ≤ name .place) (n : ℕ) (count : n + 1 ≡ length (partsAt 44 line)) where
-    is-undeclared : (signatures : List ℕ) (w : Written) → Outline names signatures s w → foundIn P (fieldsOf line) (w .pack) ≡ none
-    is-undeclared signatures w outline = looked-up-none HasName.predicate outline (read .found name is) above
+  module _ (name : Named) (is : naming ≡ Found name) (state : SafeState s) (safe : SafeSignatures signatures) (arity : ℕ) (given : arity ≡ Option·getD (lineArity l (fieldsOf line)) noArity)
+      (place : ℕ) (at : StandsAt (signatureAt names signatures) (s .predicates) (signature (name .words) arity) place) where
+    looked-up : LookedUp l names signatures s line name place
+    looked-up = record { stands = read .found name is; few = state .predicates; safe = safe; at = rw (← read .found name is .words, ← given) at }
 
-    pub declares-miscounted : (n ≡ 3 → ⊥) → OpensDeclaration line names s (Misopened FieldCount)
-    declares-miscounted other = record {
-      opens = λ signatures.
-          refuses P FieldCount (λ e. omega arith) λ w outline stands.
-          fault-nine (fieldsOf line) (w .pack) P HasName.predicate (read .found name is .named) (none-is _ (is-undeclared signatures w outline)) tt (λ e. other (omega arith));
-    }
+    -- what `is_barred` answers of one that is declared
+    module _ (below : place < s .predicates) (answer : Bool) (mark : answer ≡ bars l (getD signatures (32 + place) 0)) where
+      pub opens-barred : answer ≡ true → {f : Fault} → f ≡ barredBy l → OpensLetter l line names signatures s (Misopened f)
+      opens-barred e {f} fault = subst⁻¹ (λ (g : Fault). OpensLetter l line names signatures s (Misopened g)) fault (barred names-it looked-up below (sym mark ∙ e))
 
-    pub declares-passed : length line ≤ 1024 → n ≡ 3 → OpensDeclaration line names s (Line (record { letter = P; predicate = s .predicates; words = name .words; from = name .stop + 1 }))
-    declares-passed short right = record {
-      opens = λ signatures.
-          passes P (s .predicates) (name .words) (name .stop + 1) short
-          (record {
-            rest = read .found name is .rest;
-            few = omega arith;
-            place = λ e. absurd (e refl);
-            due = λ e. absurd (other-than-m e);
-          })
-          λ w outline stands.
-          record {
-            left = past-nine (fieldsOf line) (w .pack) P HasName.predicate (read .found name is .named) (none-is _ (is-undeclared signatures w outline)) tt (omega arith);
-            named = record {
-              named = read .found name is .named;
-              isNew = is-undeclared signatures w outline;
-              four = omega arith;
-              words = read .found name is .words;
-            };
-          };
-    }
+      pub opens-reference : length line ≤ 1024 → answer ≡ false → OpensLetter l line names signatures s (Line (record { letter = l; predicate = place; words = name .words; from = name .stop + 1 }))
+      opens-reference short e = referred names-it looked-up below short (sym mark ∙ e)
+
+    -- what `is_declaration` answers where none is
+    module _ (above : s .predicates ≤ place) (way : Bool) (told : way ≡ declares l) where
+      pub opens-undeclared : way ≡ false → OpensLetter l line names signatures s (Misopened Declaration)
+      opens-undeclared old = undeclared above (others-refer names-it (λ is. never-both (ap declares is) (sym told ∙ old))) looked-up
+
+      module _ (new : way ≡ true) (n : ℕ) (count : n + 1 ≡ length (partsAt 44 line)) where
+        -- by the law on `P` lines
+        by-declaration : (r : Letter → Opening) → (LookedUp P names signatures s line name place → OpensLetter P line names signatures s (r P)) → OpensLetter l line names signatures s (r l)
+        by-declaration r law = subst⁻¹ (λ (k : Letter). LookedUp k names signatures s line name place → OpensLetter k line names signatures s (r k)) (declares-is names-it (sym told ∙ new)) law looked-up
+
+        pub opens-miscounted : (n ≡ 3 → ⊥) → OpensLetter l line names signatures s (Misopened FieldCount)
+        opens-miscounted other = by-declaration (λ k. Misopened FieldCount) (λ looked. miscounted above looked (λ e. other (omega arith)))
+
+        pub opens-declaration : length line ≤ 1024 → n ≡ 3 → OpensLetter l line names signatures s (Line (record { letter = l; predicate = s .predicates; words = name .words; from = name .stop + 1 }))
+        opens-declaration short three = by-declaration (λ k. Line (opened k (s .predicates) (name .words) (name .stop + 1))) (λ looked. declared above looked short (omega arith))
 
 -- ---- a line with no name
 
@@ -170,7 +203,7 @@ module _ (names : List ℕ) (s : State) (line : Bytes) (naming : Naming) (read :
 record Bare (l : Letter) : Type 0 where
   skips : skipped l ≡ 1
   opens : openingTests l ≡ 1
-  due : (names signatures : List ℕ) (s : State) (fields : List Bytes) (w : Written) → Outline names signatures s w → mayStand (w .pack) l ≡ true → fieldsDue l fields (w .pack) ≡ most l s + 1
+  due : (names signatures : List ℕ) (s : State) (w : Written) → Outline names signatures s w → mayStand (w .pack) l ≡ true → fieldsDue l (w .pack) ≡ most l s + 1
   named : (line : Bytes) (s : State) (w : Written) (o : Opened) → length (fieldsOf line) ≡ most l s + 1 → NamedFor l line s w o
 
 bare : {l : Letter} → Nameless l → Bare l
@@ -178,18 +211,18 @@ unfolding mayStand
 bare Nameless.multipliers = record {
   skips = refl;
   opens = refl;
-  due = λ names signatures s fields w outline stands.
+  due = λ names signatures s w outline stands.
       ap (λ (n : ℕ). n + 1) (sym (outline .slots (rule-from-incomplete (w .pack) (not-true (isComplete (w .pack)) stands))));
   named = λ line s w o e. e;
 }
-bare Nameless.end = record { skips = refl; opens = refl; due = λ names signatures s fields w outline stands. refl; named = λ line s w o e. e }
+bare Nameless.end = record { skips = refl; opens = refl; due = λ names signatures s w outline stands. refl; named = λ line s w o e. e }
 
 module _ (l : Letter) (nameless : Nameless l) (s : State) (line : Bytes) (commas : ℕ) (all : commas ≡ most l s) (n : ℕ) (count : n + 1 ≡ length (partsAt 44 line)) where
   pub bare-miscounted : (n ≡ commas → ⊥) → OpensBare l line s (Misopened FieldCount)
   bare-miscounted other = record {
     opens = λ names signatures.
         refuses l FieldCount (λ e. omega arith) λ w outline stands.
-        fault-nine-alone (fieldsOf line) (w .pack) l nameless (λ e. other (omega (arith, bare nameless .due names signatures s (fieldsOf line) w outline stands)));
+        fault-nine-alone (fieldsOf line) (w .pack) l nameless (λ e. other (omega (arith, bare nameless .due names signatures s w outline stands)));
   }
 
   pub bare-passed : Begins line → (l ≡ M → s .multipliers < 16) → length line ≤ 1024 → n ≡ commas → (words : Words) → OpensBare l line s (Line (record { letter = l; predicate = 0; words = words; from = 2 }))
@@ -205,26 +238,12 @@ module _ (l : Letter) (nameless : Nameless l) (s : State) (line : Bytes) (commas
         λ w outline stands.
         let full : length (fieldsOf line) ≡ most l s + 1 = omega arith in
         record {
-          left = rw (bare nameless .opens) (past-nine-alone (fieldsOf line) (w .pack) l nameless (full ∙ sym (bare nameless .due names signatures s (fieldsOf line) w outline stands)));
+          left = rw (bare nameless .opens) (past-nine-alone (fieldsOf line) (w .pack) l nameless (full ∙ sym (bare nameless .due names signatures s w outline stands)));
           named = bare nameless .named line s w _ full;
         };
   }
 
 -- ---- by letter: what `open_letter` cites
-
-pub refers-claim : {l : Letter} → l ≡ C → Refers l
-refers-claim is = subst⁻¹ Refers is Refers.claim
-
-pub refers-fact : {l : Letter} → l ≡ G → Refers l
-refers-fact is = subst⁻¹ Refers is Refers.fact
-
-pub refers-head : {l : Letter} → l ≡ H → Refers l
-refers-head is = subst⁻¹ Refers is Refers.head
-
-pub refers-subgoal : {l : Letter} → l ≡ B → Refers l
-refers-subgoal is = subst⁻¹ Refers is Refers.subgoal
-
--- ---- a letter by its tag
 
 pub named-letter : (l : Letter) → OneOf (0 ∷ 1 ∷ 2 ∷ 3 ∷ 4 ∷ []) (tagOf the-type l) → HasName l
 named-letter P tag = HasName.predicate
@@ -235,27 +254,6 @@ named-letter B tag = HasName.subgoal
 named-letter M tag = absurd (miss (0 ∷ 1 ∷ 2 ∷ 3 ∷ 4 ∷ []) 5 tt tag)
 named-letter E tag = absurd (miss (0 ∷ 1 ∷ 2 ∷ 3 ∷ 4 ∷ []) 6 tt tag)
 named-letter NoLetter tag = absurd (miss (0 ∷ 1 ∷ 2 ∷ 3 ∷ 4 ∷ []) 7 tt tag)
-
-abbrev hasName : Letter → Bool
-hasName P = true
-hasName C = true
-hasName G = true
-hasName H = true
-hasName B = true
-hasName M = false
-hasName E = false
-hasName NoLetter = false
-
-has-name : {l : Letter} → HasName l → hasName l ≡ true
-has-name HasName.predicate = refl
-has-name HasName.claim = refl
-has-name HasName.fact = refl
-has-name HasName.head = refl
-has-name HasName.subgoal = refl
-
--- a line without a name does not come there
-pub opens-nameless : {l k : Letter} → HasName l → l ≡ k → hasName k ≡ false → {line : Bytes} {names signatures : List ℕ} {s : State} {r : Opening} → OpensLetter l line names signatures s r
-opens-nameless named is other = never-both (has-name named) (ap hasName is ∙ other)
 
 pub nameless-multipliers : {l : Letter} → l ≡ M → Nameless l
 nameless-multipliers is = subst⁻¹ Nameless is Nameless.multipliers
@@ -268,9 +266,6 @@ commas-multipliers s is = ap (λ (k : Letter). most k s) (sym is)
 
 pub commas-end : {l : Letter} (s : State) → l ≡ E → 0 ≡ most l s
 commas-end s is = ap (λ (k : Letter). most k s) (sym is)
-
-pub opens-declaration : {l : Letter} {line : Bytes} {names : List ℕ} {s : State} {r : Opening} → l ≡ P → OpensDeclaration line names s r → {signatures : List ℕ} → OpensLetter l line names signatures s r
-opens-declaration {line = line} {names} {s} {r} is opens {signatures} = subst⁻¹ (λ (k : Letter). OpensLetter k line names signatures s r) is (opens .opens signatures)
 
 pub opens-bare : {l : Letter} {line : Bytes} {s : State} {r : Opening} → OpensBare l line s r → {names signatures : List ℕ} → OpensLetter l line names signatures s r
 opens-bare opens {names} {signatures} = opens .opens names signatures

@@ -7,8 +7,8 @@ pub mod NameReading
 pub mod LetterTests
 pub mod LineTests
 -- What the functions' proofs cite.
-pub mod NamedPredicate
+pub mod LineArities
+pub mod Barred
 pub mod Outcomes
 pub mod LetterOpening
 pub mod LineOpening
-pub mod Sums

@@ -1,10 +1,12 @@
 -- What `name_of` answers: the second field of a line, read as a name.
 use mathlib.Core.Path.{_≡_, sym, _∙_, ap, subst}
 use mathlib.Core.Bool.{false}
-use mathlib.Core.List.{List, [], _∷_}
-use Prim.Native.Nat.{ℕ, _+_, _≤_, _<_}
+use mathlib.Core.List.{[], _∷_}
+use Prim.Native.Nat.{ℕ, _+_, _*_, _^_, _≤_, _<_}
 use native.Mathlib.Omega.{arith}
 use lib.ListN.{length, drop}
+use mir.Syntax.{w64}
+use mir.Val.{Fits}
 use lib.Seq.{getD-drop, drop-drop}
 use Rattle.theory.specs.Text.{Bytes, isWord, isName, fieldsOf}
 use Rattle.theory.specs.Written.{field}
@@ -13,9 +15,10 @@ use Rattle.text.proofs.Cuts.{parts-done, parts-step}
 use Rattle.words.specs.declared.Word.{Word}
 use Rattle.words.specs.declared.Word.the-variants.{Name, Variable, Neither}
 use Rattle.words.specs.declared.Words.{Words}
-use Rattle.words.specs.Words.{wordsOf, WordRead, StandsAt}
+use Rattle.words.specs.Words.{wordsOf, WordRead}
 use Rattle.words.proofs.WordKinds.{isNameWord, name-told, read-words}
 use Rattle.opening.specs.declared.Named.{Named}
+use Rattle.opening.specs.declared.Naming.{Naming}
 use Rattle.opening.specs.declared.Naming.the-variants.{Found, NoName}
 use Rattle.opening.specs.Opening.{Begins, NameStands, NameRead}
 
@@ -25,15 +28,15 @@ found-none e = let never : _≡_ {A = ℕ} 0 1 = cc in absurd (omega arith)
 found-name : {a b : Named} → Found a ≡ Found b → a ≡ b
 found-name e = cc
 
-module _ (line : Bytes) (begins : Begins line) (names : List ℕ) (known : ℕ) where
+module _ (line : Bytes) (begins : Begins line) where
   -- the field is the first of those after the letter
   second-field : field 1 (fieldsOf line) ≡ field 0 (partsFrom 44 line 2)
   second-field = sym (getD-drop 1 (fieldsOf line) 0 []) ∙ ap (field 0) (sym (begins .rest))
 
-  unnamed : isName (field 1 (fieldsOf line)) ≡ false → NameRead line names known NoName
+  unnamed : isName (field 1 (fieldsOf line)) ≡ false → NameRead line NoName
   unnamed other = record { found = λ name e. absurd (found-none (sym e)); none = λ e. other }
 
-  pub name-none : length line < 2 → NameRead line names known NoName
+  pub name-none : length line < 2 → NameRead line NoName
   unfolding isWord
   name-none h = unnamed (ap isName (second-field ∙ ap (field 0) (parts-done 44 line 2 h)))
 
@@ -47,24 +50,27 @@ module _ (line : Bytes) (begins : Begins line) (names : List ℕ) (known : ℕ) 
     told : isName (field 1 (fieldsOf line)) ≡ isNameWord word
     told = ap isName second-part ∙ name-told read
 
-    pub name-variable : (words : Words) → word ≡ Variable words → NameRead line names known NoName
+    pub name-variable : (words : Words) → word ≡ Variable words → NameRead line NoName
     name-variable words is = unnamed (told ∙ ap isNameWord is)
 
-    pub name-neither : word ≡ Neither → NameRead line names known NoName
+    pub name-neither : word ≡ Neither → NameRead line NoName
     name-neither is = unnamed (told ∙ ap isNameWord is)
 
-    pub name-found : (words : Words) → word ≡ Name words → (place : ℕ) → StandsAt names known words place → NameRead line names known (Found (record { words = words; place = place; stop = stop }))
-    name-found words is place at =
+    pub name-found : (words : Words) → word ≡ Name words → NameRead line (Found (record { words = words; stop = stop }))
+    name-found words is =
         let same : words ≡ wordsOf (field 1 (fieldsOf line)) = read-words (part line 2 stop) word words read is ∙ ap wordsOf (sym second-part) in
         record {
           found = λ name e.
-              subst (NameStands line names known) (found-name e)
+              subst (NameStands line) (found-name e)
               (record {
                 named = told ∙ ap isNameWord is;
                 words = same;
-                place = subst (λ (w : Words). StandsAt names known w place) same at;
                 stop = found .high;
                 rest = sym (sym (drop-drop 1 1 (fieldsOf line)) ∙ ap (drop 1) (sym (begins .rest) ∙ cut));
               });
           none = λ e. absurd (found-none e);
         }
+
+-- the place after it fits its width
+pub stop-fits : {line : Bytes} {naming : Naming} → NameRead line naming → {name : Named} → naming ≡ Found name → length line * 1 < 2 ^ 63 → Fits w64 (name .stop + 1)
+stop-fits read {name} is short = omega (arith, read .found name is .stop)

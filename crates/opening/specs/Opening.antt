@@ -11,7 +11,7 @@ use Rattle.theory.specs.Text.{Bytes, isName, fieldsOf}
 use Rattle.theory.specs.Written.{lineLetter, field, Written}
 use Rattle.theory.specs.Faults.{isUnfit, isComplete, mayStand, whole, fault}
 use Rattle.text.specs.Scans.{partsFrom}
-use Rattle.words.specs.Words.{wordsOf, StandsAt}
+use Rattle.words.specs.Words.{wordsOf}
 use Rattle.tables.specs.declared.State.{State}
 use Rattle.tables.specs.declared.Fault.{Fault}
 use Rattle.tables.specs.declared.Fault.the-variants.{Declaration, RuledFact}
@@ -35,32 +35,26 @@ pub data HasName : Letter → Type 0 where
   head : HasName H
   subgoal : HasName B
 
--- lines whose predicate is declared before
-pub data Refers : Letter → Type 0 where
-  claim : Refers C
-  fact : Refers G
-  head : Refers H
-  subgoal : Refers B
-
 -- lines without a name
 pub data Nameless : Letter → Type 0 where
   multipliers : Nameless M
   end : Nameless E
 
--- the commas besides those in front of the arguments
-abbrev pub besides : Letter → ℕ
-besides P = 0
-besides C = 2
-besides G = 1
-besides H = 1
-besides B = 1
-besides M = 0
-besides E = 0
-besides NoLetter = 0
+-- lines that declare a predicate
+abbrev pub declares : Letter → Bool
+declares P = true
+declares C = false
+declares G = false
+declares H = false
+declares B = false
+declares M = false
+declares E = false
+declares NoLetter = false
 
--- whether a declared predicate with this mark, 1 if it is given, is refused: a ruled one in a fact, a given one as a head
+-- whether a declared predicate with this mark, 1 if it is given, is refused: any one in a `P` line, a ruled one in a fact, a given
+-- one as a head
 abbrev pub bars : Letter → ℕ → Bool
-bars P mark = false
+bars P mark = true
 bars C mark = false
 bars G mark = eqb mark 0
 bars H mark = not (eqb mark 0)
@@ -91,15 +85,14 @@ pub record LetterRead (line : Bytes) (r : Letter) : Type 0 where
   pub begins : (r ≡ NoLetter → ⊥) → Begins line
 
 -- the name in a line's second field
-pub record NameStands (line : Bytes) (names : List ℕ) (known : ℕ) (r : Named) : Type 0 where
+pub record NameStands (line : Bytes) (r : Named) : Type 0 where
   pub named : isName (field 1 (fieldsOf line)) ≡ true
   pub words : r .words ≡ wordsOf (field 1 (fieldsOf line))
-  pub place : StandsAt names known (wordsOf (field 1 (fieldsOf line))) (r .place)
   pub stop : r .stop ≤ length line
   pub rest : partsFrom 44 line (r .stop + 1) ≡ drop 2 (fieldsOf line)
 
-pub record NameRead (line : Bytes) (names : List ℕ) (known : ℕ) (r : Naming) : Type 0 where
-  pub found : (name : Named) → r ≡ Found name → NameStands line names known name
+pub record NameRead (line : Bytes) (r : Naming) : Type 0 where
+  pub found : (name : Named) → r ≡ Found name → NameStands line name
   pub none : r ≡ NoName → isName (field 1 (fieldsOf line)) ≡ false
 
 pub record OpenedFor (line : Bytes) (s : State) (w : Written) (r : Opening) : Type 0 where
@@ -127,8 +120,5 @@ pub record Stands (letter : Letter) (signatures : List ℕ) (s : State) (r : Boo
   pub due : letter ≡ M → r ≡ true → s .multipliers < 16
 
 -- the same whatever the tables hold that the letter's tests do not read
-pub record OpensDeclaration (line : Bytes) (names : List ℕ) (s : State) (r : Opening) : Type 0 where
-  pub opens : (signatures : List ℕ) → OpensLetter P line names signatures s r
-
 pub record OpensBare (letter : Letter) (line : Bytes) (s : State) (r : Opening) : Type 0 where
   pub opens : (names signatures : List ℕ) → OpensLetter letter line names signatures s r

@@ -2,15 +2,20 @@
 // predicate that is new, with that of a declared one, or with no name.
 ghost use mathlib.Core.Path.{_≡_};
 ghost use mathlib.Core.Bool.{true};
-ghost use Prim.Native.Nat.{_≤_, _<_};
-ghost use lib.ListN.{length};
+ghost use mathlib.Core.Option.{Option·getD};
+ghost use Prim.Native.Nat.{_+_, _≤_, _<_};
+ghost use lib.ListN.{length, drop};
 ghost use Rattle.theory.specs.declared.Letter.the-variants.{M, NoLetter};
 ghost use Rattle.theory.specs.Lists.{every};
-ghost use Rattle.theory.specs.Text.{between};
+ghost use Rattle.theory.specs.Text.{between, natural, fieldsOf};
+ghost use Rattle.theory.specs.Written.{field};
+ghost use Rattle.theory.specs.Faults.{lineArity};
+ghost use Rattle.text.specs.Scans.{partsFrom};
 ghost use Rattle.words.specs.Classes.{Classes};
-ghost use Rattle.tables.specs.Tables.{SafeState, SafeSignatures};
+ghost use Rattle.tables.specs.Tables.{SafeState, SafeSignatures, noArity};
 ghost use Rattle.tables.specs.Lines.{most};
-ghost use Rattle.opening.specs.Opening.{besides, bars, barredBy, HasName, Refers, Nameless, Begins, LetterRead, NameRead, Completes, Stands, OpensLetter, OpensDeclaration, OpensBare, Opens};
+ghost use Rattle.opening.specs.Opening.{declares, bars, barredBy, HasName, Nameless, Begins, LetterRead, NameRead, Completes, Stands, OpensLetter, OpensBare, Opens};
+use numbers::Natural;
 use tables::Fault;
 use tables::Hints;
 use tables::Names;
@@ -86,10 +91,9 @@ fn may_stand(letter: Letter, state: State, signatures: &Signatures) -> bool
     }
 }
 
-/// The name in a line's second field: its words, its place among the predicates, and where the field ends.
+/// The name in a line's second field: its words, and where the field ends.
 pub struct Named {
     pub words: Words,
-    pub place: usize,
     pub stop: usize,
 }
 
@@ -98,15 +102,9 @@ pub enum Naming {
     NoName,
 }
 
-fn name_of(
-    line: &[u8],
-    names: &Names,
-    known: usize,
-    hints: &mut Hints,
-    classes: &[u8; 256],
-) -> Naming
-    requires { ⌜ (Begins (now line)) × (known ≤ 32) × Classes (now classes) ⌝ }
-    ensures { λ r. ⌜ NameRead (now (line .entry)) (now (names .entry)) known r ⌝ }
+fn name_of(line: &[u8], classes: &[u8; 256]) -> Naming
+    requires { ⌜ (Begins (now line)) × Classes (now classes) ⌝ }
+    ensures { λ r. ⌜ NameRead (now (line .entry)) r ⌝ }
 {
     if line.len() < 2 {
         return Naming::NoName;
@@ -115,52 +113,53 @@ fn name_of(
     let stop = reader::field_end(line, ends);
     let word = words::word_by_end(line, 2, stop, ends, classes);
     match word {
-        Word::Name(words) => {
-            let place = words::place_by(names, known, words, hints);
-            Naming::Found(Named { words, place, stop })
-        }
+        Word::Name(words) => Naming::Found(Named { words, stop }),
         Word::Variable(_) => Naming::NoName,
         Word::Neither => Naming::NoName,
     }
 }
 
-/// A line of a letter that names a predicate which is not declared yet.
-fn open_declaration(line: &[u8], state: State, names: &Names, naming: Naming) -> Opening
-    requires { ⌜ (length (now line) ≤ 1024) × (NameRead (now line) (now names) (state .predicates) naming) ⌝ }
-    ensures { λ r. ⌜ OpensDeclaration (now (line .entry)) (now (names .entry)) state r ⌝ }
+/// The arity in the field from a place on; none where there is no such field or it is malformed.
+fn read_arity(line: &[u8], from: usize) -> usize
+    ensures { λ r. ⌜ r ≡ Option·getD (natural 8 (field 0 (partsFrom 44 (now (line .entry)) from))) noArity ⌝ }
 {
-    let known = state.predicates;
-    let Naming::Found(name) = naming else {
-        return Opening::Misopened(Fault::Name);
-    };
-    if name.place < known {
-        return Opening::Misopened(Fault::Declaration);
+    if line.len() < from {
+        return tables::NO_ARITY;
     }
-    if text::count(line, b',') != 3 {
-        return Opening::Misopened(Fault::FieldCount);
+    let stop = reader::field_end(line, from);
+    let arity = numbers::read_natural(&line[from..stop], 8);
+    match arity {
+        Natural::Whole(n) => widths::u32_to_usize(n),
+        Natural::NoNatural => tables::NO_ARITY,
     }
-    let words = name.words;
-    Opening::Line(Opened {
-        letter: Letter::P,
-        predicate: known,
-        words,
-        from: name.stop + 1,
-    })
 }
 
-/// The commas of a line that are not in front of an argument.
-fn commas_besides(letter: Letter) -> usize
-    ensures { λ r. ⌜ r ≡ besides letter ⌝ }
+/// The arity that a line gives, by its commas or in the field from a place on, the one after its name.
+fn arity_of(letter: Letter, line: &[u8], from: usize, commas: usize) -> usize
+    requires { ⌜ (commas + 1 ≡ length (fieldsOf (now line))) × (partsFrom 44 (now line) from ≡ drop 2 (fieldsOf (now line))) ⌝ }
+    ensures { λ r. ⌜ r ≡ Option·getD (lineArity letter (fieldsOf (now (line .entry)))) noArity ⌝ }
 {
     match letter {
-        Letter::P => 0,
-        Letter::C => 2,
-        Letter::G => 1,
-        Letter::H => 1,
-        Letter::B => 1,
-        Letter::M => 0,
-        Letter::E => 0,
-        Letter::NoLetter => 0,
+        Letter::P => read_arity(line, from),
+        Letter::C => tables::arity_by(commas, 2),
+        Letter::G | Letter::H | Letter::B => tables::arity_by(commas, 1),
+        Letter::M | Letter::E | Letter::NoLetter => tables::NO_ARITY,
+    }
+}
+
+/// Whether a line of this letter declares the predicate that it names; the others refer to one.
+fn is_declaration(letter: Letter) -> bool
+    ensures { λ r. ⌜ r ≡ declares letter ⌝ }
+{
+    match letter {
+        Letter::P => true,
+        Letter::C => false,
+        Letter::G => false,
+        Letter::H => false,
+        Letter::B => false,
+        Letter::M => false,
+        Letter::E => false,
+        Letter::NoLetter => false,
     }
 }
 
@@ -169,7 +168,7 @@ fn is_barred(letter: Letter, mark: u8) -> bool
     ensures { λ r. ⌜ r ≡ bars letter mark ⌝ }
 {
     match letter {
-        Letter::P => false,
+        Letter::P => true,
         Letter::C => false,
         Letter::G => mark == 0,
         Letter::H => mark != 0,
@@ -196,41 +195,6 @@ fn barred_fault(letter: Letter) -> Fault
     }
 }
 
-/// A line of a letter that names a declared predicate, with a field for each of its arguments.
-fn open_reference(
-    letter: Letter,
-    line: &[u8],
-    state: State,
-    names: &Names,
-    signatures: &Signatures,
-    naming: Naming,
-) -> Opening
-    requires { ⌜ (Refers letter) × (length (now line) ≤ 1024) × (SafeState state) × (SafeSignatures (now signatures)) × (NameRead (now line) (now names) (state .predicates) naming) ⌝ }
-    ensures { λ r. ⌜ OpensLetter letter (now (line .entry)) (now (names .entry)) (now (signatures .entry)) state r ⌝ }
-{
-    let known = state.predicates;
-    let Naming::Found(name) = naming else {
-        return Opening::Misopened(Fault::Name);
-    };
-    let place = name.place;
-    if known <= place {
-        return Opening::Misopened(Fault::Declaration);
-    }
-    if is_barred(letter, signatures[32 + place]) {
-        return Opening::Misopened(barred_fault(letter));
-    }
-    if text::count(line, b',') != widths::u8_to_usize(signatures[place]) + commas_besides(letter) {
-        return Opening::Misopened(Fault::FieldCount);
-    }
-    let words = name.words;
-    Opening::Line(Opened {
-        letter,
-        predicate: place,
-        words,
-        from: name.stop + 1,
-    })
-}
-
 /// A line of a letter that names a predicate, with what its second field is.
 fn open_named(
     letter: Letter,
@@ -238,21 +202,44 @@ fn open_named(
     state: State,
     names: &Names,
     signatures: &Signatures,
+    hints: &mut Hints,
     naming: Naming,
 ) -> Opening
-    requires { ⌜ (HasName letter) × (length (now line) ≤ 1024) × (SafeState state) × (SafeSignatures (now signatures)) × (NameRead (now line) (now names) (state .predicates) naming) ⌝ }
+    requires { ⌜ (HasName letter) × (length (now line) ≤ 1024) × (SafeState state) × (SafeSignatures (now signatures)) × (NameRead (now line) naming) ⌝ }
     ensures { λ r. ⌜ OpensLetter letter (now (line .entry)) (now (names .entry)) (now (signatures .entry)) state r ⌝ }
 {
-    match letter {
-        Letter::P => open_declaration(line, state, names, naming),
-        Letter::C => open_reference(letter, line, state, names, signatures, naming),
-        Letter::G => open_reference(letter, line, state, names, signatures, naming),
-        Letter::H => open_reference(letter, line, state, names, signatures, naming),
-        Letter::B => open_reference(letter, line, state, names, signatures, naming),
-        Letter::M => Opening::Misopened(Fault::Letter),
-        Letter::E => Opening::Misopened(Fault::Letter),
-        Letter::NoLetter => Opening::Misopened(Fault::Letter),
+    let Naming::Found(name) = naming else {
+        return Opening::Misopened(Fault::Name);
+    };
+    let known = state.predicates;
+    let words = name.words;
+    let from = name.stop + 1;
+    let commas = text::count(line, b',');
+    let arity = arity_of(letter, line, from, commas);
+    let place = tables::place_by(names, signatures, known, words, arity, hints);
+    if known <= place {
+        if !is_declaration(letter) {
+            return Opening::Misopened(Fault::Declaration);
+        }
+        if commas != 3 {
+            return Opening::Misopened(Fault::FieldCount);
+        }
+        return Opening::Line(Opened {
+            letter,
+            predicate: known,
+            words,
+            from,
+        });
     }
+    if is_barred(letter, signatures[32 + place]) {
+        return Opening::Misopened(barred_fault(letter));
+    }
+    Opening::Line(Opened {
+        letter,
+        predicate: place,
+        words,
+        from,
+    })
 }
 
 /// A line of a letter that names no predicate, with a number of commas.
@@ -290,8 +277,8 @@ fn open_letter(
 {
     match letter {
         Letter::P | Letter::C | Letter::G | Letter::H | Letter::B => {
-            let naming = name_of(line, names, state.predicates, hints, classes);
-            open_named(letter, line, state, names, signatures, naming)
+            let naming = name_of(line, classes);
+            open_named(letter, line, state, names, signatures, hints, naming)
         }
         Letter::M => open_bare(letter, state.slots, line, state),
         Letter::E => open_bare(letter, 0, line, state),

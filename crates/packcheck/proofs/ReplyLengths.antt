@@ -28,7 +28,7 @@ answered-long : (text query : Bytes) (x : Fields) → Answered text query x → 
 answered-long text query x a =
     let p = packOf text in
     let k = asks p (accepted-pack text (a .accepted) .fits .formed .predicates) query (a .faultless) in
-    omega (arith, k .full, k .within, sizes-count query, parts-count 44 query)
+    omega (arith, k .within, sizes-count query, parts-count 44 query)
 
 -- (no refusal has a number of three digits)
 refused-short : (n : ℕ) → n ≤ 99 → length (textOf (printedFields (fields 82 n 0) ∷ [])) ≤ 7

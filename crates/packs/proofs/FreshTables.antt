@@ -33,7 +33,7 @@ unfolding nothing multiplierLines isEmpty
 fresh-holds =
     record {
       declares = record { count = refl; words = λ i below. absurd (omega arith); named = λ i below. absurd (omega arith); arity = λ i below. absurd (omega arith); kind = λ i below. absurd (omega arith); distinct = λ i j below other same. absurd (omega arith) };
-      claims = record { count = λ i below. absurd (omega arith); none = λ i above below. same-everywhere {A = ℕ} 0 96 (64 + i); at = λ i j below other. absurd (omega arith); full = λ i j below other. absurd (omega arith) };
+      claims = record { count = λ i below. absurd (omega arith); none = λ i above below. same-everywhere {A = ℕ} 0 96 (64 + i); at = λ i j below other. absurd (omega arith) };
       claimed = refl;
       shipped = ships-nothing;
       owing = set-nothing (owesRule []);

@@ -10,9 +10,8 @@ use lib.ListN.{length, getD, take, drop, length-map, List·getD-map}
 use Rattle.groundwork.proofs.Lists.{getD-member}
 use Rattle.theory.specs.Lists.{isSome}
 use Rattle.theory.specs.Text.{Bytes, bytes, same, isDecimal, natural, fieldsOf}
-use Rattle.theory.specs.Packs.{key}
 use Rattle.theory.specs.Written.{field}
-use Rattle.theory.specs.Reserve.{queryKey, queryFrom, queryOf, sizeFrom}
+use Rattle.theory.specs.Reserve.{queryFrom, queryOf, sizeFrom}
 use Rattle.theory.proofs.Reading.Every.{every-member}
 use Rattle.text.specs.Scans.{part, Finds, partsFrom}
 use Rattle.text.proofs.Cuts.{parts-all, parts-done, parts-step}
@@ -29,10 +28,6 @@ module _ (query : Bytes) (stop : ℕ) (first : Finds query 44 0 stop) where
 
   pub name-field : field 0 (fieldsOf query) ≡ take stop query
   name-field = ap (field 0) name-off
-
-  pub key-is : queryKey (queryOf query) ≡ key (take stop query) (length (queryOf query .sizes))
-  unfolding queryOf queryFrom
-  key-is = ap (λ (name : Bytes). key name (length (queryOf query .sizes))) name-field
 
   module _ (more : 1 < length (fieldsOf query)) where
     pub asked-inside : stop + 1 ≤ length query

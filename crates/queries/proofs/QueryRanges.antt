@@ -1,24 +1,19 @@
--- The numbers that `open_query` goes by are in range: the arity, the fields' places, the asked argument's place.
+-- The numbers that `open_query` goes by are in range: the arity, and the asked argument's place.
 use mathlib.Core.Path.{_≡_, refl}
 use mathlib.Core.List.{List}
 use mathlib.Core.Option.{Option, some, none, Option·getD}
-use Prim.Native.Nat.{ℕ, _+_, _-_, _*_, _≤_, _<_}
+use Prim.Native.Nat.{ℕ, _-_, _*_, _≤_, _<_}
 use native.Mathlib.Omega.{arith}
-use lib.ListN.{length, getD}
+use lib.ListN.{getD}
 use mir.Syntax.{w64}
 use mir.Val.{Fits}
-use Rattle.theory.specs.Text.{Bytes, natural, partsAt}
+use Rattle.theory.specs.Text.{Bytes, natural}
 use Rattle.theory.proofs.Reading.Spelling.{natural-within}
-use Rattle.text.specs.Scans.{Finds, partsFrom}
 use Rattle.tables.specs.Tables.{SafeSignatures}
-use Rattle.queries.proofs.QueryFields.{asked-inside, size-count}
 
 module _ (signatures : List ℕ) (safe : SafeSignatures signatures) (known place : ℕ) (low : known ≤ 32) (below : place < known) where
   pub arity-small : getD signatures place 0 ≤ 8
   arity-small = safe .arity place (omega arith)
-
-  pub arity-fits : (a : ℕ) → a ≡ getD signatures place 0 → Fits w64 (a + 1)
-  arity-fits a is = omega (arith, arity-small)
 
   -- the asked argument, and its place in the table of sizes
   module _ (field : Bytes) (asked : ℕ) (reads : asked ≡ Option·getD (natural (getD signatures place 0) field) 0) where
@@ -34,11 +29,3 @@ module _ (signatures : List ℕ) (safe : SafeSignatures signatures) (known place
 
     pub place-fits : (asked ≡ 0 → ⊥) → Fits w64 ((asked - 1) * 4)
     place-fits above = omega (arith, asked-low)
-
--- n commas for a arguments
-module _ (query : Bytes) (stop : ℕ) (first : Finds query 44 0 stop) (n a : ℕ) (count : n + 1 ≡ length (partsAt 44 query)) (right : n ≡ a + 1) where
-  pub second-inside : stop + 1 ≤ length query
-  second-inside = asked-inside query stop first (omega arith)
-
-  pub sizes-few : (end : ℕ) → Finds query 44 (stop + 1) end → (signatures : List ℕ) → SafeSignatures signatures → (known place : ℕ) → known ≤ 32 → place < known → a ≡ getD signatures place 0 → length (partsFrom 44 query (end + 1)) ≤ 8
-  sizes-few end second signatures safe known place low below arity = omega (arith, size-count query stop first (omega arith) end second, arity-small signatures safe known place low below)

@@ -3,17 +3,15 @@ use mathlib.Core.Path.{_≡_, _∙_, ap}
 use mathlib.Core.Bool.{true, false, not, _&&_}
 use mathlib.Core.List.{[], _∷_}
 use mathlib.Core.Option.{some}
-use Prim.Native.Nat.{_+_}
-use lib.Dec.{eqb}
 use lib.ListN.{length, drop}
-use Rattle.groundwork.proofs.Truth.{and-both, equal-eqb, eqb-different}
+use Rattle.groundwork.proofs.Truth.{and-both}
 use Rattle.theory.specs.Lists.{every, isSome}
 use Rattle.theory.specs.Text.{Bytes, isName, fieldsOf}
-use Rattle.theory.specs.Packs.{Predicate, Pack, declaredAs}
+use Rattle.theory.specs.Packs.{Predicate, Pack}
 use Rattle.theory.specs.Written.{field}
-use Rattle.theory.specs.Faults.{test, firstOf, isUnfit, arityIn}
-use Rattle.theory.specs.Reserve.{queryKey, queryOf, sizeFrom, sizeGiven, queryFault}
-use Rattle.theory.proofs.Reading.Presence.{some-is, arity-in}
+use Rattle.theory.specs.Faults.{test, firstOf, isUnfit}
+use Rattle.theory.specs.Reserve.{queryOf, sizeFrom, sizeGiven, meantByQuery, queryFault}
+use Rattle.theory.proofs.Reading.Presence.{some-is}
 use Rattle.theory.proofs.Judging.Tests.{first-passed, first-found}
 use Rattle.queries.proofs.AskedField.{isUnasked}
 
@@ -23,51 +21,34 @@ module _ (p : Pack) (query : Bytes) where
   fault-four unfit = first-found 4 _ _ unfit
 
   module _ (fit : isUnfit query ≡ false) where
-    pub fault-fourteen : (isName (field 0 (fieldsOf query)) && isSome (declaredAs (queryKey (queryOf query)) (p .predicates))) ≡ false → queryFault p query ≡ 14
-    unfolding queryFault queryOf
+    pub fault-fourteen : (isName (field 0 (fieldsOf query)) && isSome (meantByQuery (fieldsOf query) p)) ≡ false → queryFault p query ≡ 14
+    unfolding queryFault
     fault-fourteen finds = first-passed 4 _ _ fit ∙ first-found 14 _ _ (ap not finds)
 
     -- the predicate is declared
-    module _ (isNamed : isName (field 0 (fieldsOf query)) ≡ true) (x : Predicate) (declared : declaredAs (queryKey (queryOf query)) (p .predicates) ≡ some x) where
-      fourteen : not (isName (field 0 (fieldsOf query)) && isSome (declaredAs (queryKey (queryOf query)) (p .predicates))) ≡ false
-      fourteen = ap not (and-both _ _ isNamed (some-is _ x declared))
+    module _ (isNamed : isName (field 0 (fieldsOf query)) ≡ true) (x : Predicate) (found : meantByQuery (fieldsOf query) p ≡ some x) where
+      fourteen : not (isName (field 0 (fieldsOf query)) && isSome (meantByQuery (fieldsOf query) p)) ≡ false
+      fourteen = ap not (and-both _ _ isNamed (some-is _ x found))
 
-      arity-is : arityIn (declaredAs (queryKey (queryOf query)) (p .predicates)) ≡ x .arguments
-      arity-is = arity-in _ x declared
-
-      pub fault-fifteen : (length (fieldsOf query) ≡ x .arguments + 2 → ⊥) → queryFault p query ≡ 15
+      pub fault-sixteen : isUnasked (length (queryOf query .sizes)) (field 1 (fieldsOf query)) ≡ true → queryFault p query ≡ 16
       unfolding queryFault queryOf
-      fault-fifteen other = first-passed 4 _ _ fit ∙ first-passed 14 _ _ fourteen ∙ first-found 15 _ _ (rw arity-is (ap not (eqb-different _ _ other)))
+      fault-sixteen finds = first-passed 4 _ _ fit ∙ first-passed 14 _ _ fourteen ∙ first-found 16 _ _ finds
 
-      -- there is a field for each argument
-      module _ (full : length (fieldsOf query) ≡ x .arguments + 2) where
-        fifteen : not (eqb (length (fieldsOf query)) (arityIn (declaredAs (queryKey (queryOf query)) (p .predicates)) + 2)) ≡ false
-        fifteen = rw arity-is (ap not (equal-eqb _ _ full))
-
-        pub fault-sixteen : isUnasked (x .arguments) (field 1 (fieldsOf query)) ≡ true → queryFault p query ≡ 16
+      -- one of its arguments is asked for
+      module _ (asks : isUnasked (length (queryOf query .sizes)) (field 1 (fieldsOf query)) ≡ false) where
+        pub fault-seventeen : every (λ (f : Bytes). isSome (sizeFrom f)) (drop 2 (fieldsOf query)) ≡ false → queryFault p query ≡ 17
         unfolding queryFault queryOf
-        fault-sixteen finds = first-passed 4 _ _ fit ∙ first-passed 14 _ _ fourteen ∙ first-passed 15 _ _ fifteen ∙ first-found 16 _ _ (rw arity-is finds)
+        fault-seventeen finds = first-passed 4 _ _ fit ∙ first-passed 14 _ _ fourteen ∙ first-passed 16 _ _ asks ∙ first-found 17 _ _ (ap not finds)
 
-        -- one of these is asked for
-        module _ (asks : isUnasked (x .arguments) (field 1 (fieldsOf query)) ≡ false) where
-          sixteen : isUnasked (arityIn (declaredAs (queryKey (queryOf query)) (p .predicates))) (field 1 (fieldsOf query)) ≡ false
-          sixteen = rw arity-is asks
-
-          pub fault-seventeen : every (λ (f : Bytes). isSome (sizeFrom f)) (drop 2 (fieldsOf query)) ≡ false → queryFault p query ≡ 17
+        -- each size is fine
+        module _ (sizes : every (λ (f : Bytes). isSome (sizeFrom f)) (drop 2 (fieldsOf query)) ≡ true) where
+          past-seventeen : queryFault p query ≡ firstOf (test 18 (isSome (sizeGiven (queryOf query .asked) (queryOf query))) ∷ [])
           unfolding queryFault queryOf
-          fault-seventeen finds =
-              first-passed 4 _ _ fit ∙ first-passed 14 _ _ fourteen ∙ first-passed 15 _ _ fifteen ∙ first-passed 16 _ _ sixteen ∙ first-found 17 _ _ (ap not finds)
+          past-seventeen = first-passed 4 _ _ fit ∙ first-passed 14 _ _ fourteen ∙ first-passed 16 _ _ asks ∙ first-passed 17 _ _ (ap not sizes)
 
-          -- each size is fine
-          module _ (sizes : every (λ (f : Bytes). isSome (sizeFrom f)) (drop 2 (fieldsOf query)) ≡ true) where
-            past-seventeen : queryFault p query ≡ firstOf (test 18 (isSome (sizeGiven (queryOf query .asked) (queryOf query))) ∷ [])
-            unfolding queryFault queryOf
-            past-seventeen =
-                first-passed 4 _ _ fit ∙ first-passed 14 _ _ fourteen ∙ first-passed 15 _ _ fifteen ∙ first-passed 16 _ _ sixteen ∙ first-passed 17 _ _ (ap not sizes)
+          pub fault-eighteen : isSome (sizeGiven (queryOf query .asked) (queryOf query)) ≡ true → queryFault p query ≡ 18
+          fault-eighteen finds = past-seventeen ∙ first-found 18 _ _ finds
 
-            pub fault-eighteen : isSome (sizeGiven (queryOf query .asked) (queryOf query)) ≡ true → queryFault p query ≡ 18
-            fault-eighteen finds = past-seventeen ∙ first-found 18 _ _ finds
-
-            pub faultless : isSome (sizeGiven (queryOf query .asked) (queryOf query)) ≡ false → queryFault p query ≡ 0
-            unfolding firstOf
-            faultless finds = past-seventeen ∙ first-passed 18 _ [] finds
+          pub faultless : isSome (sizeGiven (queryOf query .asked) (queryOf query)) ≡ false → queryFault p query ≡ 0
+          unfolding firstOf
+          faultless finds = past-seventeen ∙ first-passed 18 _ [] finds

@@ -13,7 +13,7 @@ use Rattle.theory.specs.Answers.{queryNumber}
 use Rattle.theory.specs.declared.QueryRefusal.{QueryRefusal}
 use Rattle.text.specs.Scans.{partsFrom}
 use Rattle.words.specs.Words.{wordsOf, StandsAt}
-use Rattle.tables.specs.Tables.{predicateAt, Declares}
+use Rattle.tables.specs.Tables.{predicateAt, signature, signatureAt, Declares}
 use Rattle.tables.specs.QuerySizes.{entryOf, SafeSizes, SizesStand}
 use Rattle.queries.specs.declared.Asked.{Asked}
 use Rattle.queries.specs.declared.Tested.{Tested}
@@ -31,11 +31,11 @@ pub record SizesRead (query : Bytes) (from : ℕ) (r : Bool) (sizes : List ℕ) 
   pub all : r ≡ every (λ (f : Bytes). isSome (sizeFrom f)) (partsFrom 44 query from)
   pub entry : r ≡ true → (i : ℕ) → i < length (partsFrom 44 query from) → getD sizes i 0 ≡ sizeNumber (sizeFrom (getD (partsFrom 44 query from) i []))
 
--- the first place of a field's words among the names, or how many there are where it is no name or not among them
-pub record Means (field : Bytes) (names : List ℕ) (known r : ℕ) : Type 0 where
+-- the place of a name with an arity among the predicates, or how many there are where it is no name or not among them
+pub record Means (field : Bytes) (arity : ℕ) (names signatures : List ℕ) (known r : ℕ) : Type 0 where
   pub high : r ≤ known
   pub isNamed : r < known → isName field ≡ true
-  pub place : isName field ≡ true → StandsAt names known (wordsOf field) r
+  pub place : isName field ≡ true → StandsAt (signatureAt names signatures) known (signature (wordsOf field) arity) r
 
 -- a query without fault: its predicate's place, and what it asks
 pub record Passed (p : Pack) (query : Bytes) (r : Asked) (sizes : List ℕ) : Type 0 where

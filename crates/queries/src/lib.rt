@@ -77,15 +77,21 @@ fn read_asked(field: &[u8], arity: u8) -> usize
     }
 }
 
-/// The place of the predicate that a field names, or how many there are.
-fn named_by(field: &[u8], names: &Names, known: usize) -> usize
+/// The place of the predicate that a field names, with its arity, or how many there are.
+fn named_by(
+    field: &[u8],
+    arity: usize,
+    names: &Names,
+    signatures: &Signatures,
+    known: usize,
+) -> usize
     requires { ⌜ known ≤ 32 ⌝ }
-    ensures { λ r. ⌜ Means (now (field .entry)) (now (names .entry)) known r ⌝ }
+    ensures { λ r. ⌜ Means (now (field .entry)) arity (now (names .entry)) (now (signatures .entry)) known r ⌝ }
 {
     let classes = words::class_table();
     let word = words::word_between(field, 0, field.len(), &classes);
     match word {
-        Word::Name(words) => words::place(names, known, words),
+        Word::Name(words) => tables::place(names, signatures, known, words, arity),
         Word::Variable(_) => known,
         Word::Neither => known,
     }
@@ -106,14 +112,12 @@ pub fn open_query(
         return Tested::Refused(QueryRefusal::UnfitQuery);
     }
     let stop = reader::field_end(query, 0);
-    let place = named_by(&query[..stop], names, known);
+    let given = tables::arity_by(text::count(query, b','), 1);
+    let place = named_by(&query[..stop], given, names, signatures, known);
     if known <= place {
         return Tested::Refused(QueryRefusal::QueryName);
     }
     let arity = signatures[place];
-    if text::count(query, b',') != widths::u8_to_usize(arity) + 1 {
-        return Tested::Refused(QueryRefusal::QueryFieldCount);
-    }
     let from = stop + 1;
     let end = reader::field_end(query, from);
     let asked = read_asked(&query[from..end], arity);

@@ -21,6 +21,7 @@ use Rattle.theory.specs.declared.Counts.{Counts}
 use Rattle.theory.specs.declared.Verdict.the-variants.{Accepted, Refused as PackFaulty}
 use Rattle.theory.specs.declared.Reservation.{Reservation}
 use Rattle.theory.specs.declared.Reservation.the-variants.{PackRefused, QueryRefused}
+use Rattle.theory.proofs.Judging.Keys.{on-arity}
 use Rattle.theory.proofs.Reserving.RefusalNumbers.{refusal-number, query-number}
 use Rattle.tables.specs.Tables.{SafeSignatures, SafeClaims, predicateAt, HoldsClaims}
 use Rattle.tables.specs.QuerySizes.{SafeSizes}
@@ -59,7 +60,7 @@ module _ (query : Bytes) {names signatures : List ℕ} {claims : List ℤ} {know
   stands asked p key is holds passed = subst (λ (k : Key). ClaimsStand claims (asked .predicate) (getD signatures (64 + asked .predicate) 0) (asked .arity) (asked .asked) sizes (queryOf query) (claimsOn k (p .claims))) is (record {
     all = holds .count (asked .predicate) (passed .below);
     at = λ j below. holds .at (asked .predicate) j (passed .below) below;
-    full = λ j below. holds .full (asked .predicate) j (passed .below) below ∙ sym (passed .arity);
+    full = λ j below. on-arity _ (p .claims) j below ∙ sym (passed .arity);
     known = passed .full;
     asks = passed .asked;
     stand = passed .stand;

@@ -30,14 +30,14 @@ use Rattle.tables.specs.Lines.{OldPredicate, Passed, at, ClosedFor}
 use Rattle.tables.proofs.Outcomes.{line-number}
 use Rattle.tables.proofs.PredicateSets.{key-alone, set-ending}
 use Rattle.atoms.specs.Fields.{FieldTerm, ProgressTerms}
-use Rattle.atoms.proofs.AtomLines.{atom-ended, atom-fault, count-terms, few-terms, Finished, finished}
+use Rattle.atoms.proofs.AtomLines.{atom-ended, atom-fault, few-terms, Finished, finished}
 use Rattle.rules.specs.Ends.{withHead, isPast, ClosesH}
 use Rattle.rules.proofs.Ends.{limits-kept, limit-broken}
 
 pub h-fault : {line : Bytes} {s : State} {w : Written} {o : Opened} {atom index many : ℕ} {variables₀ variables rows₀ rows : List ℕ} {r : Fielding} {f : Fault} → Passed H line s w o → index < length (drop 2 (fieldsOf line))
     → FieldTerm atom index (at (drop 2 (fieldsOf line)) index) many variables₀ rows₀ r variables rows → r ≡ Misread f → fault whole w line ≡ numberOf f
 unfolding tests headTests
-h-fault {line = line} {w = w} passed inside done bad = passed .left ∙ atom-fault _ [] _ (fieldsOf line) (w .pack) inside done bad
+h-fault {line = line} {w = w} passed inside done bad = passed .left ∙ atom-fault H _ [] _ (fieldsOf line) (w .pack) inside done bad
 
 -- ---- the line's end
 
@@ -62,7 +62,6 @@ module _ {line : Bytes} {t : Tables} {s : State} {w : Written} {o : Opened} {man
   head-stands = record {
     head = named .below;
     headKey = named .is;
-    headFull = count-terms named;
     subgoals = refl;
     variables = terms .count few;
     holdsVariables = terms .holds few;
@@ -94,7 +93,7 @@ unfolding tests headTests firstOf
 h-close {line = line} {s = s} {w = w} {many = many} holds safe passed done closes =
     let terms = finished (few-terms (passed .named) holds safe) (variables-of-head (fieldsOf line)) done in
     record {
-      answer = passed .left ∙ atom-ended _ [] _ (fieldsOf line) (w .pack) (terms .good) ∙ rw (← holds .rules, ← terms .past) (sym (line-number CountLimit _ (isPast ruleLimit (s .rules) many) (closes .answer)));
+      answer = passed .left ∙ atom-ended H _ [] _ (fieldsOf line) (w .pack) (terms .good) ∙ rw (← holds .rules, ← terms .past) (sym (line-number CountLimit _ (isPast ruleLimit (s .rules) many) (closes .answer)));
       holds = λ next fine.
           let kept = limits-kept ruleLimit (s .rules) many _ (closes .answer) fine in
           rw (← kept .1, writes-letter H w line (passed .first) refl) (head-holds holds (passed .named) (kept .0 .few) terms);

@@ -17,6 +17,7 @@ use Rattle.theory.specs.declared.Letter.the-variants.{B}
 use Rattle.theory.specs.Written.{Written, onLast, atomFrom, termsFrom, add}
 use Rattle.theory.specs.Residuals.{numbered, atomsVariables, ruleVariables}
 use Rattle.theory.specs.Faults.{noRule, firstOf, isTerm, lastRule, mayStand, subgoalTests, whole, tests, fault}
+use Rattle.theory.proofs.Judging.Keys.{on-arity}
 use Rattle.theory.proofs.Judging.LastRule.{last-changed}
 use Rattle.theory.proofs.Judging.LineWriting.{writes-letter}
 use Rattle.theory.proofs.Judging.RuleCounts.{length-onLast, multiplierLines-subgoal}
@@ -41,7 +42,7 @@ use Rattle.atoms.specs.Fields.{subgoalAtom, FieldTerm}
 use Rattle.atoms.proofs.StatedAtoms.{subgoal-next}
 use Rattle.atoms.proofs.TermFields.{t-read}
 use Rattle.atoms.proofs.TermRows.{atom-over-more, terms-begin, term-field}
-use Rattle.atoms.proofs.AtomLines.{atom-ended, atom-fault, count-terms, few-terms, Finished, finished}
+use Rattle.atoms.proofs.AtomLines.{atom-ended, atom-fault, few-terms, Finished, finished}
 use Rattle.rules.specs.Subgoals.{ProgressSubgoal}
 use Rattle.rules.specs.Ends.{withSubgoal, isPast, SlotsAdded, ClosesB}
 use Rattle.rules.proofs.Ends.{limits-kept, limit-broken}
@@ -71,7 +72,7 @@ b-field {line = line} {s = s} {index = index} place inside size before done fine
 pub b-fault : {line : Bytes} {s : State} {w : Written} {o : Opened} {atom index many : ℕ} {variables₀ variables rows₀ rows : List ℕ} {r : Fielding} {f : Fault} → Passed B line s w o → index < length (drop 2 (fieldsOf line))
     → FieldTerm atom index (at (drop 2 (fieldsOf line)) index) many variables₀ rows₀ r variables rows → r ≡ Misread f → fault whole w line ≡ numberOf f
 unfolding tests subgoalTests
-b-fault {line = line} {w = w} passed inside done bad = passed .left ∙ atom-fault _ [] _ (fieldsOf line) (w .pack) inside done bad
+b-fault {line = line} {w = w} passed inside done bad = passed .left ∙ atom-fault B _ [] _ (fieldsOf line) (w .pack) inside done bad
 
 -- ---- the line's end
 
@@ -140,7 +141,7 @@ module _ (line : Bytes) (w : Written) where
         slot-after (t .claims) (t .slots) slots (w .pack .claims) (rule .subgoals) added (s .slots + j) j (omega (arith, stands .slots))
         (rw (laid .place j inside, ← named .is) (holds .claims .at (o .predicate) j (named .below) here))
         (ap (λ i. getD slots i 0) (omega arith) ∙ laid .ofSubgoal j inside ∙ stands .subgoals)
-        (rw (← named .is) (holds .claims .full (o .predicate) j (named .below) here ∙ sym (count-terms named)))
+        (on-arity (atomKey added) (w .pack .claims) j (rw claims-counted at inside))
 
     slot-stands : (k : ℕ) → k < s .slots + count → SlotStands (t .claims) slots (w .pack .claims) (rule .subgoals ++ (added ∷ [])) k
     slot-stands = below-sum (SlotStands (t .claims) slots (w .pack .claims) (rule .subgoals ++ (added ∷ []))) (s .slots) count
@@ -151,7 +152,6 @@ module _ (line : Bytes) (w : Written) where
     subgoal-stands = record {
       head = stands .head;
       headKey = stands .headKey;
-      headFull = stands .headFull;
       subgoals = omega (arith, stands .subgoals, length-end (rule .subgoals) added);
       variables = terms .count few;
       holdsVariables = terms .holds few;
@@ -186,7 +186,7 @@ b-close {line} {t} {s} {w} {o} {many} {variables} {rows} {slots} {r} holds safe 
     record {
       answer =
           passed .left
-          ∙ atom-ended _ [] _ (fieldsOf line) (w .pack) (places-every isTerm (drop 2 (fieldsOf line)) [] (done .good))
+          ∙ atom-ended B _ [] _ (fieldsOf line) (w .pack) (places-every isTerm (drop 2 (fieldsOf line)) [] (done .good))
           ∙ subgoal-answer line w (s .subgoals) many _ r (stands .subgoals) (λ room. terms room .past) (closes .answer);
       holds = λ next fine.
           let kept = limits-kept subgoalLimit (s .subgoals) many _ (closes .answer) fine in

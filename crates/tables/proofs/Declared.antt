@@ -102,5 +102,4 @@ module _ (signatures : List ℕ) (claims : List ℤ) (ps : List Predicate) (hold
         count = λ i h. let low : i < 32 = omega arith in same i low ∙ no-count i low;
         none = λ i h low. same i low ∙ no-count i low;
         at = λ i j h k. absurd (omega arith);
-        full = λ i j h k. absurd (omega arith);
       }

@@ -2,6 +2,7 @@
 pub mod Outcomes
 pub mod FaultNumbers
 pub mod Lookup
+pub mod Signatures
 pub mod Declared
 pub mod PredicateSets
 pub mod Shipping

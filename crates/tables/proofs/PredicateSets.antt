@@ -19,7 +19,7 @@ use Rattle.theory.proofs.Reading.Every.{none-member, members-none, any-end}
 use Rattle.theory.proofs.Judging.Heads.{heads-changed}
 use Rattle.theory.proofs.Reading.Places.{each-and-last}
 use Rattle.tables.specs.Tables.{noPredicate, predicateAt, Declares, SetOf, hasKeyIn}
-use Rattle.tables.proofs.Lookup.{sameKey-here, sameKey-other}
+use Rattle.theory.proofs.Judging.Keys.{sameKey-here, sameKey-other}
 
 -- the word that `with_predicate` makes
 pub one-more : (set place : ℕ) → place < 32 → bitOr set (1 * 2 ^ place % 18446744073709551616) ≡ bitOr set (2 ^ place)

@@ -9,8 +9,8 @@ use Rattle.theory.specs.declared.Letter.{Letter}
 use Rattle.theory.specs.declared.Letter.the-variants.{P, C, G, H, B, M, E, NoLetter}
 use Rattle.theory.specs.Text.{Bytes, isName, fieldsOf}
 use Rattle.theory.specs.Packs.{Key, keyOf, claimKey, atomKey, declaredAs}
-use Rattle.theory.specs.Written.{lineLetter, field, predicateFrom, claimFrom, atomFrom, Written, write}
-use Rattle.theory.specs.Faults.{firstOf, mayStand, whole, tests, fault}
+use Rattle.theory.specs.Written.{lineLetter, field, claimFrom, atomFrom, Written, write}
+use Rattle.theory.specs.Faults.{firstOf, meantBy, mayStand, whole, tests, fault}
 use Rattle.text.specs.Scans.{partsFrom}
 use Rattle.words.specs.Words.{wordsOf}
 use Rattle.tables.specs.declared.State.{State}
@@ -36,10 +36,10 @@ skipped NoLetter = 1
 -- how many of a letter's tests the opening does
 abbrev pub openingTests : Letter → ℕ
 openingTests P = 3
-openingTests C = 3
-openingTests G = 4
-openingTests H = 3
-openingTests B = 3
+openingTests C = 2
+openingTests G = 3
+openingTests H = 2
+openingTests B = 2
 openingTests M = 1
 openingTests E = 1
 openingTests NoLetter = 0
@@ -58,7 +58,7 @@ most NoLetter s = 0
 -- a predicate that is not declared yet, in a line of four fields
 pub record NewPredicate (line : Bytes) (w : Written) (o : Opened) : Type 0 where
   pub named : isName (field 1 (fieldsOf line)) ≡ true
-  pub isNew : declaredAs (keyOf (predicateFrom (fieldsOf line))) (w .pack .predicates) ≡ none
+  pub isNew : meantBy P (fieldsOf line) (w .pack) ≡ none
   pub four : length (fieldsOf line) ≡ 4
   pub words : o .words ≡ wordsOf (field 1 (fieldsOf line))
 

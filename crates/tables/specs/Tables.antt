@@ -17,6 +17,7 @@ use Rattle.theory.specs.Written.{Written}
 use Rattle.theory.specs.Residuals.{claimForm, subgoalForms, ruleVariables}
 use Rattle.theory.specs.Faults.{lastRule, owesRule, headsRule}
 use Rattle.theory.specs.Check.{multiplierLines}
+use Rattle.words.specs.declared.Words.{Words}
 use Rattle.words.specs.Words.{wordsOf, wordsAt}
 use Rattle.terms.specs.Rows.{Holds as HoldsVariables}
 use Rattle.terms.specs.TermForms.{RowStands}
@@ -94,6 +95,26 @@ abbrev pub flag : Kind → ℕ
 flag given = 1
 flag ruled = 0
 
+-- a name's words with an arity, and those of the predicate at a place
+pub record Signature : Type 0 where
+  pub words : Words
+  pub arity : ℕ
+
+abbrev pub signature : Words → ℕ → Signature
+signature words n = record { words = words; arity = n }
+
+abbrev pub signatureAt : List ℕ → List ℕ → ℕ → Signature
+signatureAt names signatures i = signature (wordsAt names i) (getD signatures i 0)
+
+-- the answer of a test: true where it holds, false where it does not
+pub record Tells (r : Bool) (Holds : Type 0) : Type 0 where
+  pub yes : r ≡ true → Holds
+  pub no : r ≡ false → Holds → ⊥
+
+-- an arity that no predicate has
+abbrev pub noArity : ℕ
+noArity = 9
+
 pub record Declares (names signatures : List ℕ) (known : ℕ) (ps : List Predicate) : Type 0 where
   pub count : length ps ≡ known
   pub words : (i : ℕ) → i < known → wordsAt names i ≡ wordsOf (predicateAt ps i .name)
@@ -124,7 +145,6 @@ pub record HoldsClaims (signatures : List ℕ) (claims : List ℤ) (ps : List Pr
   pub count : (i : ℕ) → i < length ps → getD signatures (64 + i) 0 ≡ length (claimsOn (keyOf (predicateAt ps i)) cs)
   pub none : (i : ℕ) → length ps ≤ i → i < 32 → getD signatures (64 + i) 0 ≡ 0
   pub at : (i j : ℕ) → i < length ps → j < length (claimsOn (keyOf (predicateAt ps i)) cs) → ClaimAt claims (claimPlace i j) (getD (claimsOn (keyOf (predicateAt ps i)) cs) j noClaim)
-  pub full : (i j : ℕ) → i < length ps → j < length (claimsOn (keyOf (predicateAt ps i)) cs) → length (getD (claimsOn (keyOf (predicateAt ps i)) cs) j noClaim .coefficients) ≡ predicateAt ps i .arguments
 
 -- ## Facts that come with the pack
 
@@ -162,7 +182,6 @@ pub record SlotStands (claims : List ℤ) (slots : List ℕ) (cs : List Claim) (
 pub record RuleStands (t : Tables) (s : State) (p : Pack) (r : Rule) : Type 0 where
   pub head : s .head < length (p .predicates)
   pub headKey : keyOf (predicateAt (p .predicates) (s .head)) ≡ atomKey (r .head)
-  pub headFull : arity (r .head .terms) ≡ predicateAt (p .predicates) (s .head) .arguments
   pub subgoals : s .subgoals ≡ length (r .subgoals)
   pub variables : s .variables ≡ length (ruleVariables (r .head) (r .subgoals))
   pub holdsVariables : HoldsVariables (t .variables) (ruleVariables (r .head) (r .subgoals))

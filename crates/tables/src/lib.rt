@@ -10,6 +10,13 @@ ghost use Rattle.tables.specs.Tables.{claimPlace, rowPlace};
 use theory::Letter;
 use words::Words;
 
+mod keys;
+
+pub use keys::NO_ARITY;
+pub use keys::arity_by;
+pub use keys::place;
+pub use keys::place_by;
+
 /// The predicates' names, two words each.
 pub type Names = words::WordTable;
 

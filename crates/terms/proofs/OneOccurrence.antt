@@ -4,7 +4,7 @@ use mathlib.Core.List.{List}
 use Prim.Native.Nat.{ℕ, _+_, _*_, _≤_, _<_}
 use native.Mathlib.Omega.{arith}
 use lib.ListN.{length, set, length-set}
-use Rattle.words.specs.Words.{StandsAt}
+use Rattle.words.specs.Words.{wordsAt, StandsAt}
 use Rattle.words.specs.declared.Words.{Words}
 use Rattle.terms.specs.Rows.{Elsewhere, SmallRow, CountsOne, known-already, one-more, none-left, past}
 use Rattle.groundwork.proofs.Stretches.{replaced}
@@ -15,7 +15,7 @@ use Rattle.terms.proofs.RowStores.{countAt, countedAt, none-stored, one
 pub count-fits : (rows : List ℕ) (base at : ℕ) → SmallRow rows base → at < 16 → countAt rows base at + 1 < 65536
 count-fits rows base at small h = omega (arith, small .small at h)
 
-module _ (words : Words) (names : List ℕ) (known : ℕ) (rows : List ℕ) (base at : ℕ) (few : known ≤ 16) (place : StandsAt names known words at) where
+module _ (words : Words) (names : List ℕ) (known : ℕ) (rows : List ℕ) (base at : ℕ) (few : known ≤ 16) (place : StandsAt (wordsAt names) known words at) where
   pub counts-known : at < known → CountsOne words names known rows base known names (countedAt rows base at)
   counts-known h = known-already at h few place refl
 
@@ -23,8 +23,8 @@ module _ (words : Words) (names : List ℕ) (known : ℕ) (rows : List ℕ) (bas
     same : at ≡ known
     same = omega (arith, place .high)
 
-    nowhere : StandsAt names known words known
-    nowhere = subst (λ (i : ℕ). StandsAt names known words i) same place
+    nowhere : StandsAt (wordsAt names) known words known
+    nowhere = subst (λ (i : ℕ). StandsAt (wordsAt names) known words i) same place
 
     pub counts-new : at < 16 → CountsOne words names known rows base (known + 1) (set (set names (2 * known) (words .first)) (2 * known + 1) (words .second)) (countedAt rows base at)
     counts-new room = one-more (omega (arith, same)) nowhere refl (ap (countedAt rows base) same)

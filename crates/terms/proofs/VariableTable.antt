@@ -52,11 +52,11 @@ unfolding numbered
 once-more {all} x once new = subst Once (numbered-new all x [] new) (numbered-once all (x ∷ []) once)
 
 module _ {names : List ℕ} {all : List Bytes} (x : Bytes) (holds : Holds names all) (proper : isVariable x ≡ true) where
-  pub found-is : (at : ℕ) → at < length all → StandsAt names (length all) (wordsOf x) at → getD all at [] ≡ x
+  pub found-is : (at : ℕ) → at < length all → StandsAt (wordsAt names) (length all) (wordsOf x) at → getD all at [] ≡ x
   found-is at h place =
       words-equal (getD all at []) x (variable-bytes (getD all at []) (holds .proper at h)) (variable-bytes x proper) (sym (holds .words at h) ∙ place .found h)
 
-  pub not-found : StandsAt names (length all) (wordsOf x) (length all) → among x all ≡ false
+  pub not-found : StandsAt (wordsAt names) (length all) (wordsOf x) (length all) → among x all ≡ false
   not-found place = no-place-among x all (λ i h e. place .nowhere (omega arith) i h (holds .words i h ∙ ap wordsOf e))
 
   pub holds-more : among x all ≡ false → length all < 16 → Holds (withWords names (length all) (wordsOf x)) (all ++ (x ∷ []))

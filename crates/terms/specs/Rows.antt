@@ -40,12 +40,12 @@ pub record SmallRow (rows : List ℕ) (base : ℕ) : Type 0 where
 
 -- one occurrence more of the variable with these words: it has a place already, or takes the next one, or there is none left
 pub data CountsOne (words : Words) (names₀ : List ℕ) (known : ℕ) (rows₀ : List ℕ) (base : ℕ) : ℕ → List ℕ → List ℕ → Type 0 where
-  known-already : {rows : List ℕ} (at : ℕ) → at < known → known ≤ variableLimit → StandsAt names₀ known words at
+  known-already : {rows : List ℕ} (at : ℕ) → at < known → known ≤ variableLimit → StandsAt (wordsAt names₀) known words at
       → rows ≡ set rows₀ (base + 1 + at) (getD rows₀ (base + 1 + at) 0 + 1) → CountsOne words names₀ known rows₀ base known names₀ rows
-  one-more : {names : List ℕ} {rows : List ℕ} → known < variableLimit → StandsAt names₀ known words known
+  one-more : {names : List ℕ} {rows : List ℕ} → known < variableLimit → StandsAt (wordsAt names₀) known words known
       → names ≡ set (set names₀ (2 * known) (words .first)) (2 * known + 1) (words .second) → rows ≡ set rows₀ (base + 1 + known) (getD rows₀ (base + 1 + known) 0 + 1)
       → CountsOne words names₀ known rows₀ base (known + 1) names rows
-  none-left : known ≡ variableLimit → StandsAt names₀ known words known → CountsOne words names₀ known rows₀ base (variableLimit + 1) names₀ rows₀
+  none-left : known ≡ variableLimit → StandsAt (wordsAt names₀) known words known → CountsOne words names₀ known rows₀ base (variableLimit + 1) names₀ rows₀
   past : variableLimit < known → CountsOne words names₀ known rows₀ base (variableLimit + 1) names₀ rows₀
 
 -- the row at base has, for each of these variables, how often it occurs in a term, with zeros after the last

@@ -10,7 +10,7 @@ use Rattle.theory.specs.Derivations.{GivenFact, ShippedFact, Derivable}
 use Rattle.theory.specs.Answers.{numbersOf, reservedFields}
 use Rattle.theory.specs.Promises.{GivenMeet, ClaimsKept, AnswersKept, Kept, DemandThree}
 use Rattle.theory.proofs.Judging.Acceptance.{AcceptedPack, accepted-pack, checked-pack}
-use Rattle.theory.proofs.Soundness.Derivable.{derivable-meets, derivable-is-fact}
+use Rattle.theory.proofs.Soundness.Derivable.{derivable-meets}
 use Rattle.theory.proofs.Reserving.Reservations.{bound-exactly, impossible-exactly}
 use Rattle.theory.proofs.Reserving.ReserveAnswers.{answered, asks}
 use Rattle.theory.proofs.Reserving.ReserveSound.{bound-kept, none-such}
@@ -23,11 +23,11 @@ claims-kept text Given given = record {
   boundKept = λ query bound claim e.
       let a = answered text query (fields (code "B") bound claim) refl e in
       let s = accepted-pack text (a .accepted) in
-      bound-kept p (Derivable p Given) (derivable-is-fact p Given (given s) (s .fits .formed)) (derivable-meets p Given (given s) (s .justified)) (s .fits .formed .claims) (queryOf query) (asks p (s .fits .formed .predicates) query (a .faultless)) bound claim (bound-exactly p (queryOf query) bound claim .0 (a .says));
+      bound-kept p (Derivable p Given) (derivable-meets p Given (given s) (s .justified)) (queryOf query) (asks p (s .fits .formed .predicates) query (a .faultless)) bound claim (bound-exactly p (queryOf query) bound claim .0 (a .says));
   noneSuch = λ query claim e.
       let a = answered text query (fields (code "I") 0 claim) refl e in
       let s = accepted-pack text (a .accepted) in
-      none-such p (Derivable p Given) (derivable-is-fact p Given (given s) (s .fits .formed)) (derivable-meets p Given (given s) (s .justified)) (s .fits .formed .claims) (queryOf query) (asks p (s .fits .formed .predicates) query (a .faultless)) claim (impossible-exactly p (queryOf query) claim .0 (a .says));
+      none-such p (Derivable p Given) (derivable-meets p Given (given s) (s .justified)) (queryOf query) (asks p (s .fits .formed .predicates) query (a .faultless)) claim (impossible-exactly p (queryOf query) claim .0 (a .says));
 }
   where
     p : Pack
@@ -50,7 +50,7 @@ shipped-meet : (text : Bytes) → AcceptedPack text → GivenMeet text (ShippedF
 shipped-meet text s f shipped =
     let fits = s .fits .formed .facts f (shipped .stands) in
     record {
-      fact = record { predicate = fits .atom .predicate; declared = fits .atom .declared; full = fits .atom .full; ground = fits .ground };
+      fact = record { predicate = fits .atom .predicate; declared = fits .atom .declared; ground = fits .ground };
       isGiven = fits .isGiven;
       meets = s .justified .facts f (shipped .stands);
     }

@@ -8,7 +8,7 @@ use Rattle.theory.specs.Lists.{total, every}
 use Rattle.theory.specs.Text.{bytes, same, partsAt, linesOf, isNameByte, isWord, valueAfter, isDecimal, natural, negated, integer, Bytes}
 use Rattle.theory.specs.Terms.{arity, symbolFrom, symbolIn, tokenOf, firstTerms, after, afterAll, termsOf, theOnly, readTerm, variables, Term, symbol, nil, cons, Substitution, under, allUnder, allVariables}
 use Rattle.theory.specs.Sizes.{structural, flagged, constantOf}
-use Rattle.theory.specs.Packs.{key, sameKey, declaredAs, claimsOn, Claim, Atom, ruled}
+use Rattle.theory.specs.Packs.{sameKey, declaredAs, claimsOn, Claim, Atom, ruled}
 use Rattle.theory.specs.Written.{letterOf, termsFrom, kindFrom, predicateFrom, claimFrom, atomFrom, multipliersFrom, nothing, onLast, add, write, writeAll, packOf}
 use Rattle.theory.specs.Faults.{isGiven, noRule}
 use Rattle.theory.specs.Facts.{Meets, weightedSizes}
@@ -32,12 +32,12 @@ unfolding bytes variables
 allEmpty = record { for = λ x. empty; ground = λ x. refl }
 
 pub empty-joined : Derivable (packOf join) (GivenFact (packOf join)) (joins empty empty empty)
-unfolding bytes same every partsAt linesOf isNameByte isWord valueAfter isDecimal natural negated integer arity symbolFrom symbolIn tokenOf firstTerms after afterAll termsOf theOnly readTerm constantOf variables key sameKey declaredAs claimsOn letterOf termsFrom kindFrom predicateFrom claimFrom atomFrom multipliersFrom nothing onLast add write writeAll packOf noRule flatMap under allUnder allVariables allEmpty
+unfolding bytes same every partsAt linesOf isNameByte isWord valueAfter isDecimal natural negated integer arity symbolFrom symbolIn tokenOf firstTerms after afterAll termsOf theOnly readTerm constantOf variables sameKey declaredAs claimsOn letterOf termsFrom kindFrom predicateFrom claimFrom atomFrom multipliersFrom nothing onLast add write writeAll packOf noRule flatMap under allUnder allVariables allEmpty
 empty-joined = byRule (getD (packOf join .rules) 0 noRule) (List·Memᴰ·head refl) allEmpty (λ a none. absurd (List·Memᴰ·not-nil none))
 
 -- one step further, by the second rule
 pub single-joined : Derivable (packOf join) (GivenFact (packOf join)) (joins single empty single)
-unfolding bytes same every partsAt linesOf isNameByte isWord valueAfter isDecimal natural negated integer arity symbolFrom symbolIn tokenOf firstTerms after afterAll termsOf theOnly readTerm constantOf variables key sameKey declaredAs claimsOn letterOf termsFrom kindFrom predicateFrom claimFrom atomFrom multipliersFrom nothing onLast add write writeAll packOf noRule flatMap under allUnder allVariables allEmpty
+unfolding bytes same every partsAt linesOf isNameByte isWord valueAfter isDecimal natural negated integer arity symbolFrom symbolIn tokenOf firstTerms after afterAll termsOf theOnly readTerm constantOf variables sameKey declaredAs claimsOn letterOf termsFrom kindFrom predicateFrom claimFrom atomFrom multipliersFrom nothing onLast add write writeAll packOf noRule flatMap under allUnder allVariables allEmpty
 single-joined = byRule (getD (packOf join .rules) 1 noRule) (List·Memᴰ·tail (List·Memᴰ·head refl)) allEmpty (all-cons (λ (a : Atom). Derivable (packOf join) (GivenFact (packOf join)) (atomUnder allEmpty a)) empty-joined (λ a none. absurd (List·Memᴰ·not-nil none)))
 
 -- ---- a given fact
@@ -47,9 +47,9 @@ given = bytes "P,k,1,G\nC,k,7,-2\nE\n"
 
 -- its size is 0, and 7 - 2 times 0 is at least 0
 pub given-derived : Derivable (packOf given) (GivenFact (packOf given)) (record { name = bytes "k"; terms = cons empty nil })
-unfolding bytes same every partsAt linesOf isNameByte isWord valueAfter isDecimal natural negated integer arity symbolFrom symbolIn tokenOf firstTerms after afterAll termsOf theOnly readTerm constantOf variables key sameKey declaredAs claimsOn letterOf termsFrom kindFrom predicateFrom claimFrom atomFrom multipliersFrom nothing onLast add write writeAll packOf noRule flatMap under allUnder allVariables allEmpty structural flagged total flatten weightedSizes
+unfolding bytes same every partsAt linesOf isNameByte isWord valueAfter isDecimal natural negated integer arity symbolFrom symbolIn tokenOf firstTerms after afterAll termsOf theOnly readTerm constantOf variables sameKey declaredAs claimsOn letterOf termsFrom kindFrom predicateFrom claimFrom atomFrom multipliersFrom nothing onLast add write writeAll packOf noRule flatMap under allUnder allVariables allEmpty structural flagged total flatten weightedSizes
 given-derived = Derivable.isGiven (record {
-  fact = record { predicate = getD (packOf given .predicates) 0 (record { name = []; arguments = 0; kind = ruled }); declared = refl; full = refl; ground = refl };
+  fact = record { predicate = getD (packOf given .predicates) 0 (record { name = []; arguments = 0; kind = ruled }); declared = refl; ground = refl };
   isGiven = refl;
   meets = record { meets = all-cons (λ (c : Claim). Meets structural (record { name = bytes "k"; terms = cons empty nil }) c) (record { holds = nonneg-pos 7 }) (λ c none. absurd (List·Memᴰ·not-nil none)) };
 })

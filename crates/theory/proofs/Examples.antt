@@ -14,11 +14,11 @@ use Rattle.theory.specs.Text.{Bytes, bytes, same, among, partsAt, joined
 use Rattle.theory.specs.Terms.{Term, variable, nil, cons, arity, symbolFrom, symbolIn, tokenOf, firstTerms, after, afterAll, termsOf, theOnly, readTerm, variables}
 use Rattle.theory.specs.Sizes.{aritiesOf, sumOfArities, occurrences, occurrencesIn, structural, flagged, constantOf, counted}
 use Rattle.theory.specs.Forms.{zeroForm, plus, times, minus, constantForm, formOf}
-use Rattle.theory.specs.Packs.{given, Predicate, Atom, Rule, textOf, fromRules, fromFacts, fromClaims, factLine, ruleLines, claimLine, headLine, key, sameKey, declaredAs, claimsOn, noClaim}
+use Rattle.theory.specs.Packs.{given, Predicate, Atom, Rule, textOf, fromRules, fromFacts, fromClaims, factLine, ruleLines, claimLine, headLine, sameKey, declaredAs, claimsOn, noClaim}
 use Rattle.theory.specs.Written.{letterOf, termsFrom, kindFrom, predicateFrom, claimFrom, atomFrom, multipliersFrom, nothing, onLast, add, write, writeAll, packOf}
 use Rattle.theory.specs.Residuals.{weighted, claimForm, subgoalForms, combined, residual, numbered, atomsVariables, ruleVariables, residualNumbers, isJustified}
 use Rattle.theory.specs.Facts.{weightedSizes, isMet}
-use Rattle.theory.specs.Faults.{firstOf, isUnfit, arityIn, isGiven, givenIn, ruledIn, noRule, lastOf, mayStand, residualDue, predicateTests, claimTests, atomTests, factTests, headTests, subgoalTests, multiplierTests, endTests, tests, fault}
+use Rattle.theory.specs.Faults.{firstOf, isUnfit, less, lineArity, declaredFor, isGiven, givenIn, ruledIn, noRule, lastOf, mayStand, residualDue, predicateTests, claimTests, atomTests, factTests, headTests, subgoalTests, multiplierTests, endTests, tests, fault}
 use Rattle.theory.specs.Check.{numbers, Checked, multiplierLines, refused, judge, isFinished, judgementOf, checkOf}
 use Rattle.theory.specs.Measure.{Measured, measured, measureTerm, measureOf}
 use Rattle.theory.specs.Pages.{Paged, paged, afterVerdict}
@@ -41,7 +41,7 @@ pub data Answer : Type 0 where
   filed : Paged → Answer
 
 unfoldable pub answerTo : Example → Answer
-unfolding bytes same among every any partsAt joined linesOf isNameByte isWord valueAfter isDecimal natural negated integer arity symbolFrom symbolIn tokenOf firstTerms after afterAll termsOf theOnly readTerm structural flagged total flatten constantOf counted variables occurrences zeroForm plus times minus constantForm formOf key sameKey declaredAs claimsOn letterOf termsFrom kindFrom predicateFrom claimFrom atomFrom multipliersFrom nothing onLast add write writeAll packOf weighted claimForm subgoalForms combined residual numbered atomsVariables ruleVariables residualNumbers isJustified weightedSizes isMet firstOf isSome isUnfit arityIn isGiven givenIn ruledIn isEmpty noRule lastOf fromRules fromFacts fromClaims ruleLines claimLine factLine headLine mayStand noClaim residualDue predicateTests claimTests atomTests factTests headTests subgoalTests multiplierTests endTests tests fault multiplierLines refused judge isFinished judgementOf checkOf measureTerm measureOf sizeFrom queryFrom queryOf queryFault unknownsAtMostZero knownPart isUsable numerator boundBy usableFrom impossibles smallest bounded impossibleOr reservation refusal answerOf reserveOf flatMap textOf decimal lastDigits spaces rightAligned leftAligned columns sheetLine sheetLines sheet afterVerdict sheetOf
+unfolding bytes same among every any partsAt joined linesOf isNameByte isWord valueAfter isDecimal natural negated integer arity symbolFrom symbolIn tokenOf firstTerms after afterAll termsOf theOnly readTerm structural flagged total flatten constantOf counted variables occurrences zeroForm plus times minus constantForm formOf sameKey declaredAs claimsOn letterOf termsFrom kindFrom predicateFrom claimFrom atomFrom multipliersFrom nothing onLast add write writeAll packOf weighted claimForm subgoalForms combined residual numbered atomsVariables ruleVariables residualNumbers isJustified weightedSizes isMet firstOf isSome isUnfit less lineArity declaredFor isGiven givenIn ruledIn isEmpty noRule lastOf fromRules fromFacts fromClaims ruleLines claimLine factLine headLine mayStand noClaim residualDue predicateTests claimTests atomTests factTests headTests subgoalTests multiplierTests endTests tests fault multiplierLines refused judge isFinished judgementOf checkOf measureTerm measureOf sizeFrom queryFrom queryOf queryFault unknownsAtMostZero knownPart isUsable numerator boundBy usableFrom impossibles smallest bounded impossibleOr reservation refusal answerOf reserveOf flatMap textOf decimal lastDigits spaces rightAligned leftAligned columns sheetLine sheetLines sheet afterVerdict sheetOf
 answerTo (check pack area) = checked (checkOf (bytes pack) area)
 answerTo (reserve pack query) = reserved (reserveOf (bytes pack) (bytes query))
 answerTo (measure term) = sized (measureOf (bytes term))
@@ -101,12 +101,12 @@ starred =
 
 -- its only predicate is ruled
 no-given : (x : Predicate) → x ∈ packOf (bytes contradicted) .predicates → x .kind ≡ given → ⊥
-unfolding bytes same every partsAt linesOf isNameByte isWord valueAfter isDecimal natural negated integer arity symbolFrom symbolIn tokenOf firstTerms after afterAll termsOf theOnly readTerm key sameKey declaredAs claimsOn letterOf termsFrom kindFrom predicateFrom claimFrom atomFrom multipliersFrom nothing onLast add write writeAll packOf
+unfolding bytes same every partsAt linesOf isNameByte isWord valueAfter isDecimal natural negated integer arity symbolFrom symbolIn tokenOf firstTerms after afterAll termsOf theOnly readTerm sameKey declaredAs claimsOn letterOf termsFrom kindFrom predicateFrom claimFrom atomFrom multipliersFrom nothing onLast add write writeAll packOf
 no-given x m e = let z : _≡_ {A = ℕ} 0 1 = cc (ap (λ (y : Predicate). y .kind) (List·Memᴰ·eq-of-singleton m)) in omega arith
 
 -- and its only rule has a subgoal
 rule-subgoal : (r : Rule) → r ∈ packOf (bytes contradicted) .rules → (a : Atom) × (a ∈ r .subgoals)
-unfolding bytes same every partsAt linesOf isNameByte isWord valueAfter isDecimal natural negated integer arity symbolFrom symbolIn tokenOf firstTerms after afterAll termsOf theOnly readTerm key sameKey declaredAs claimsOn letterOf termsFrom kindFrom predicateFrom claimFrom atomFrom multipliersFrom nothing onLast add write writeAll packOf
+unfolding bytes same every partsAt linesOf isNameByte isWord valueAfter isDecimal natural negated integer arity symbolFrom symbolIn tokenOf firstTerms after afterAll termsOf theOnly readTerm sameKey declaredAs claimsOn letterOf termsFrom kindFrom predicateFrom claimFrom atomFrom multipliersFrom nothing onLast add write writeAll packOf
 rule-subgoal r m = (record { name = bytes "k"; terms = cons (variable (bytes "X")) nil }, subst (λ (s : Rule). record { name = bytes "k"; terms = cons (variable (bytes "X")) nil } ∈ s .subgoals) (sym (List·Memᴰ·eq-of-singleton m)) (List·Memᴰ·head refl))
 
 -- so a derivation would need another before it, and so on
@@ -163,7 +163,7 @@ withSheets =
     ∷ (sheetOn joining (dots 130) gives filed (paged (numbers 0 11 2 4) joinedSheet))
     ∷ (sheetOn joining (dots 129) gives filed (paged (numbers 23 0 0 0) (dots 129)))
     ∷ (sheetOn "E\n" [] gives filed (paged (numbers 0 1 0 0) []))
-    ∷ (sheetOn "P,k,0,R\nH,k\nH,k,x\nE\n" (dots 5) gives filed (paged (numbers 9 3 0 0) (dots 5)))
+    ∷ (sheetOn "P,k,0,R\nH,k\nH,k,x\nE\n" (dots 5) gives filed (paged (numbers 8 3 0 0) (dots 5)))
     ∷ []
 
 pub sheets-are-met : TableMet withSheets
@@ -222,3 +222,32 @@ withSizes =
 pub sizes-are-met : TableMet withSizes
 unfolding answerTo
 sizes-are-met = record { answers = refl; besides = (tt, (tt, (tt, tt))) }
+
+-- ---- 02, 5/14: same name, another arity
+
+-- `path` with two arguments by `path` with three, each with a claim of its own
+abbrev pub paths : String
+paths = "P,edge,2,G\nP,path,2,R\nP,path,3,R\nC,edge,-1,1,-1\nC,path,0,1,-1\nC,path,-1,1,-1,0\nH,path,X,Y\nB,path,X,Y,Z\nM,1\nH,path,X,Y,e/0\nB,edge,X,Y\nM,1\nE\n"
+
+-- accepted, and reserved by the claims of the one or the other; a claim without a constant; an arity that is malformed, or
+-- missing, or that of a declared predicate in a line that has too few fields; another arity than the given one, as a head and
+-- as a fact; a query without fields for its sizes, for the asked argument, and one of another arity
+abbrev pub withArities : List Row
+withArities =
+    (check paths before gives unchanged 0 13 2 2)
+    ∷ (reserve paths "path,2,5,-" gives reserved (fields (code "B") 5 1))
+    ∷ (reserve paths "path,2,5,-,-" gives reserved (fields (code "B") 4 1))
+    ∷ (check "P,k,0,G\nC,k\nE\n" before gives unchanged 8 2 0 0)
+    ∷ (check "P,k,0,R\nP,k,x,R\nE\n" before gives unchanged 10 2 0 0)
+    ∷ (check "P,k,0,R\nP,k\nE\n" before gives unchanged 9 2 0 0)
+    ∷ (check "P,k,2,R\nP,k,2\nE\n" before gives unchanged 8 2 0 0)
+    ∷ (check "P,k,1,G\nH,k,a/0,b/0\nE\n" before gives unchanged 8 2 0 0)
+    ∷ (check "P,k,1,R\nG,k,a/0,b/0\nE\n" before gives unchanged 8 2 0 0)
+    ∷ (reserve "P,k,0,G\nE\n" "k" gives reserved (fields (code "R") 14 0))
+    ∷ (reserve "P,k,0,G\nE\n" "k,1" gives reserved (fields (code "R") 16 0))
+    ∷ (reserve "P,k,2,G\nE\n" "k,1,-" gives reserved (fields (code "R") 14 0))
+    ∷ []
+
+pub arities-are-met : TableMet withArities
+unfolding answerTo
+arities-are-met = record { answers = refl; besides = (tt, (tt, (tt, (tt, (tt, (tt, (tt, (tt, (tt, (tt, (tt, (tt, tt)))))))))))) }

@@ -20,6 +20,7 @@ pub mod Built
 pub mod Runs
 -- lines without a fault, letter by letter
 pub mod Tests
+pub mod LineKeys
 pub mod ResidualNumbers
 pub mod Faultless
 pub mod PredicateLines

@@ -13,6 +13,8 @@ pub mod Reserving
 pub mod Sheets
 -- what sizes are
 pub mod SectionForm
+-- names with their arities
+pub mod ShareNothing
 -- the demands, and what the words tell
 pub mod DemandOne
 pub mod DemandTwo

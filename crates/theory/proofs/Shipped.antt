@@ -15,7 +15,7 @@ use Rattle.theory.specs.Lists.{total, every}
 use Rattle.theory.specs.Text.{Bytes, bytes, same, partsAt, linesOf, isNameByte, isWord, valueAfter, isDecimal, natural, negated, integer}
 use Rattle.theory.specs.Terms.{Term, variable, symbol, nil, cons, arity, symbolFrom, symbolIn, tokenOf, firstTerms, after, afterAll, termsOf, theOnly, readTerm, variables, allVariables, Substitution, under, allUnder}
 use Rattle.theory.specs.Sizes.{structural, flagged, constantOf, argumentSizes}
-use Rattle.theory.specs.Packs.{given, ruled, Claim, Atom, Rule, Pack, key, sameKey, declaredAs, claimsOn}
+use Rattle.theory.specs.Packs.{given, ruled, Claim, Atom, Rule, Pack, sameKey, declaredAs, claimsOn}
 use Rattle.theory.specs.Written.{letterOf, termsFrom, kindFrom, predicateFrom, claimFrom, atomFrom, multipliersFrom, nothing, onLast, add, write, writeAll, packOf}
 use Rattle.theory.specs.Facts.{Meets, weightedSizes}
 use Rattle.theory.specs.Derivations.{GivenFact, ShippedFact, Derivable, byRule, atomUnder}
@@ -80,9 +80,9 @@ absent = nexts (next zero) zero
 
 -- document 01 would take it as given
 pub absent-meets : GivenFact (packOf (bytes shipping)) absent
-unfolding bytes same arity key sameKey declaredAs claimsOn constantOf variables allVariables structural flagged total flatten weightedSizes
+unfolding bytes same arity sameKey declaredAs claimsOn constantOf variables allVariables structural flagged total flatten weightedSizes
 absent-meets = rw written-so (record {
-  fact = record { predicate = record { name = bytes "next"; arguments = 2; kind = given }; declared = refl; full = refl; ground = refl };
+  fact = record { predicate = record { name = bytes "next"; arguments = 2; kind = given }; declared = refl; ground = refl };
   isGiven = refl;
   meets = record { meets = all-cons (Meets structural absent) (record { holds = nonneg-pos 0 }) (λ c none. absurd (List·Memᴰ·not-nil none)) };
 })

@@ -7,7 +7,7 @@ use Rattle.theory.specs.declared.Refusal.the-variants.{ShortArea, LongTe
 use Rattle.theory.specs.declared.Verdict.{Verdict}
 use Rattle.theory.specs.declared.Verdict.the-variants.{Accepted, Refused}
 use Rattle.theory.specs.declared.QueryRefusal.{QueryRefusal}
-use Rattle.theory.specs.declared.QueryRefusal.the-variants.{UnfitQuery, QueryName, QueryFieldCount, AskedArgument, SizeField, AskedIsKnown}
+use Rattle.theory.specs.declared.QueryRefusal.the-variants.{UnfitQuery, QueryName, AskedArgument, SizeField, AskedIsKnown}
 use Rattle.theory.specs.declared.Reservation.{Reservation}
 use Rattle.theory.specs.declared.Reservation.the-variants.{Bounded, NoBound, Impossible, PackRefused, QueryRefused}
 use Rattle.theory.specs.declared.Filing.{Filing}
@@ -45,7 +45,6 @@ numbersOf (Refused r) = refusalNumbers r
 abbrev pub queryNumber : QueryRefusal → ℕ
 queryNumber UnfitQuery = 4
 queryNumber QueryName = 14
-queryNumber QueryFieldCount = 15
 queryNumber AskedArgument = 16
 queryNumber SizeField = 17
 queryNumber AskedIsKnown = 18

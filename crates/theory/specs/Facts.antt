@@ -7,15 +7,14 @@ use Prim.Native.Nat.{ℕ}
 use lib.IntN.{ℤ, pos, _+ℤ_, _*ℤ_}
 use lib.Signed.{_≤ℤ_, nonNeg}
 use Rattle.theory.specs.Lists.{_∈_, every}
-use Rattle.theory.specs.Terms.{arity, AllGround}
+use Rattle.theory.specs.Terms.{AllGround}
 use Rattle.theory.specs.Sizes.{Measure, structural, argumentSizes}
 use Rattle.theory.specs.Packs.{Predicate, Claim, Atom, Pack, atomKey, declaredAs, claimsOn}
 
--- What is a fact: an atom of a declared predicate, as many terms as that has arguments, and no variable in them.
+-- What is a fact: an atom of a declared predicate, so with as many terms as that has arguments, and no variable in them.
 pub record IsFact (p : Pack) (f : Atom) : Type 0 where
   pub predicate : Predicate
   pub declared : declaredAs (atomKey f) (p .predicates) ≡ some predicate
-  pub full : arity (f .terms) ≡ predicate .arguments
   pub ground : AllGround (f .terms)
 
 -- each coefficient times the size of its argument, added up

@@ -1,8 +1,8 @@
--- Document 01, the table of "What check returns", with 02's 1/14 and 3/14: what is wrong with a line, given what the lines before it write.
+-- Document 01, the table of "What check returns", with 02's 1/14, 3/14 and 5/14: what is wrong with a line, given what the lines before it write.
 use mathlib.Core.Bool.{Bool, true, false, cond, not, _&&_, _||_}
 use mathlib.Core.List.{List, [], _∷_, _++_}
-use mathlib.Core.Option.{Option, some, none}
-use Prim.Native.Nat.{ℕ, _+_}
+use mathlib.Core.Option.{Option, some, none, Option·map}
+use Prim.Native.Nat.{ℕ, _+_, _-_}
 use lib.Dec.{eqb, leb, ltb}
 use lib.IntN.{ℤ}
 use lib.ListN.{length, getD, drop}
@@ -10,10 +10,10 @@ use Rattle.theory.specs.Lists.{every, any, isEmpty, isSome, ending}
 use Rattle.theory.specs.Text.{Bytes, bytes, same, between, isName, natural, integer, fieldsOf}
 use Rattle.theory.specs.Terms.{nil, readTerm, allVariables}
 use Rattle.theory.specs.Sizes.{structural}
-use Rattle.theory.specs.Packs.{Kind, given, ruled, Predicate, Claim, Atom, Rule, Pack, noClaim, headAlone, lineLimit, predicateLimit, claimLimit, ruleLimit, subgoalLimit, variableLimit, numberLimit, sameKey, keyOf, claimKey, atomKey, declaredAs, claimsOn, claimsOnAll, fromRules, fromFacts, fromClaims}
+use Rattle.theory.specs.Packs.{Kind, given, ruled, Predicate, Claim, Atom, Rule, Pack, noClaim, headAlone, lineLimit, predicateLimit, claimLimit, ruleLimit, subgoalLimit, variableLimit, numberLimit, Key, key, sameKey, keyOf, claimKey, atomKey, declaredAs, claimsOn, claimsOnAll, fromRules, fromFacts, fromClaims}
 use Rattle.theory.specs.declared.Letter.{Letter}
 use Rattle.theory.specs.declared.Letter.the-variants.{P, C, G, H, B, M, E, NoLetter}
-use Rattle.theory.specs.Written.{lineLetter, field, Written, predicateFrom, claimFrom, atomFrom, multipliersFrom}
+use Rattle.theory.specs.Written.{lineLetter, field, Written, claimFrom, atomFrom, multipliersFrom}
 use Rattle.theory.specs.Residuals.{residual, ruleVariables, residualNumbers, isJustified}
 use Rattle.theory.specs.Facts.{meetsEvery}
 
@@ -51,10 +51,33 @@ isUnfit l = ltb lineLimit (length l) || not (every (between 32 126) l)
 
 -- ## What a line looks up
 
--- the arity of the predicate declared under a key, if there is one
-unfoldable pub arityIn : Option Predicate → ℕ
-arityIn none = 0
-arityIn (some p) = p .arguments
+-- one number less another; none where it is smaller
+unfoldable pub less : ℕ → ℕ → Option ℕ
+less n k = cond (ltb n k) none (some (n - k))
+
+-- The arity that a line gives: a `P` line in a field of its own, the others by the number of their fields.
+unfoldable pub lineArity : Letter → List Bytes → Option ℕ
+lineArity P fields = natural 8 (field 2 fields)
+lineArity C fields = less (length fields) 3
+lineArity G fields = less (length fields) 2
+lineArity H fields = less (length fields) 2
+lineArity B fields = less (length fields) 2
+lineArity M fields = none
+lineArity E fields = none
+lineArity NoLetter fields = none
+
+-- the key of a name with an arity, where there is one
+abbrev pub keyWith : Bytes → Option ℕ → Option Key
+keyWith name n = Option·map (key name) n
+
+-- the predicate declared under a key, where there is one
+unfoldable pub declaredFor : Option Key → List Predicate → Option Predicate
+declaredFor none ps = none
+declaredFor (some k) ps = declaredAs k ps
+
+-- The declared predicate that a line names: its second field with the arity that it gives.
+abbrev pub meantBy : Letter → List Bytes → Pack → Option Predicate
+meantBy l fields p = declaredFor (keyWith (field 1 fields) (lineArity l fields)) (p .predicates)
 
 unfoldable pub isGiven : Kind → Bool
 isGiven given = true
@@ -139,7 +162,7 @@ butForHeads m = record { allows = m .allows; refusesHeadless = false }
 unfoldable pub predicateTests : List Bytes → Pack → List Test
 predicateTests fields p =
     test 7 (not (isName (field 1 fields)))
-    ∷ test 8 (isSome (declaredAs (keyOf (predicateFrom fields)) (p .predicates)))
+    ∷ test 8 (isSome (meantBy P fields p))
     ∷ test 9 (not (eqb (length fields) 4))
     ∷ test 10 (not (isSome (natural 8 (field 2 fields)) && isKind (field 3 fields)))
     ∷ test 12 (leb predicateLimit (length (p .predicates)))
@@ -147,32 +170,27 @@ predicateTests fields p =
 
 unfoldable pub claimTests : List Bytes → Pack → List Test
 claimTests fields p =
-    let k = claimKey (claimFrom fields) in
-    let found = declaredAs k (p .predicates) in
     test 7 (not (isName (field 1 fields)))
-    ∷ test 8 (not (isSome found))
-    ∷ test 9 (not (eqb (length fields) (arityIn found + 3)))
+    ∷ test 8 (not (isSome (meantBy C fields p)))
     ∷ test 10 (not (every isClaimNumber (drop 2 fields)))
-    ∷ test 12 (leb claimLimit (length (claimsOn k (p .claims))))
+    ∷ test 12 (leb claimLimit (length (claimsOn (claimKey (claimFrom fields)) (p .claims))))
     ∷ []
 
 -- for `G`, `H` and `B`: what the letter's 8 asks besides, its own tests right after 8, and those after 11
-unfoldable pub atomTests : Bool → List Test → List Test → List Bytes → Pack → List Test
-atomTests isRefused afterName afterTerms fields p =
-    let found = declaredAs (atomKey (atomFrom fields)) (p .predicates) in
+unfoldable pub atomTests : Letter → Bool → List Test → List Test → List Bytes → Pack → List Test
+atomTests l isRefused afterName afterTerms fields p =
     test 7 (not (isName (field 1 fields)))
-    ∷ test 8 (not (isSome found) || isRefused)
+    ∷ test 8 (not (isSome (meantBy l fields p)) || isRefused)
     ∷ afterName
-    ++ test 9 (not (eqb (length fields) (arityIn found + 2)))
-    ∷ test 11 (not (every isTerm (drop 2 fields)))
+    ++ test 11 (not (every isTerm (drop 2 fields)))
     ∷ afterTerms
 
 -- a fact that comes with the pack is of a given predicate, is ground, and meets the claims on its predicate
 unfoldable pub factTests : List Bytes → Pack → List Test
 factTests fields p =
     let a = atomFrom fields in
-    atomTests false
-    (test 20 (ruledIn (declaredAs (atomKey a) (p .predicates))) ∷ [])
+    atomTests G false
+    (test 20 (ruledIn (meantBy G fields p)) ∷ [])
     (test 21 (not (isEmpty (allVariables (a .terms)))) ∷ test 22 (not (meetsEvery (p .claims) a)) ∷ [])
     fields p
 
@@ -182,12 +200,12 @@ manyVariables head subgoals = ltb variableLimit (length (ruleVariables head subg
 unfoldable pub headTests : List Bytes → Pack → List Test
 headTests fields p =
     let a = atomFrom fields in
-    atomTests (givenIn (declaredAs (atomKey a) (p .predicates))) [] (test 12 (leb ruleLimit (length (p .rules)) || manyVariables a []) ∷ []) fields p
+    atomTests H (givenIn (meantBy H fields p)) [] (test 12 (leb ruleLimit (length (p .rules)) || manyVariables a []) ∷ []) fields p
 
 unfoldable pub subgoalTests : List Bytes → Pack → List Test
 subgoalTests fields p =
     let r = lastRule p in
-    atomTests false [] (test 12 (leb subgoalLimit (length (r .subgoals)) || manyVariables (r .head) (ending (atomFrom fields) (r .subgoals))) ∷ []) fields p
+    atomTests B false [] (test 12 (leb subgoalLimit (length (r .subgoals)) || manyVariables (r .head) (ending (atomFrom fields) (r .subgoals))) ∷ []) fields p
 
 unfoldable pub multiplierTests : List Bytes → Pack → List Test
 multiplierTests fields p =

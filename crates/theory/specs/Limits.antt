@@ -1,4 +1,4 @@
--- Document 01, "The pack", with 02's 1/14: the packs within the limits; "When a claim is justified", with 02's 3/14; and
+-- Document 01, "The pack", with 02's 1/14 and 5/14: the packs within the limits; "When a claim is justified", with 02's 3/14; and
 -- demand 2, when a pack is accepted.
 use mathlib.Core.Path.{_≡_}
 use mathlib.Core.Bool.{true}
@@ -10,7 +10,7 @@ use lib.ListN.{length, getD}
 use lib.Signed.{_≤ℤ_}
 use Rattle.theory.specs.Lists.{_∈_, every}
 use Rattle.theory.specs.Text.{Bytes, isName}
-use Rattle.theory.specs.Terms.{arity, AllWellFormed, AllGround}
+use Rattle.theory.specs.Terms.{AllWellFormed, AllGround}
 use Rattle.theory.specs.Sizes.{structural}
 use Rattle.theory.specs.Forms.{Form}
 use Rattle.theory.specs.Packs.{given, ruled, Predicate, Claim, Atom, Rule, Pack, opening, textLimit, lineLimit, predicateLimit, claimLimit, ruleLimit, subgoalLimit, variableLimit, numberLimit, Key, keyOf, claimKey, atomKey, declaredAs, claimsOn, claimsOnAll, packLines, written, noClaim}
@@ -21,24 +21,22 @@ pub record PredicateFits (x : Predicate) : Type 0 where
   pub named : isName (x .name) ≡ true
   pub few : x .arguments ≤ 8
 
--- a claim: on a declared predicate, with a number for each argument
+-- a claim: on a predicate declared with as many arguments as it has coefficients
 pub record ClaimFits (ps : List Predicate) (c : Claim) : Type 0 where
   pub predicate : Predicate
   pub declared : declaredAs (claimKey c) ps ≡ some predicate
   pub named : isName (c .name) ≡ true
-  pub full : length (c .coefficients) ≡ predicate .arguments
   pub constant : natAbs (c .constant) ≤ numberLimit
   pub coefficients : (z : ℤ) → z ∈ c .coefficients → natAbs z ≤ numberLimit
 
--- a head, a subgoal or a fact: of a declared predicate, with a term for each argument
+-- a head, a subgoal or a fact: of a predicate declared with as many arguments as it has terms
 pub record AtomFits (ps : List Predicate) (a : Atom) : Type 0 where
   pub predicate : Predicate
   pub declared : declaredAs (atomKey a) ps ≡ some predicate
   pub named : isName (a .name) ≡ true
-  pub full : arity (a .terms) ≡ predicate .arguments
   pub formed : AllWellFormed (a .terms)
 
--- a fact that comes with the pack: of a given predicate, with a ground term for each argument
+-- a fact that comes with the pack: of a given predicate, with ground terms
 pub record FactFits (ps : List Predicate) (f : Atom) : Type 0 where
   pub atom : AtomFits ps f
   pub isGiven : atom .predicate .kind ≡ given

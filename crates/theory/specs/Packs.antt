@@ -1,10 +1,11 @@
--- Document 01, "The pack", with 02's 1/14: predicates, claims, facts that come with the pack, rules with their multipliers; and
+-- Document 01, "The pack", with 02's 1/14 and 5/14: predicates, claims, facts that come with the pack, rules with their multipliers; and
 -- how a pack is written, line by line.
-use mathlib.Core.Bool.{Bool, cond}
+use mathlib.Core.Bool.{Bool, cond, _&&_}
 use mathlib.Core.List.{List, [], _∷_, _++_, map, flatMap}
 use mathlib.Core.Option.{Option, some, none}
 use Prim.Native.Nat.{ℕ}
 use Prim.Native.Char.{code}
+use lib.Dec.{eqb}
 use lib.IntN.{ℤ, pos}
 use lib.ListN.{length}
 use Rattle.theory.specs.Text.{Bytes, bytes, same, joined, decimal, signedDecimal}
@@ -19,7 +20,8 @@ pub record Predicate : Type 0 where
   pub arguments : ℕ
   pub kind : Kind
 
--- A claim on the predicate of that name: constant + c1 times s1 + .. + cn times sn is at least 0.
+-- A claim on the predicate of that name with an argument for each coefficient: constant + c1 times s1 + .. + cn times sn is
+-- at least 0.
 pub record Claim : Type 0 where
   pub name : Bytes
   pub constant : ℤ
@@ -110,15 +112,16 @@ numberLimit = 9999
 
 -- ## Which predicate is meant
 
--- Predicates go by key: the name, whatever the arity.
-abbrev pub Key : Type 0
-Key = Bytes
+-- Predicates go by key: the name with the arity (02, 5/14). Two are the same only if both agree.
+pub record Key : Type 0 where
+  pub name : Bytes
+  pub arity : ℕ
 
-unfoldable pub key : Bytes → ℕ → Key
-key name n = name
+abbrev pub key : Bytes → ℕ → Key
+key name n = record { name = name; arity = n }
 
 unfoldable pub sameKey : Key → Key → Bool
-sameKey k l = same k l
+sameKey k l = same (k .name) (l .name) && eqb (k .arity) (l .arity)
 
 abbrev pub keyOf : Predicate → Key
 keyOf p = key (p .name) (p .arguments)

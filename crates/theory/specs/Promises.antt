@@ -1,23 +1,26 @@
 -- The three demands, as statements about what check and reserve return, each with its premises; and what the calls' own
--- answers and words tell. Proved in proofs/DemandOne, DemandTwo, DemandThree, Words; what sizes are, in proofs/SectionForm.
+-- answers and words tell. Proved in proofs/DemandOne, DemandTwo, DemandThree, Words; what sizes are, in
+-- proofs/SectionForm; what a name with its arity means, in proofs/ShareNothing.
 use mathlib.Core.Path.{_≡_}
 use mathlib.Core.Logic.{_↔_}
 use mathlib.Core.List.{List}
+use mathlib.Core.Option.{some}
 use Prim.Native.Nat.{ℕ, _+_, _≤_}
 use Prim.Native.Char.{code}
 use lib.IntN.{ℤ, pos}
 use lib.ListN.{length, drop}
+use Rattle.theory.specs.Lists.{_∈_, ending}
 use Rattle.theory.specs.Text.{Bytes, linesOf}
 use Rattle.theory.specs.Terms.{Term}
 use Rattle.theory.specs.Sizes.{sumOfArities, occurrencesIn, structural, constantOf, coefficientOf}
 use Rattle.theory.specs.Forms.{formOf}
-use Rattle.theory.specs.Packs.{Atom}
+use Rattle.theory.specs.Packs.{Predicate, Claim, Atom, Pack, key, claimKey, atomKey, declaredAs, claimsOn, onClaims}
 use Rattle.theory.specs.Written.{packOf}
 use Rattle.theory.specs.Residuals.{areaNeeded}
 use Rattle.theory.specs.Faults.{whole, butForHeads}
 use Rattle.theory.specs.Check.{Judgement, numbers, plain, multiplierLines, judgementOf, verdictOf, checkOf}
 use Rattle.theory.specs.Measure.{measureOf}
-use Rattle.theory.specs.Reserve.{queryOf, queryFault, fields, reserveOf, sizeAt, HasKnownSizes}
+use Rattle.theory.specs.Reserve.{Query, queryKey, queryOf, queryFault, fields, reservation, reserveOf, sizeAt, HasKnownSizes}
 use Rattle.theory.specs.Words.{checkWord, reserveWord, measureWord, CheckRoom, ReserveRoom, MeasureRoom, wordNumber, wordLetter, wordMiddle, numbersIn, fieldsIn, measuredIn}
 use Rattle.theory.specs.Limits.{Acceptable, AcceptableButForHeads}
 use Rattle.theory.specs.Outcomes.{Outcome}
@@ -42,6 +45,16 @@ pub record SectionForm (t : Term) : Type 0 where
   pub first : constantOf structural t ≡ sumOfArities t
   pub second : (x : Bytes) → coefficientOf structural t x ≡ occurrencesIn t x
   pub both : formOf structural t ≡ record { constant = pos (sumOfArities t); coefficient = λ x. pos (occurrencesIn t x) }
+
+-- ## Names (02, 5/14)
+
+-- Two predicates of one name and different arities share nothing: no declaration, claim or fact is of both, and a claim on
+-- the one changes no reservation by the other.
+pub record ShareNothing (name : Bytes) (n other : ℕ) : Type 0 where
+  pub declared : (ps : List Predicate) (x : Predicate) → declaredAs (key name n) ps ≡ some x → declaredAs (key name other) ps ≡ some x → ⊥
+  pub claims : (cs : List Claim) (c : Claim) → c ∈ claimsOn (key name n) cs → c ∈ claimsOn (key name other) cs → ⊥
+  pub facts : (f : Atom) → atomKey f ≡ key name n → atomKey f ≡ key name other → ⊥
+  pub reservations : (p : Pack) (q : Query) → queryKey q ≡ key name n → (c : Claim) → claimKey c ≡ key name other → reservation (onClaims (ending c) p) q ≡ reservation p q
 
 -- ## Demand 1
 

@@ -1,4 +1,4 @@
--- Document 01, "Reserving": queries, what they ask of a fact, usable claims, and what reserve returns.
+-- Document 01, "Reserving", with 02's 5/14: queries, what they ask of a fact, usable claims, and what reserve returns.
 use mathlib.Core.Path.{_≡_}
 use mathlib.Core.Bool.{Bool, true, cond, not, _&&_, _||_}
 use mathlib.Core.List.{List, [], _∷_, map}
@@ -12,9 +12,9 @@ use lib.Signed.{ltZ, leZ}
 use Rattle.theory.specs.Lists.{every, isSome}
 use Rattle.theory.specs.Text.{Bytes, bytes, same, isName, natural, fieldsOf}
 use Rattle.theory.specs.Sizes.{Measure, argumentSizes}
-use Rattle.theory.specs.Packs.{Claim, Atom, Pack, Key, key, atomKey, declaredAs, claimsOn}
+use Rattle.theory.specs.Packs.{Predicate, Claim, Atom, Pack, Key, key, atomKey, claimsOn}
 use Rattle.theory.specs.Written.{field, packOf}
-use Rattle.theory.specs.Faults.{test, firstOf, isUnfit, arityIn}
+use Rattle.theory.specs.Faults.{test, firstOf, isUnfit, less, keyWith, declaredFor}
 use Rattle.theory.specs.Check.{verdictOf}
 
 -- ## Queries
@@ -46,17 +46,19 @@ queryOf query = queryFrom (fieldsOf query)
 abbrev pub sizeGiven : ℕ → Query → Option ℕ
 sizeGiven i q = getD (q .sizes) i none
 
+-- The declared predicate that a query names: its first field with the arity that its number of fields gives.
+abbrev pub meantByQuery : List Bytes → Pack → Option Predicate
+meantByQuery fields p = declaredFor (keyWith (field 0 fields) (less (length fields) 2)) (p .predicates)
+
 -- The number of the fault of a query on a pack, or 0.
 unfoldable pub queryFault : Pack → Bytes → ℕ
 queryFault p query =
     let fields = fieldsOf query in
     let q = queryFrom fields in
-    let found = declaredAs (queryKey q) (p .predicates) in
     firstOf
     (test 4 (isUnfit query)
-    ∷ test 14 (not (isName (field 0 fields) && isSome found))
-    ∷ test 15 (not (eqb (length fields) (arityIn found + 2)))
-    ∷ test 16 (not (isSome (natural (arityIn found) (field 1 fields))) || same (field 1 fields) (bytes "0"))
+    ∷ test 14 (not (isName (field 0 fields) && isSome (meantByQuery fields p)))
+    ∷ test 16 (not (isSome (natural (length (q .sizes)) (field 1 fields))) || same (field 1 fields) (bytes "0"))
     ∷ test 17 (not (every (λ (f : Bytes). isSome (sizeFrom f)) (drop 2 fields)))
     ∷ test 18 (isSome (sizeGiven (q .asked) q))
     ∷ [])

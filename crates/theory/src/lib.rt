@@ -36,9 +36,9 @@ pub enum Refusal {
     NoEnd,
     /// 7: the second field is missing or no name.
     Name(u16),
-    /// 8: declared already, not declared, or a given predicate as a head.
+    /// 8: declared already, not declared with as many arguments as the line gives, or a given predicate as a head.
     Declaration(u16),
-    /// 9: wrong number of fields.
+    /// 9: wrong number of fields on a `P`, `M` or `E` line.
     FieldCount(u16),
     /// 10: an arity, kind, claim number or multiplier is malformed or out of range.
     Number(u16),
@@ -70,14 +70,12 @@ pub struct Bound {
     pub claim: u8,
 }
 
-/// Why reserve refuses a query.
+/// Why reserve refuses a query. 15 is no longer given: what it was for is 14.
 pub enum QueryRefusal {
     /// 4: over 1,024 bytes, or a byte outside 32 to 126.
     UnfitQuery,
-    /// 14: the name is missing, malformed or undeclared.
+    /// 14: the name is missing or malformed, or not declared with as many arguments as the query gives.
     QueryName,
-    /// 15: not two fields more than the predicate has arguments.
-    QueryFieldCount,
     /// 16: the asked argument is malformed or there is none of that number.
     AskedArgument,
     /// 17: a size field is malformed or out of range.

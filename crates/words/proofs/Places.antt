@@ -12,31 +12,34 @@ use Rattle.words.specs.declared.Words.{Words}
 pub hash-small : (x : ℕ) → bitAnd x 127 < 128
 hash-small x = mask-lt x 7
 
--- they stand at none of the first i places, and i is within the table
-pub record Missed (names : List ℕ) (known : ℕ) (words : Words) (i : ℕ) : Type 0 where
-  pub high : i ≤ known
-  pub none : (j : ℕ) → j < i → wordsAt names j ≡ words → ⊥
+-- ---- a search from the first place on, whatever stands at the places
 
-module _ (names : List ℕ) (known : ℕ) (words : Words) where
-  pub missed-none : Missed names known words 0
+-- it stands at none of the first i places, and i is within the table
+pub record Missed {A : Type 0} (at : ℕ → A) (known : ℕ) (x : A) (i : ℕ) : Type 0 where
+  pub high : i ≤ known
+  pub none : (j : ℕ) → j < i → at j ≡ x → ⊥
+
+module _ {A : Type 0} (at : ℕ → A) (known : ℕ) (x : A) where
+  pub missed-none : Missed at known x 0
   missed-none = record { high = omega arith; none = λ j h. absurd (omega arith) }
 
-  module _ (i : ℕ) (missed : Missed names known words i) where
-    missed-one : i < known → (wordsAt names i ≡ words → ⊥) → Missed names known words (i + 1)
-    missed-one h other = record { high = omega arith; none = below-more _ _ (missed .none) other }
+  pub missed-one : (i : ℕ) → Missed at known x i → i < known → (at i ≡ x → ⊥) → Missed at known x (i + 1)
+  missed-one i missed h other = record { high = omega arith; none = below-more _ _ (missed .none) other }
 
-    pub missed-first : i < known → (getD names (2 * i) 0 ≡ words .first → ⊥) → Missed names known words (i + 1)
-    missed-first h other = missed-one h (λ e. other (ap (λ w. w .first) e))
+  pub stands-nowhere : (i : ℕ) → Missed at known x i → known ≤ i → StandsAt at known x i
+  stands-nowhere i missed h = record { high = missed .high; found = λ k. absurd (omega arith); nowhere = λ k j less. missed .none j (omega arith) }
 
-    pub missed-second : i < known → (getD names (2 * i + 1) 0 ≡ words .second → ⊥) → Missed names known words (i + 1)
-    missed-second h other = missed-one h (λ e. other (ap (λ w. w .second) e))
+  pub stands-here : (i : ℕ) → i < known → at i ≡ x → StandsAt at known x i
+  stands-here i h here = record { high = omega arith; found = λ _. here; nowhere = λ k. absurd (omega arith) }
 
-    pub stands-nowhere : known ≤ i → StandsAt names known words i
-    stands-nowhere h = record { high = missed .high; found = λ k. absurd (omega arith); nowhere = λ k j less. missed .none j (omega arith) }
+-- ---- words, which are two numbers
 
-  pub stands-there : (hint : ℕ) → hint < known → getD names (2 * hint) 0 ≡ words .first → getD names (2 * hint + 1) 0 ≡ words .second → StandsAt names known words hint
-  stands-there hint h first second = record {
-    high = omega arith;
-    found = λ _. ap₂ (λ f s. record { first = f; second = s }) first second;
-    nowhere = λ k. absurd (omega arith);
-  }
+module _ (names : List ℕ) (words : Words) (i : ℕ) where
+  pub same-words : getD names (2 * i) 0 ≡ words .first → getD names (2 * i + 1) 0 ≡ words .second → wordsAt names i ≡ words
+  same-words first second = ap₂ (λ f s. record { first = f; second = s }) first second
+
+  pub other-first : (getD names (2 * i) 0 ≡ words .first → ⊥) → wordsAt names i ≡ words → ⊥
+  other-first other e = other (ap (λ w. w .first) e)
+
+  pub other-second : (getD names (2 * i + 1) 0 ≡ words .second → ⊥) → wordsAt names i ≡ words → ⊥
+  other-second other e = other (ap (λ w. w .second) e)

@@ -24,8 +24,8 @@ pub data WordRead (bs : Bytes) : Word → Type 0 where
 abbrev pub wordsAt : List ℕ → ℕ → Words
 wordsAt names i = record { first = getD names (2 * i) 0; second = getD names (2 * i + 1) 0 }
 
--- r is a place of the words among the first `known`, or `known` where they stand at none of those
-pub record StandsAt (names : List ℕ) (known : ℕ) (words : Words) (r : ℕ) : Type 0 where
+-- of what stands at places: r is a place of x among the first `known`, or `known` where it stands at none of those
+pub record StandsAt {A : Type 0} (at : ℕ → A) (known : ℕ) (x : A) (r : ℕ) : Type 0 where
   pub high : r ≤ known
-  pub found : r < known → wordsAt names r ≡ words
-  pub nowhere : known ≤ r → (i : ℕ) → i < known → wordsAt names i ≡ words → ⊥
+  pub found : r < known → at r ≡ x
+  pub nowhere : known ≤ r → (i : ℕ) → i < known → at i ≡ x → ⊥

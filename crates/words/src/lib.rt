@@ -1,6 +1,6 @@
 // Names and variables as two words of eight bytes each: read from bytes, and looked up in a table.
 ghost use Prim.Native.Nat.{_≤_};
-ghost use Rattle.words.specs.Words.{StandsAt};
+ghost use Rattle.words.specs.Words.{wordsAt, StandsAt};
 
 mod few;
 mod hints;
@@ -8,6 +8,7 @@ mod table;
 
 pub use few::words_at;
 pub use hints::Hints;
+pub use hints::hash;
 pub use hints::place_by;
 pub use table::class_of;
 pub use table::class_table;
@@ -31,10 +32,10 @@ pub enum Word {
 /// The words of up to 32 names or variables, two numbers each.
 pub type WordTable = [u64; 64];
 
-/// Where the words of a name stand among the first of a table, or how many those are.
+/// Where words stand among the first of a table, or how many those are.
 pub fn place(names: &WordTable, known: usize, words: Words) -> usize
     requires { ⌜ known ≤ 32 ⌝ }
-    ensures { λ r. ⌜ StandsAt (now (names .entry)) known words r ⌝ }
+    ensures { λ r. ⌜ StandsAt (wordsAt (now (names .entry))) known words r ⌝ }
 {
     let first = words.first;
     let second = words.second;

@@ -20,4 +20,4 @@ returns-4 c = search (needs, name-neither, word-then-field)
 pub name-of-spec : {M : Type 1} → statement M
 name-of-spec =
     tie.close (tie.spec returns (λ c κs. search needs) (λ c κs. search needs) (λ c κs. search needs) (λ c. search needs)
-    (λ c κs. search needs) (λ c. search needs) (λ c. search needs) returns-2 returns-3 returns-4)
+    (λ c. search needs) (λ c. search needs) returns-2 returns-3 returns-4)

@@ -2,33 +2,35 @@
 use mathlib.Core.Path.{_≡_, refl, sym, _∙_, ap, subst}
 use mathlib.Core.Bool.{Bool, true, false, not, _||_}
 use mathlib.Core.List.{List, [], _∷_, _++_}
-use Prim.Native.Nat.{_+_, _≤_, _<_}
+use mathlib.Core.Option.{some}
+use Prim.Native.Nat.{_≤_, _<_}
 use native.Mathlib.Omega.{arith}
 use lib.Dec.{leb}
-use lib.ListN.{length, length-drop, drop}
+use lib.ListN.{length, drop}
 use lib.Seq.{drop-cons}
 use Rattle.theory.specs.Lists.{every, isSome, isEmpty, ending}
 use Rattle.theory.specs.Text.{Bytes, isName}
-use Rattle.theory.specs.Terms.{AllWellFormed, allVariables}
+use Rattle.theory.specs.Terms.{arity, AllWellFormed, allVariables}
 use Rattle.theory.specs.Sizes.{structural}
-use Rattle.theory.specs.Packs.{ruled, Claim, Atom, Pack, ruleLimit, subgoalLimit, variableLimit, atomKey, declaredAs, termFields, factLine, headLine, subgoalLine, onSubgoals, onFacts, onRules, headAlone, fromRules}
+use Rattle.theory.specs.Packs.{ruled, Claim, Atom, Pack, ruleLimit, subgoalLimit, variableLimit, termFields, factLine, headLine, subgoalLine, onSubgoals, onFacts, onRules, headAlone, fromRules}
 use Rattle.theory.specs.declared.Letter.{Letter}
 use Rattle.theory.specs.declared.Letter.the-variants.{G, H, B}
 use Rattle.theory.specs.Written.{field, atomFrom, add, onLast}
 use Rattle.theory.specs.Residuals.{ruleVariables}
-use Rattle.theory.specs.Faults.{Manner, Test, test, isTerm, arityIn, isGiven, givenIn, ruledIn, lastRule, isComplete, manyVariables, mayStand, atomTests, factTests, headTests, subgoalTests, tests}
+use Rattle.theory.specs.Faults.{Manner, Test, test, isTerm, lineArity, meantBy, isGiven, givenIn, ruledIn, lastRule, isComplete, manyVariables, mayStand, atomTests, factTests, headTests, subgoalTests, tests}
 use Rattle.theory.specs.Facts.{isMet, meetsEvery}
 use Rattle.theory.specs.Limits.{AtomFits, FactFits}
-use Rattle.groundwork.proofs.Truth.{not-true, not-false, and-left, and-right, and-both, or-not-left, or-not-right, or-neither, eqb-equal, equal-eqb, leb-gt, gt-leb, ltb-ge, ge-ltb}
+use Rattle.groundwork.proofs.Truth.{not-true, not-false, and-left, and-right, and-both, or-not-left, or-not-right, or-neither, leb-gt, gt-leb, ltb-ge, ge-ltb}
 use Rattle.groundwork.proofs.Order.{nonneg-test, test-nonneg}
 use Rattle.theory.proofs.Reading.Every.{every-member, members-every}
 use Rattle.theory.proofs.Judging.Kinds.{ruled-kind, given-kind, given-in, ruled-in}
 use Rattle.theory.proofs.Judging.Faultless.{Faultless, Adds, Readable}
 use Rattle.theory.proofs.Reading.Letters.{letterField}
 use Rattle.theory.proofs.Reading.PlainFields.{Plain, plain-cons, name-plain, letter-plain}
-use Rattle.theory.proofs.Reading.Presence.{is-some, is-empty, empty-is, is-filled, filled-is, arity-in}
+use Rattle.theory.proofs.Reading.Presence.{some-is, is-some, is-empty, empty-is, is-filled, filled-is}
+use Rattle.theory.proofs.Judging.LineKeys.{less-plus, declared-with, StatesAtom, atom-arity, atom-full, atom-declared}
 use Rattle.theory.proofs.Judging.Steps.{Step, factStep, headStep, subgoalStep, MeetsEach}
-use Rattle.theory.proofs.Reading.TermFields.{terms-written, terms-formed, terms-arity, written-terms, written-are-terms, written-arity, terms-plain}
+use Rattle.theory.proofs.Reading.TermFields.{terms-written, terms-formed, written-terms, written-are-terms, written-arity, terms-plain}
 use Rattle.theory.proofs.Judging.Tests.{Clear, _then_, clear-parts, both-clear}
 
 -- the fields of an atom's line
@@ -40,6 +42,7 @@ atomLine letter a = letterField letter ∷ a .name ∷ termFields (a .terms)
 -- what the tests of the three letters tell
 record AtomRead (letter : Letter) (isRefused : Bool) (afterName afterTerms : List Test) (fields : List Bytes) (p : Pack) : Type 0 where
   fits : AtomFits (p .predicates) (atomFrom fields)
+  found : meantBy letter fields p ≡ some (fits .predicate)
   again : atomLine letter (atomFrom fields) ≡ fields
   allowed : isRefused ≡ false
   named : Clear afterName
@@ -53,27 +56,27 @@ line-again letter fields long first rest =
     let second = drop-cons fields 1 [] (omega arith) in
     cc
 
-atom-read : (letter : Letter) (isRefused : Bool) (afterName afterTerms : List Test) (fields : List Bytes) (p : Pack) → field 0 fields ≡ letterField letter
-    → Clear (atomTests isRefused afterName afterTerms fields p) → AtomRead letter isRefused afterName afterTerms fields p
+atom-read : (letter : Letter) → StatesAtom letter → (isRefused : Bool) (afterName afterTerms : List Test) (fields : List Bytes) (p : Pack) → field 0 fields ≡ letterField letter
+    → Clear (atomTests letter isRefused afterName afterTerms fields p) → AtomRead letter isRefused afterName afterTerms fields p
 unfolding atomTests atomFrom
-atom-read letter isRefused afterName afterTerms fields p first c =
+atom-read letter states isRefused afterName afterTerms fields p first c =
     let (named, rest) = clear-parts afterName _ (c .1 .1) in
-    let looked = declaredAs (atomKey (atomFrom fields)) (p .predicates) in
+    let looked = meantBy letter fields p in
     let found = is-some looked (not-false (isSome looked) (or-not-left (not (isSome looked)) isRefused (c .1 .0))) in
-    let many : length fields ≡ found .0 .arguments + 2 = eqb-equal (length fields) _ (not-false _ (rest .0)) ∙ ap (λ n. n + 2) (arity-in _ (found .0) (found .1)) in
-    let terms = not-false (every isTerm (drop 2 fields)) (rest .1 .0) in
+    let many = atom-full fields (p .predicates) (found .0) states (found .1) in
+    let terms = not-false (every isTerm (drop 2 fields)) (rest .0) in
     record {
+      found = found .1;
       fits = record {
         predicate = found .0;
-        declared = found .1;
+        declared = atom-declared fields (p .predicates) (found .0) states (found .1);
         named = not-false _ (c .0);
-        full = omega (arith, terms-arity (drop 2 fields), length-drop 2 fields);
         formed = terms-formed (drop 2 fields) terms;
       };
       again = line-again letter fields (omega arith) first (terms-written (drop 2 fields) terms);
       allowed = or-not-right (not (isSome looked)) isRefused (c .1 .0);
       named = named;
-      ended = rest .1 .1;
+      ended = rest .1;
     }
 
 -- the test of 22, and what it says
@@ -89,10 +92,10 @@ pub fact-step : {m : Manner} (p : Pack) (fields : List Bytes) → Faultless m G 
 unfolding add tests factTests mayStand letterField factLine
 fact-step p fields h =
     let a = atomFrom fields in
-    let looked = declaredAs (atomKey a) (p .predicates) in
-    let read = atom-read G false (test 20 (ruledIn looked) ∷ []) (test 21 (not (isEmpty (allVariables (a .terms)))) ∷ test 22 (not (meetsEvery (p .claims) a)) ∷ []) fields p (h .first) (h .clear) in
+    let looked = meantBy G fields p in
+    let read = atom-read G StatesAtom.fact false (test 20 (ruledIn looked) ∷ []) (test 21 (not (isEmpty (allVariables (a .terms)))) ∷ test 22 (not (meetsEvery (p .claims) a)) ∷ []) fields p (h .first) (h .clear) in
     let fits = read .fits in
-    let isGiven = given-kind (fits .predicate .kind) (sym (ruled-in looked (fits .predicate) (fits .declared)) ∙ read .named .0) in
+    let isGiven = given-kind (fits .predicate .kind) (sym (ruled-in looked (fits .predicate) (read .found)) ∙ read .named .0) in
     let ground = is-empty (allVariables (a .terms)) (not-false _ (read .ended .0)) in
     let meets = met-each (p .claims) a (not-false _ (read .ended .1 .0)) in
     subst (λ (fs : List Bytes). Step p fs (onFacts (ending a) p)) (read .again)
@@ -103,10 +106,10 @@ unfolding add tests headTests mayStand letterField headLine
 head-step p fields h =
     let a = atomFrom fields in
     let full = leb ruleLimit (length (p .rules)) in
-    let looked = declaredAs (atomKey a) (p .predicates) in
-    let read = atom-read H (givenIn looked) [] (test 12 (full || manyVariables a []) ∷ []) fields p (h .first) (h .clear) in
+    let looked = meantBy H fields p in
+    let read = atom-read H StatesAtom.head (givenIn looked) [] (test 12 (full || manyVariables a []) ∷ []) fields p (h .first) (h .clear) in
     let fits = read .fits in
-    let isRuled = ruled-kind (fits .predicate .kind) (sym (given-in looked (fits .predicate) (fits .declared)) ∙ read .allowed) in
+    let isRuled = ruled-kind (fits .predicate .kind) (sym (given-in looked (fits .predicate) (read .found)) ∙ read .allowed) in
     let room = leb-gt ruleLimit (length (p .rules)) (or-not-left full (manyVariables a []) (read .ended .0)) in
     let few = ltb-ge variableLimit (length (ruleVariables a [])) (or-not-right full (manyVariables a []) (read .ended .0)) in
     subst (λ (fs : List Bytes). Step p fs (onRules (ending (headAlone a)) p)) (read .again) (headStep a (h .stands) fits isRuled room few)
@@ -118,7 +121,7 @@ subgoal-step p fields h =
     let r = lastRule p in
     let full = leb subgoalLimit (length (r .subgoals)) in
     let many = manyVariables (r .head) (r .subgoals ++ (a ∷ [])) in
-    let read = atom-read B false [] (test 12 (full || many) ∷ []) fields p (h .first) (h .clear) in
+    let read = atom-read B StatesAtom.subgoal false [] (test 12 (full || many) ∷ []) fields p (h .first) (h .clear) in
     let ruleful = is-filled (p .rules) (not-true (isEmpty (p .rules)) (and-left (not (isEmpty (p .rules))) (isEmpty (r .multipliers)) (h .stands))) in
     let unmultiplied = is-empty (r .multipliers) (and-right (not (isEmpty (p .rules))) (isEmpty (r .multipliers)) (h .stands)) in
     let room = leb-gt subgoalLimit (length (r .subgoals)) (or-not-left full many (read .ended .0)) in
@@ -147,17 +150,18 @@ module _ (a : Atom) (formed : AllWellFormed (a .terms)) where
   unfolding add subgoalLine letterField
   subgoal-adds p named = record { starts = refl; is = ap (λ (b : Atom). onRules (onLast (onSubgoals (ending b))) p) (atom-again B); plain = atom-plain B named }
 
-module _ (letter : Letter) (p : Pack) (a : Atom) (fits : AtomFits (p .predicates) a) where
-  atom-clear : (isRefused : Bool) (afterName afterTerms : List Test) → isRefused ≡ false → Clear afterName → Clear afterTerms → Clear (atomTests isRefused afterName afterTerms (atomLine letter a) p)
-  unfolding atomTests isSome arityIn
+module _ (letter : Letter) (states : StatesAtom letter) (p : Pack) (a : Atom) (fits : AtomFits (p .predicates) a) where
+  atom-found : meantBy letter (atomLine letter a) p ≡ some (fits .predicate)
+  atom-found =
+      let arity-there = atom-arity states (atomLine letter a) ∙ less-plus _ 2 (arity (a .terms)) (omega (arith, written-arity (a .terms))) in
+      declared-with (a .name) (p .predicates) (lineArity letter (atomLine letter a)) (arity (a .terms)) arity-there ∙ fits .declared
+
+  atom-clear : (isRefused : Bool) (afterName afterTerms : List Test) → isRefused ≡ false → Clear afterName → Clear afterTerms → Clear (atomTests letter isRefused afterName afterTerms (atomLine letter a) p)
+  unfolding atomTests isSome
   atom-clear isRefused afterName afterTerms allowed named ended =
-      rw (atom-again a (fits .formed) letter, fits .declared)
-      (ap not (fits .named)
-      then allowed
-      then both-clear afterName _ named
-      (ap not (equal-eqb (length (atomLine letter a)) (fits .predicate .arguments + 2) (omega (arith, written-arity (a .terms), fits .full)))
-      then ap not (written-are-terms (a .terms) (fits .formed))
-      then ended))
+      ap not (fits .named)
+      then or-neither _ _ (ap not (some-is _ _ atom-found)) allowed
+      then both-clear afterName _ named (ap not (written-are-terms (a .terms) (fits .formed)) then ended)
 
 pub fact-readable : {m : Manner} (p : Pack) (f : Atom) → fromRules p ≡ [] → FactFits (p .predicates) f → MeetsEach (p .claims) f → Readable m G p (factLine f) (onFacts (ending f) p)
 unfolding tests factTests mayStand factLine letterField isGiven
@@ -168,8 +172,8 @@ fact-readable p f later fits meets =
         first = refl;
         stands = empty-is (fromRules p) later;
         clear = rw (atom-again f (atom .formed) G)
-            (atom-clear G p f atom false _ _ refl
-            ((ruled-in _ (atom .predicate) (atom .declared) ∙ rw (fits .isGiven)) then tt)
+            (atom-clear G StatesAtom.fact p f atom false _ _ refl
+            ((ruled-in _ (atom .predicate) (atom-found G StatesAtom.fact p f atom) ∙ rw (fits .isGiven)) then tt)
             (ap not (empty-is (allVariables (f .terms)) (fits .ground)) then ap not (each-met (p .claims) f meets) then tt));
       };
       adds = fact-adds f (atom .formed) p (atom .named);
@@ -183,7 +187,7 @@ head-readable p a complete fits isRuled room few =
       faultless = record {
         first = refl;
         stands = complete;
-        clear = rw (atom-again a (fits .formed) H) (atom-clear H p a fits _ [] _ (given-in _ (fits .predicate) (fits .declared) ∙ rw isRuled) tt (or-neither _ _ (gt-leb ruleLimit _ room) (ge-ltb variableLimit _ few) then tt));
+        clear = rw (atom-again a (fits .formed) H) (atom-clear H StatesAtom.head p a fits _ [] _ (given-in _ (fits .predicate) (atom-found H StatesAtom.head p a fits) ∙ rw isRuled) tt (or-neither _ _ (gt-leb ruleLimit _ room) (ge-ltb variableLimit _ few) then tt));
       };
       adds = head-adds a (fits .formed) p (fits .named);
     }
@@ -198,7 +202,7 @@ subgoal-readable p a ruleful unmultiplied fits room few =
       faultless = record {
         first = refl;
         stands = and-both (not (isEmpty (p .rules))) (isEmpty (r .multipliers)) (ap not (filled-is (p .rules) ruleful)) (empty-is (r .multipliers) unmultiplied);
-        clear = rw (atom-again a (fits .formed) B) (atom-clear B p a fits _ [] _ refl tt (or-neither _ _ (gt-leb subgoalLimit _ room) (ge-ltb variableLimit _ few) then tt));
+        clear = rw (atom-again a (fits .formed) B) (atom-clear B StatesAtom.subgoal p a fits _ [] _ refl tt (or-neither _ _ (gt-leb subgoalLimit _ room) (ge-ltb variableLimit _ few) then tt));
       };
       adds = subgoal-adds a (fits .formed) p (fits .named);
     }

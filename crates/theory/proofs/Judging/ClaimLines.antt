@@ -3,27 +3,28 @@ use mathlib.Core.Path.{_≡_, refl, sym, _∙_, ap, subst}
 use mathlib.Core.Bool.{true, not}
 use mathlib.Core.List.{List, [], _∷_, map, List·Memᴰ·tail}
 use mathlib.Core.Option.{some}
-use Prim.Native.Nat.{_+_, _≤_, _<_}
+use Prim.Native.Nat.{_≤_, _<_}
 use native.Mathlib.Omega.{arith}
 use lib.IntN.{ℤ, pos, natAbs}
-use lib.ListN.{length, length-map, length-drop, drop}
+use lib.ListN.{length, length-map, drop}
 use lib.Seq.{drop-cons}
-use Rattle.theory.specs.Lists.{every, isSome, _∈_, ending}
+use Rattle.theory.specs.Lists.{every, _∈_, ending}
 use Rattle.theory.specs.Text.{Bytes, bytes, isName, integer, signedDecimal}
-use Rattle.theory.specs.Packs.{Claim, Pack, claimLimit, numberLimit, claimKey, declaredAs, claimsOn, claimLine, onClaims, fromFacts}
+use Rattle.theory.specs.Packs.{Claim, Pack, claimLimit, numberLimit, claimKey, claimsOn, claimLine, onClaims, fromFacts}
 use Rattle.theory.specs.declared.Letter.the-variants.{C}
 use Rattle.theory.specs.Written.{field, claimFrom, integerFrom, add}
-use Rattle.theory.specs.Faults.{Manner, isClaimNumber, arityIn, mayStand, claimTests, tests}
+use Rattle.theory.specs.Faults.{Manner, isClaimNumber, lineArity, meantBy, mayStand, claimTests, tests}
 use Rattle.theory.specs.Limits.{ClaimFits}
 use Rattle.groundwork.proofs.Lists.{all-cons}
-use Rattle.groundwork.proofs.Truth.{not-false, eqb-equal, equal-eqb, leb-gt, gt-leb}
+use Rattle.groundwork.proofs.Truth.{not-false, leb-gt, gt-leb}
 use Rattle.theory.proofs.Reading.Every.{every-first, every-rest}
 use Rattle.theory.proofs.Reading.FieldValues.{value-read, values-written, values-within, written-read, written-values}
 use Rattle.theory.proofs.Judging.Faultless.{Faultless, Adds, Readable}
 use Rattle.theory.proofs.Reading.Letters.{letterField}
 use Rattle.theory.proofs.Reading.PlainFields.{plain-cons, plain-map, name-plain, signed-plain, letter-plain}
-use Rattle.theory.proofs.Reading.Presence.{is-some, is-empty, empty-is, arity-in}
+use Rattle.theory.proofs.Reading.Presence.{some-is, is-some, is-empty, empty-is}
 use Rattle.theory.proofs.Reading.Spelling.{integer-of-signed, signed-of-integer, integer-within}
+use Rattle.theory.proofs.Judging.LineKeys.{less-plus, declared-with, claim-full, claim-declared}
 use Rattle.theory.proofs.Judging.Steps.{Step, claimStep}
 use Rattle.theory.proofs.Judging.Tests.{Clear, _then_}
 
@@ -59,15 +60,14 @@ unfolding add tests claimTests mayStand claimFrom letterField
 claim-step p fields h =
     let d = claimFrom fields in
     let c = h .clear in
-    let found = is-some (declaredAs (claimKey d) (p .predicates)) (not-false _ (c .1 .0)) in
-    let many : length fields ≡ found .0 .arguments + 3 = eqb-equal (length fields) _ (not-false _ (c .1 .1 .0)) ∙ ap (λ n. n + 3) (arity-in _ (found .0) (found .1)) in
-    let numbers = numbers-read fields (omega arith) (not-false _ (c .1 .1 .1 .0)) in
-    let room = leb-gt claimLimit (length (claimsOn (claimKey d) (p .claims))) (c .1 .1 .1 .1 .0) in
+    let found = is-some (meantBy C fields p) (not-false _ (c .1 .0)) in
+    let many = claim-full fields (p .predicates) (found .0) (found .1) in
+    let numbers = numbers-read fields (omega arith) (not-false _ (c .1 .1 .0)) in
+    let room = leb-gt claimLimit (length (claimsOn (claimKey d) (p .claims))) (c .1 .1 .1 .0) in
     let fits : ClaimFits (p .predicates) d = record {
       predicate = found .0;
-      declared = found .1;
+      declared = claim-declared fields (p .predicates) (found .0) (found .1);
       named = not-false _ (c .0);
-      full = omega (arith, length-map (drop 3 fields) integerFrom, length-drop 3 fields);
       constant = numbers .constant;
       coefficients = numbers .coefficients;
     } in
@@ -91,13 +91,16 @@ module _ (c : Claim) (constant : natAbs (c .constant) ≤ numberLimit) (coeffici
       }
 
 module _ (p : Pack) (c : Claim) (fits : ClaimFits (p .predicates) c) where
+  claim-found : meantBy C (claimLine c) p ≡ some (fits .predicate)
+  unfolding lineArity claimLine
+  claim-found = declared-with (c .name) (p .predicates) _ (length (c .coefficients)) (less-plus _ 3 _ (omega (arith, length-map (c .coefficients) signedDecimal))) ∙ fits .declared
+
   claim-clear : length (claimsOn (claimKey c) (p .claims)) < claimLimit → Clear (claimTests (claimLine c) p)
-  unfolding claimTests claimLine isSome arityIn
+  unfolding claimTests claimLine
   claim-clear room =
-      rw (claim-again c (fits .constant) (fits .coefficients), fits .declared)
+      rw (claim-again c (fits .constant) (fits .coefficients))
       (ap not (fits .named)
-      then refl
-      then ap not (equal-eqb (length (claimLine c)) (fits .predicate .arguments + 3) (omega (arith, length-map (c .coefficients) signedDecimal, fits .full)))
+      then ap not (some-is (meantBy C (claimLine c) p) _ claim-found)
       then ap not (written-read (integer numberLimit) signedDecimal (c .constant ∷ c .coefficients) (numbers-again c (fits .constant) (fits .coefficients)))
       then gt-leb claimLimit _ room
       then tt)

@@ -79,10 +79,10 @@ first-other n (t ∷ ts) h others e =
 pub thirteen-is-m : (m : Manner) (letter : Letter) (fields : List Bytes) (p : Pack) → firstOf (tests m letter fields p) ≡ 13 → letter ≡ M
 unfolding tests predicateTests claimTests atomTests factTests headTests subgoalTests endTests
 thirteen-is-m m P fields p e = absurd (first-other 13 (predicateTests fields p) (omega arith) (refl then refl then refl then refl then refl then tt) e)
-thirteen-is-m m C fields p e = absurd (first-other 13 (claimTests fields p) (omega arith) (refl then refl then refl then refl then refl then tt) e)
-thirteen-is-m m G fields p e = absurd (first-other 13 (factTests fields p) (omega arith) (refl then refl then refl then refl then refl then refl then refl then tt) e)
-thirteen-is-m m H fields p e = absurd (first-other 13 (headTests fields p) (omega arith) (refl then refl then refl then refl then refl then tt) e)
-thirteen-is-m m B fields p e = absurd (first-other 13 (subgoalTests fields p) (omega arith) (refl then refl then refl then refl then refl then tt) e)
+thirteen-is-m m C fields p e = absurd (first-other 13 (claimTests fields p) (omega arith) (refl then refl then refl then refl then tt) e)
+thirteen-is-m m G fields p e = absurd (first-other 13 (factTests fields p) (omega arith) (refl then refl then refl then refl then refl then refl then tt) e)
+thirteen-is-m m H fields p e = absurd (first-other 13 (headTests fields p) (omega arith) (refl then refl then refl then refl then tt) e)
+thirteen-is-m m B fields p e = absurd (first-other 13 (subgoalTests fields p) (omega arith) (refl then refl then refl then refl then tt) e)
 thirteen-is-m m M fields p e = refl
 thirteen-is-m m E fields p e = absurd (first-other 13 (endTests m fields p) (omega arith) (refl then refl then tt) e)
 thirteen-is-m m NoLetter fields p e = absurd (first-other 13 (tests m NoLetter fields p) (omega arith) tt e)

@@ -1,22 +1,32 @@
 -- Keys: the test is equality, and what is found under a key has it.
-use mathlib.Core.Path.{_≡_, sym, subst}
-use mathlib.Core.Bool.{true, cond}
+use mathlib.Core.Path.{_≡_, refl, sym, ap, ap₂, subst}
+use mathlib.Core.Bool.{Bool, true, false, cond}
 use mathlib.Core.Logic.{_⊎_, inl, inr}
 use mathlib.Core.List.{List, [], _∷_, List·Memᴰ·head, List·Memᴰ·tail, List·Memᴰ·not-nil}
 use mathlib.Core.Option.{some, Option·some-injective, Option·none-ne-some}
-use Rattle.groundwork.proofs.Truth.{by-truth}
+use Prim.Native.Nat.{ℕ, _<_}
+use lib.ListN.{length, getD}
+use Rattle.groundwork.proofs.Truth.{by-truth, and-left, and-right, and-both, equal-eqb, eqb-equal}
+use Rattle.groundwork.proofs.Lists.{getD-member}
 use Rattle.theory.specs.Lists.{_∈_}
-use Rattle.theory.specs.Packs.{Predicate, Claim, Key, sameKey, keyOf, claimKey, declaredAs, claimsOn}
+use Rattle.theory.specs.Text.{same}
+use Rattle.theory.specs.Packs.{Predicate, Claim, noClaim, Key, key, sameKey, keyOf, claimKey, declaredAs, claimsOn}
 use Rattle.theory.proofs.Reading.Bytes.{same-refl, same-equal}
 use Rattle.theory.proofs.Reading.Kept.{kept-cases}
 
 pub sameKey-refl : (k : Key) → sameKey k k ≡ true
 unfolding sameKey
-sameKey-refl k = same-refl k
+sameKey-refl k = and-both _ _ (same-refl (k .name)) (equal-eqb (k .arity) (k .arity) refl)
 
 pub sameKey-equal : (k l : Key) → sameKey k l ≡ true → k ≡ l
 unfolding sameKey
-sameKey-equal k l e = same-equal k l e
+sameKey-equal k l e = ap₂ key (same-equal (k .name) (l .name) (and-left _ _ e)) (eqb-equal (k .arity) (l .arity) (and-right (same (k .name) (l .name)) _ e))
+
+pub sameKey-other : (k l : Key) → (l ≡ k → ⊥) → sameKey k l ≡ false
+sameKey-other k l other = by-truth (λ (b : Bool). b ≡ false) (sameKey k l) (λ e. absurd (other (sym (sameKey-equal k l e)))) (λ e. refl)
+
+pub sameKey-here : (k l : Key) → l ≡ k → sameKey k l ≡ true
+sameKey-here k l here = subst (λ (m : Key). sameKey m l ≡ true) here (sameKey-refl l)
 
 pub declared-member : (k : Key) (ps : List Predicate) (x : Predicate) → declaredAs k ps ≡ some x → (x ∈ ps) × (k ≡ keyOf x)
 unfolding declaredAs
@@ -27,6 +37,10 @@ declared-member k (p ∷ ps) x e =
     (λ other e. let below = declared-member k ps x e in (List·Memᴰ·tail (below .0), below .1))
     e
 
+-- what is declared under a key has its arity
+pub declared-arity : (k : Key) (ps : List Predicate) (x : Predicate) → declaredAs k ps ≡ some x → k .arity ≡ x .arguments
+declared-arity k ps x e = ap (λ (l : Key). l .arity) (declared-member k ps x e .1)
+
 pub on-member : (k : Key) (cs : List Claim) (c : Claim) → c ∈ claimsOn k cs → (c ∈ cs) × (k ≡ claimKey c)
 unfolding claimsOn
 on-member k [] c m = absurd (List·Memᴰ·not-nil m)
@@ -35,3 +49,7 @@ on-member k (d ∷ cs) c m = step (on-member k cs c) (kept-cases (sameKey k (cla
     step : (c ∈ claimsOn k cs → (c ∈ cs) × (k ≡ claimKey c)) → ((c ≡ d) × (sameKey k (claimKey d) ≡ true)) ⊎ (c ∈ claimsOn k cs) → (c ∈ (d ∷ cs)) × (k ≡ claimKey c)
     step below (inl here) = (List·Memᴰ·head (here .0), subst (λ (y : Claim). k ≡ claimKey y) (sym (here .0)) (sameKey-equal k (claimKey d) (here .1)))
     step below (inr there) = let found = below there in (List·Memᴰ·tail (found .0), found .1)
+
+-- each of them has as many coefficients as the key says
+pub on-arity : (k : Key) (cs : List Claim) (j : ℕ) → j < length (claimsOn k cs) → length (getD (claimsOn k cs) j noClaim .coefficients) ≡ k .arity
+on-arity k cs j h = ap (λ (l : Key). l .arity) (sym (on-member k cs (getD (claimsOn k cs) j noClaim) (getD-member (claimsOn k cs) j noClaim h) .1))

@@ -9,12 +9,12 @@ use lib.ListN.{length}
 use Rattle.theory.specs.Lists.{isEmpty, _∈_}
 use Rattle.theory.specs.Text.{Bytes, fieldsOf}
 use Rattle.theory.specs.Sizes.{Measure, structural}
-use Rattle.theory.specs.Packs.{Claim, Atom, Pack, ruleLimit, atomKey, declaredAs, claimsOn, claimsOnAll}
+use Rattle.theory.specs.Packs.{Claim, Atom, Pack, ruleLimit, atomKey, claimsOn, claimsOnAll}
 use Rattle.theory.specs.declared.Letter.{Letter}
 use Rattle.theory.specs.declared.Letter.the-variants.{H, B, M}
-use Rattle.theory.specs.Written.{lineLetter, atomFrom, multipliersFrom}
+use Rattle.theory.specs.Written.{lineLetter, multipliersFrom}
 use Rattle.theory.specs.Residuals.{subgoalForms, residual}
-use Rattle.theory.specs.Faults.{lastRule, headClaims, isComplete, mayStand, Manner, residualDue, atomTests, headTests, subgoalTests, multiplierTests, tests, fault}
+use Rattle.theory.specs.Faults.{lineArity, meantBy, lastRule, headClaims, isComplete, mayStand, Manner, residualDue, atomTests, headTests, subgoalTests, multiplierTests, tests, fault}
 use Rattle.theory.proofs.Judging.LineReading.{asWhole, before}
 
 -- the letters of a rule's lines
@@ -23,10 +23,11 @@ pub data OfRule : Letter → Type 0 where
   subgoal : OfRule B
   multipliers : OfRule M
 
--- Two packs are alike for a line: they look up the same predicate for it, their last rules are the same, both or neither
--- have come to the limit of rules, and they have the same claims on the predicates of the last rule.
+-- Two packs are alike for a line: it means the same predicate in both (by the arity of an `H` line, which is that of a `B`
+-- line too), their last rules are the same, both or neither have come to the limit of rules, and they have the same claims on
+-- the predicates of the last rule.
 pub record Alike (fields : List Bytes) (p q : Pack) : Type 0 where
-  pub found : declaredAs (atomKey (atomFrom fields)) (p .predicates) ≡ declaredAs (atomKey (atomFrom fields)) (q .predicates)
+  pub found : meantBy H fields p ≡ meantBy H fields q
   pub started : isEmpty (p .rules) ≡ isEmpty (q .rules)
   pub rule : lastRule p ≡ lastRule q
   pub full : leb ruleLimit (length (p .rules)) ≡ leb ruleLimit (length (q .rules))
@@ -60,10 +61,14 @@ module _ (fields : List Bytes) (p q : Pack) (alike : Alike fields p q) where
   unfolding residualDue residual
   residual-alike ms = rw (head-alike, alike .rule, forms-alike structural (p .claims) (q .claims) (lastRule q .subgoals) (λ a m. alike .claims a (List·Memᴰ·tail m)))
 
+  found-subgoal : meantBy B fields p ≡ meantBy B fields q
+  unfolding lineArity
+  found-subgoal = alike .found
+
   tests-alike : (m : Manner) (x : Letter) → OfRule x → tests m x fields p ≡ tests m x fields q
   unfolding tests headTests subgoalTests multiplierTests atomTests
   tests-alike m x head = rw (alike .found, alike .full)
-  tests-alike m x subgoal = rw (alike .found, alike .rule)
+  tests-alike m x subgoal = rw (found-subgoal, alike .rule)
   tests-alike m x multipliers = rw (residual-alike (multipliersFrom fields), alike .rule, claims-alike (p .claims) (q .claims) (lastRule q .subgoals) (λ a m. alike .claims a (List·Memᴰ·tail m)))
 
 pub fault-alike : (refuses : Bool) (p q : Pack) (l : Bytes) → OfRule (lineLetter l) → Alike (fieldsOf l) p q → fault (asWhole refuses) (before p) l ≡ fault (asWhole refuses) (before q) l

@@ -1,5 +1,5 @@
 -- `P` lines: faultless exactly if they declare a predicate that fits.
-use mathlib.Core.Path.{_≡_, refl, ap, subst}
+use mathlib.Core.Path.{_≡_, refl, sym, _∙_, ap, subst}
 use mathlib.Core.Bool.{true, not}
 use mathlib.Core.List.{List, []}
 use mathlib.Core.Option.{none}
@@ -12,7 +12,7 @@ use Rattle.theory.specs.Text.{Bytes, bytes, natural, decimal}
 use Rattle.theory.specs.Packs.{Kind, given, ruled, Predicate, Pack, predicateLimit, keyOf, declaredAs, kindLetter, predicateLine, onPredicates, fromClaims}
 use Rattle.theory.specs.declared.Letter.the-variants.{P}
 use Rattle.theory.specs.Written.{field, predicateFrom, add}
-use Rattle.theory.specs.Faults.{Manner, isKind, mayStand, predicateTests, tests}
+use Rattle.theory.specs.Faults.{Manner, isKind, lineArity, meantBy, mayStand, predicateTests, tests}
 use Rattle.theory.specs.Limits.{PredicateFits}
 use Rattle.groundwork.proofs.Truth.{not-false, and-left, and-right, and-both, eqb-equal, leb-gt, gt-leb}
 use Rattle.theory.proofs.Reading.Bytes.{isFieldByte}
@@ -22,6 +22,7 @@ use Rattle.theory.proofs.Reading.Letters.{letterField}
 use Rattle.theory.proofs.Reading.PlainFields.{plain-nil, plain-cons, name-plain, decimal-plain, letter-plain}
 use Rattle.theory.proofs.Reading.Presence.{none-is, is-none, some-is, is-empty, empty-is}
 use Rattle.theory.proofs.Reading.Spelling.{natural-of-decimal, decimal-of-natural, natural-within}
+use Rattle.theory.proofs.Judging.LineKeys.{declared-with}
 use Rattle.theory.proofs.Judging.Tests.{Clear, _then_}
 use Rattle.theory.proofs.Judging.Steps.{Step, predicateStep}
 
@@ -37,16 +38,16 @@ predicate-line-again fields four letter digits kind =
     cc
 
 pub predicate-step : {m : Manner} (p : Pack) (fields : List Bytes) → Faultless m P p fields → Step p fields (add P fields p)
-unfolding add tests predicateTests mayStand predicateFrom letterField
+unfolding add tests predicateTests mayStand predicateFrom letterField lineArity
 predicate-step p fields h =
     let x = predicateFrom fields in
     let c = h .clear in
     let later = is-empty (fromClaims p) (h .stands) in
-    let new = is-none (declaredAs (keyOf x) (p .predicates)) (c .1 .0) in
     let four = eqb-equal (length fields) 4 (not-false _ (c .1 .1 .0)) in
     let valid = not-false _ (c .1 .1 .1 .0) in
     let number = value-read (natural 8) 0 (field 2 fields) (and-left (isSome (natural 8 (field 2 fields))) (isKind (field 3 fields)) valid) in
     let digits = decimal-of-natural 8 (field 2 fields) (x .arguments) number in
+    let new = sym (declared-with (x .name) (p .predicates) (natural 8 (field 2 fields)) (x .arguments) number) ∙ is-none (meantBy P fields p) (c .1 .0) in
     let kind = kind-written (field 3 fields) (and-right (isSome (natural 8 (field 2 fields))) (isKind (field 3 fields)) valid) in
     let room = leb-gt predicateLimit (length (p .predicates)) (c .1 .1 .1 .1 .0) in
     let fits : PredicateFits x = record { named = not-false _ (c .0); few = natural-within 8 (field 2 fields) (x .arguments) number } in
@@ -72,10 +73,10 @@ predicate-adds p x fits =
 
 predicate-clear : (p : Pack) (x : Predicate) → PredicateFits x → declaredAs (keyOf x) (p .predicates) ≡ none → length (p .predicates) < predicateLimit
     → Clear (predicateTests (predicateLine x) p)
-unfolding predicateTests predicateLine
+unfolding predicateTests predicateLine lineArity
 predicate-clear p x fits new room =
     ap not (fits .named)
-    then rw (predicate-again x fits) (none-is _ new)
+    then none-is _ (declared-with (x .name) (p .predicates) _ (x .arguments) (natural-of-decimal 8 (x .arguments) (fits .few)) ∙ new)
     then refl
     then ap not (and-both _ _ (some-is _ _ (natural-of-decimal 8 (x .arguments) (fits .few))) (written-is-kind (x .kind)))
     then gt-leb predicateLimit (length (p .predicates)) room

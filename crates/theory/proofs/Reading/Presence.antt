@@ -4,8 +4,6 @@ use mathlib.Core.Bool.{true, false}
 use mathlib.Core.List.{List, [], _∷_, _++_}
 use mathlib.Core.Option.{Option, some, none}
 use Rattle.theory.specs.Lists.{isSome, isEmpty}
-use Rattle.theory.specs.Packs.{Predicate}
-use Rattle.theory.specs.Faults.{arityIn}
 use Rattle.groundwork.proofs.Truth.{never-both}
 
 module _ {A : Type 0} where
@@ -48,7 +46,3 @@ module _ {A : Type 0} where
 
   pub is-filled : (l : List A) → isEmpty l ≡ false → l ≡ [] → ⊥
   is-filled l e h = never-both (empty-is l h) e
-
-pub arity-in : (o : Option Predicate) (x : Predicate) → o ≡ some x → arityIn o ≡ x .arguments
-unfolding arityIn
-arity-in o x e = rw e

@@ -3,7 +3,7 @@ use Prim.Native.Nat.{_≤_, _<_}
 use native.Mathlib.Omega.{arith}
 use Rattle.theory.specs.Answers.{refusalNumbers, queryNumber}
 use Rattle.theory.specs.declared.QueryRefusal.{QueryRefusal}
-use Rattle.theory.specs.declared.QueryRefusal.the-variants.{UnfitQuery, QueryName, QueryFieldCount, AskedArgument, SizeField, AskedIsKnown}
+use Rattle.theory.specs.declared.QueryRefusal.the-variants.{UnfitQuery, QueryName, AskedArgument, SizeField, AskedIsKnown}
 use Rattle.theory.specs.declared.Refusal.{Refusal}
 use Rattle.theory.specs.declared.Refusal.the-variants.{ShortArea, LongText, UnfinishedText, UnfitLine, Letter, NoEnd, Name, Declaration, FieldCount, Number, NoTerm, CountLimit, Unjustified, RuledFact, NotGround, UnmetClaim, Headless}
 
@@ -29,7 +29,6 @@ refusal-number (Headless l) = omega arith
 pub query-number : (r : QueryRefusal) → (0 < queryNumber r) × (queryNumber r ≤ 18)
 query-number UnfitQuery = omega arith
 query-number QueryName = omega arith
-query-number QueryFieldCount = omega arith
 query-number AskedArgument = omega arith
 query-number SizeField = omega arith
 query-number AskedIsKnown = omega arith

@@ -1,25 +1,25 @@
 -- What an answer of reserve other than a refusal tells: of the text, of the query, and of its reservation.
-use mathlib.Core.Path.{_≡_, refl, sym, _∙_, ap}
+use mathlib.Core.Path.{_≡_, refl, sym, ap}
 use mathlib.Core.Bool.{false, cond, not, _||_}
 use mathlib.Core.List.{List}
 use mathlib.Core.Option.{some, none, Option·getD}
-use Prim.Native.Nat.{ℕ, zero, suc, _+_, _-_, _≤_, _<_}
+use Prim.Native.Nat.{ℕ, zero, suc, _-_, _≤_, _<_}
 use Prim.Native.Char.{code}
 use native.Mathlib.Omega.{arith}
 use lib.Dec.{eqb}
-use lib.ListN.{length, drop, length-map, length-drop}
+use lib.ListN.{length}
 use Rattle.groundwork.proofs.Truth.{by-truth, never-both, eqb-equal, eqb-unequal, not-false, and-right, or-not-left, or-not-right}
 use Rattle.theory.specs.Lists.{isSome, _∈_}
 use Rattle.theory.specs.Text.{Bytes, bytes, same, isName, natural, lastDigits, decimal, fieldsOf}
-use Rattle.theory.specs.Packs.{Predicate, Pack, declaredAs}
+use Rattle.theory.specs.Packs.{Predicate, Pack}
 use Rattle.theory.specs.Written.{field, packOf}
-use Rattle.theory.specs.Faults.{arityIn}
 use Rattle.theory.specs.Check.{verdictOf}
-use Rattle.theory.specs.Reserve.{Query, queryKey, queryFrom, queryOf, sizeGiven, queryFault, Fields, reservation, refusal, answerOf, reserveOf}
+use Rattle.theory.specs.Reserve.{Query, queryFrom, queryOf, sizeGiven, meantByQuery, queryFault, Fields, reservation, refusal, answerOf, reserveOf}
 use Rattle.theory.specs.Limits.{PredicateFits}
 use Rattle.theory.proofs.Reading.Bytes.{same-refl}
 use Rattle.theory.proofs.Reading.Spelling.{decimal-of-natural, natural-within, natural-wider}
-use Rattle.theory.proofs.Judging.Keys.{declared-member}
+use Rattle.theory.proofs.Judging.Keys.{declared-member, declared-arity}
+use Rattle.theory.proofs.Judging.LineKeys.{query-declared}
 use Rattle.theory.proofs.Reading.Presence.{is-some, is-none}
 use Rattle.theory.proofs.Judging.Tests.{zero-clear}
 
@@ -67,37 +67,25 @@ asked-within arity f h e =
 
 -- ---- queries with no fault
 
--- A query on a declared predicate, with a field for each argument, that asks for an unknown size of one of these.
-pub record Asks (p : Pack) (q : Query) : Type 0 where
-  pub predicate : Predicate
-  pub declared : declaredAs (queryKey q) (p .predicates) ≡ some predicate
-  pub full : length (q .sizes) ≡ predicate .arguments
-  pub within : q .asked < predicate .arguments
+-- A query that asks for an unknown size of one of its arguments.
+pub record Asks (q : Query) : Type 0 where
+  pub within : q .asked < length (q .sizes)
   pub unknown : sizeGiven (q .asked) q ≡ none
 
 module _ (p : Pack) (fits : (x : Predicate) → x ∈ p .predicates → PredicateFits x) where
-  asks-by-fields : (fs : List Bytes) (x : Predicate) → declaredAs (queryKey (queryFrom fs)) (p .predicates) ≡ some x → length fs ≡ x .arguments + 2
-      → (not (isSome (natural (x .arguments) (field 1 fs))) || same (field 1 fs) (bytes "0")) ≡ false
-      → sizeGiven (queryFrom fs .asked) (queryFrom fs) ≡ none
-      → Asks p (queryFrom fs)
-  unfolding queryFrom
-  asks-by-fields fs x declared full place unknown = record {
-    predicate = x;
-    declared = declared;
-    full = length-map (drop 2 fs) _ ∙ omega (arith, length-drop 2 fs);
-    within = asked-within (x .arguments) (field 1 fs) (fits x (declared-member _ _ x declared .0) .few) place;
-    unknown = unknown;
-  }
+  -- a declared predicate has few arguments, and a query on it few sizes
+  few-sizes : (fs : List Bytes) (x : Predicate) → meantByQuery fs p ≡ some x → length (queryFrom fs .sizes) ≤ 8
+  few-sizes fs x found =
+      let declared = query-declared fs (p .predicates) x found in
+      omega (arith, fits x (declared-member _ _ x declared .0) .few, declared-arity _ _ x declared)
 
-  pub asks : (query : Bytes) → queryFault p query ≡ 0 → Asks p (queryOf query)
-  unfolding queryFault queryOf arityIn
+  pub asks : (query : Bytes) → queryFault p query ≡ 0 → Asks (queryOf query)
+  unfolding queryFault queryOf queryFrom
   asks query e =
       let fs = fieldsOf query in
-      let looked = declaredAs (queryKey (queryFrom fs)) (p .predicates) in
       let c = zero-clear _ (omega arith) e in
-      let found = is-some looked (and-right (isName (field 0 fs)) _ (not-false _ (c .1 .0))) in
-      let arity = ap arityIn (found .1) in
-      asks-by-fields fs (found .0) (found .1)
-      (eqb-equal _ _ (not-false (eqb (length fs) (arityIn looked + 2)) (c .1 .1 .0)) ∙ ap (λ n. n + 2) arity)
-      (rw arity at (c .1 .1 .1 .0))
-      (is-none _ (c .1 .1 .1 .1 .1 .0))
+      let found = is-some (meantByQuery fs p) (and-right (isName (field 0 fs)) _ (not-false _ (c .1 .0))) in
+      record {
+        within = asked-within (length (queryFrom fs .sizes)) (field 1 fs) (few-sizes fs (found .0) (found .1)) (c .1 .1 .0);
+        unknown = is-none _ (c .1 .1 .1 .1 .0);
+      }

@@ -20,7 +20,7 @@ use Rattle.theory.specs.Reserve.{Query, queryKey, queryOf, queryFault, k
 use Rattle.theory.specs.Limits.{Fits}
 use Rattle.theory.specs.SmallestBound.{UsableClaim, BoundGiven}
 use Rattle.theory.specs.Words.{ReserveRoom}
-use Rattle.theory.proofs.Judging.Keys.{declared-member, on-member}
+use Rattle.theory.proofs.Judging.Keys.{declared-member, declared-arity, on-member}
 use Rattle.theory.proofs.Judging.Acceptance.{accepted-pack}
 use Rattle.theory.proofs.Judging.FaultNumbers.{first-below}
 use Rattle.theory.proofs.Reserving.QuerySizes.{AllSmall, query-small}
@@ -55,7 +55,7 @@ module _ (p : Pack) (fits : Fits p) (q : Query) (small : AllSmall (q .sizes)) wh
         natAbs-add (c .constant) (knownPart (c .coefficients) (q .sizes)),
         fit .constant,
         known-part-small (c .coefficients) (q .sizes) (fit .coefficients) small,
-        fit .full,
+        declared-arity _ (p .predicates) (fit .predicate) (fit .declared),
         predicate .few,
       )
 

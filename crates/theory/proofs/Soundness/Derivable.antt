@@ -1,5 +1,5 @@
 -- From justified claims to whole derivations: each rule keeps the claims, so every derivable fact meets them.
-use mathlib.Core.Path.{refl, _∙_, subst}
+use mathlib.Core.Path.{refl, subst}
 use mathlib.Core.List.{List, [], _∷_, List·Memᴰ·head, List·Memᴰ·tail}
 use Prim.Native.Nat.{ℕ}
 use lib.IntN.{pos}
@@ -19,7 +19,7 @@ use Rattle.theory.specs.Derivations.{GivenFact, atomUnder, Derivable, is
 use Rattle.theory.proofs.Judging.Variables.{rule-variables-once, head-variable, subgoal-variable}
 use Rattle.theory.proofs.Soundness.SubgoalForms.{of-subgoal}
 use Rattle.theory.proofs.Soundness.FormValues.{value-plus, value-times, value-minus, value-zero, value-nonneg}
-use Rattle.theory.proofs.Soundness.Sizes.{arity-under, key-under, all-ground-under, claim-under}
+use Rattle.theory.proofs.Soundness.Sizes.{key-under, all-ground-under, claim-under}
 
 -- ---- one rule
 
@@ -62,7 +62,7 @@ module _ (p : Pack) (Given : Atom → Type 0) (givenFact : (f : Atom) → Given 
   derivable-is-fact formed f (isGiven g) = givenFact f g .fact
   derivable-is-fact formed f (byRule r m σ below) =
       let head = formed .rules r m .head in
-      record { predicate = head .predicate; declared = rw (key-under σ (r .head)) (head .declared); full = arity-under σ (r .head .terms) ∙ head .full; ground = all-ground-under σ (r .head .terms) }
+      record { predicate = head .predicate; declared = rw (key-under σ (r .head)) (head .declared); ground = all-ground-under σ (r .head .terms) }
 
   pub derivable-meets : Justified p → (f : Atom) → Derivable p Given f → MeetsAll p f
   derivable-meets justified f (isGiven g) = givenFact f g .meets
