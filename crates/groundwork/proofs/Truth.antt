@@ -21,6 +21,12 @@ holds-from b e = subst T (sym e) tt
 pub fails-from : (b : Bool) → b ≡ false → T (not b)
 fails-from b e = subst (λ (c : Bool). T (not c)) (sym e) tt
 
+-- ---- a test decides
+
+pub record Decides (r : Bool) (P : Type 0) : Type 0 where
+  pub yes : r ≡ true → P
+  pub no : r ≡ false → P → ⊥
+
 -- ---- cases
 
 pub never-both : {X : Type 0} {b : Bool} → b ≡ true → b ≡ false → X

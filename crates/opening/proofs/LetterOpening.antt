@@ -31,7 +31,7 @@ use Rattle.tables.specs.declared.Opening.{Opening}
 use Rattle.tables.specs.declared.Opening.the-variants.{Line, Misopened}
 use Rattle.tables.specs.Tables.{SafeState, SafeSignatures, predicateAt, signature, signatureAt, noArity, Outline}
 use Rattle.tables.specs.Lines.{skipped, openingTests, most, OldPredicate, NamedFor}
-use Rattle.tables.proofs.Lookup.{found-arity, key-declared, key-absent}
+use Rattle.tables.proofs.Lookup.{place-arity, key-declared, key-absent}
 use Rattle.opening.specs.declared.Named.{Named}
 use Rattle.opening.specs.declared.Naming.{Naming}
 use Rattle.opening.specs.declared.Naming.the-variants.{Found, NoName}
@@ -143,7 +143,7 @@ module _ {l : Letter} (names-it : HasName l) {names signatures : List ℕ} {s : 
   referred : length line ≤ 1024 → bars l (getD signatures (32 + place) 0) ≡ false → OpensLetter l line names signatures s (Line (opened l place (name .words) (name .stop + 1)))
   referred short free =
       let refers = others-refer names-it (λ is. never-both (ap (λ (k : Letter). bars k (getD signatures (32 + place) 0)) is) free) in
-      let (n, given, low, read) = found-arity names signatures (looked .safe) (looked .few) _ (lineArity l (fieldsOf line)) (looked .at) below in
+      let (n, given, low, read) = place-arity names signatures (looked .safe) (looked .few) _ (lineArity l (fieldsOf line)) (looked .at) below in
       passes l place (name .words) (name .stop + 1) short
       (record {
         rest = rw (shape refers .skips) (looked .stands .rest);

@@ -1,4 +1,4 @@
--- A line's tests up to the count of its fields.
+-- A line's tests before its fields are read.
 use mathlib.Core.Path.{_≡_}
 use mathlib.Core.Bool.{Bool, true, false, not, _&&_}
 use mathlib.Core.List.{List}

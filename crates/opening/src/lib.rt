@@ -1,4 +1,4 @@
-// A line's tests up to the count of its fields. Lines open in three ways, whatever else they say: with the name of a
+// A line's tests before its fields are read. Lines open in three ways, whatever else they say: with the name of a
 // predicate that is new, with that of a declared one, or with no name.
 ghost use mathlib.Core.Path.{_≡_};
 ghost use mathlib.Core.Bool.{true};
@@ -286,7 +286,7 @@ fn open_letter(
     }
 }
 
-/// A line's tests up to the count of its fields. Of a text that is plain, the bytes of its lines are known to be fit.
+/// A line's tests before its fields are read. Of a text that is plain, the bytes of its lines are known to be fit.
 pub fn open(
     line: &[u8],
     state: State,

@@ -5,7 +5,7 @@ use mathlib.Core.List.{List}
 use mathlib.Core.Option.{some, none, Option·getD}
 use Prim.Native.Nat.{ℕ, _+_, _-_, _≤_, _<_}
 use native.Mathlib.Omega.{arith}
-use lib.ListN.{length, getD, take, drop, length-map, length-drop}
+use lib.ListN.{length, getD, take, drop}
 use Rattle.groundwork.proofs.Truth.{by-truth}
 use Rattle.theory.specs.Lists.{every, isSome}
 use Rattle.theory.specs.Text.{Bytes, isName, natural, partsAt, fieldsOf}
@@ -17,13 +17,13 @@ use Rattle.theory.specs.Answers.{queryNumber}
 use Rattle.theory.specs.declared.QueryRefusal.{QueryRefusal}
 use Rattle.theory.specs.declared.QueryRefusal.the-variants.{UnfitQuery, QueryName, AskedArgument, SizeField, AskedIsKnown}
 use Rattle.theory.proofs.Judging.Keys.{declared-member}
-use Rattle.theory.proofs.Judging.LineKeys.{less-is, query-declared}
+use Rattle.theory.proofs.Judging.LineKeys.{less-is, sizes-count, query-declared}
 use Rattle.theory.proofs.Reading.Presence.{none-is}
 use Rattle.theory.proofs.Reading.Spelling.{natural-within}
 use Rattle.text.specs.Scans.{part, Finds, partsFrom}
 use Rattle.words.specs.Words.{wordsOf, StandsAt}
 use Rattle.tables.specs.Tables.{SafeSignatures, predicateAt, signature, signatureAt, noArity, Declares}
-use Rattle.tables.proofs.Lookup.{found-arity, key-declared, key-absent}
+use Rattle.tables.proofs.Lookup.{place-arity, key-declared, key-absent}
 use Rattle.queries.specs.declared.Asked.{Asked}
 use Rattle.queries.specs.declared.Tested.the-variants.{Refused, Asks}
 use Rattle.tables.specs.QuerySizes.{entryOf, SafeSizes, SizesStand}
@@ -77,14 +77,14 @@ module _ (query : Bytes) (names signatures : List ℕ) (known : ℕ) where
 
         -- there is a field for each argument
         full : length (fieldsOf query) ≡ getD signatures place 0 + 2
-        full = let (m, given, few, read) = found-arity names signatures safe low _ (less (length (fieldsOf query)) 2) (stands-at field-named) below in omega (arith, less-is (length (fieldsOf query)) 2 m given)
+        full = let (m, given, few, read) = place-arity names signatures safe low _ (less (length (fieldsOf query)) 2) (stands-at field-named) below in omega (arith, less-is (length (fieldsOf query)) 2 m given)
 
         more : 1 < length (fieldsOf query)
         more = omega (arith, full)
 
         given-full : length (queryOf query .sizes) ≡ getD signatures place 0
-        unfolding queryOf queryFrom
-        given-full = length-map (drop 2 (fieldsOf query)) _ ∙ omega (arith, length-drop 2 (fieldsOf query), full)
+        unfolding queryOf
+        given-full = omega (arith, sizes-count (fieldsOf query), full)
 
         declared : (p : Pack) → Declares names signatures known (p .predicates) → meantByQuery (fieldsOf query) p ≡ some (predicateAt (p .predicates) place)
         declared p d = key-declared d (field 0 (fieldsOf query)) field-named safe low (less (length (fieldsOf query)) 2) (stands-at field-named) below

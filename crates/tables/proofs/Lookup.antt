@@ -44,9 +44,9 @@ undeclared k (p ∷ ps) e (suc i) h is =
 -- ---- names by their words
 
 -- what is found with an arity that there may be has that arity: no predicate has `noArity`
-pub found-arity : (names signatures : List ℕ) {known : ℕ} → SafeSignatures signatures → known ≤ 32 → (words : Words) (o : Option ℕ) {r : ℕ} → StandsAt (signatureAt names signatures) known (signature words (Option·getD o noArity)) r
+pub place-arity : (names signatures : List ℕ) {known : ℕ} → SafeSignatures signatures → known ≤ 32 → (words : Words) (o : Option ℕ) {r : ℕ} → StandsAt (signatureAt names signatures) known (signature words (Option·getD o noArity)) r
     → r < known → (n : ℕ) × (o ≡ some n) × (n ≤ 8) × (getD signatures r 0 ≡ n)
-found-arity names signatures {known} safe few words o {r} at h = by o (ap (λ (x : Signature). x .arity) (at .found h))
+place-arity names signatures {known} safe few words o {r} at h = by o (ap (λ (x : Signature). x .arity) (at .found h))
   where
     low : getD signatures r 0 ≤ 8
     low = safe .arity r (omega arith)
@@ -68,14 +68,14 @@ module _ {names signatures : List ℕ} {known : ℕ} {ps : List Predicate} (d : 
 
   -- a place found by a name with an arity that there may be
   module _ (safe : SafeSignatures signatures) (few : known ≤ 32) (o : Option ℕ) {r : ℕ} (at : StandsAt (signatureAt names signatures) known (signature (wordsOf name) (Option·getD o noArity)) r) where
-    arity-there : r < known → o ≡ some (predicateAt ps r .arguments)
-    arity-there h = let (n, is, low, read) = found-arity names signatures safe few (wordsOf name) o at h in is ∙ ap some (sym read ∙ d .arity r h)
+    given-arity : r < known → o ≡ some (predicateAt ps r .arguments)
+    given-arity h = let (n, is, low, read) = place-arity names signatures safe few (wordsOf name) o at h in is ∙ ap some (sym read ∙ d .arity r h)
 
     pub key-declared : r < known → declaredFor (keyWith name o) ps ≡ some (predicateAt ps r)
     key-declared h =
         let n = predicateAt ps r .arguments in
-        let here = signature-key r n h (at .found h ∙ ap (λ (p : Option ℕ). signature (wordsOf name) (Option·getD p noArity)) (arity-there h)) in
-        declared-with name ps o n (arity-there h)
+        let here = signature-key r n h (at .found h ∙ ap (λ (p : Option ℕ). signature (wordsOf name) (Option·getD p noArity)) (given-arity h)) in
+        declared-with name ps o n (given-arity h)
         ∙ declared-first (key name n) ps r (omega (arith, d .count)) (λ j below e. let same = d .distinct j r (omega arith) h (e ∙ sym here) in omega arith) here
 
     pub key-absent : known ≤ r → declaredFor (keyWith name o) ps ≡ none

@@ -1,4 +1,4 @@
--- A line by its steps: opened, when its tests up to the count of fields are done; its fields read; closed.
+-- A line by its steps: opened, when its tests before its fields are done; its fields read; closed.
 use mathlib.Core.Path.{_≡_}
 use mathlib.Core.Bool.{true, false}
 use mathlib.Core.List.{List, []}

@@ -106,11 +106,6 @@ signature words n = record { words = words; arity = n }
 abbrev pub signatureAt : List ℕ → List ℕ → ℕ → Signature
 signatureAt names signatures i = signature (wordsAt names i) (getD signatures i 0)
 
--- the answer of a test: true where it holds, false where it does not
-pub record Tells (r : Bool) (Holds : Type 0) : Type 0 where
-  pub yes : r ≡ true → Holds
-  pub no : r ≡ false → Holds → ⊥
-
 -- an arity that no predicate has
 abbrev pub noArity : ℕ
 noArity = 9
@@ -206,7 +201,7 @@ pub record Holds (t : Tables) (s : State) (w : Written) : Type 0 where
   pub last : (w .pack .rules ≡ [] → ⊥) → RuleStands t s (w .pack) (lastRule (w .pack))
   pub ended : s .ended ≡ w .ended
 
--- what the tests up to the count of fields go by
+-- what the tests before a line's fields go by
 pub record Outline (names signatures : List ℕ) (s : State) (w : Written) : Type 0 where
   pub declares : Declares names signatures (s .predicates) (w .pack .predicates)
   pub counts : (i : ℕ) → i < length (w .pack .predicates) → getD signatures (64 + i) 0 ≡ length (claimsOn (keyOf (predicateAt (w .pack .predicates) i)) (w .pack .claims))

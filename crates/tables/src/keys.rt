@@ -2,9 +2,10 @@
 ghost use mathlib.Core.Path.{_≡_};
 ghost use mathlib.Core.Option.{Option·getD};
 ghost use Prim.Native.Nat.{_+_, _≤_, _<_};
+ghost use Rattle.groundwork.proofs.Truth.{Decides};
 ghost use Rattle.theory.specs.Faults.{less};
 ghost use Rattle.words.specs.Words.{StandsAt};
-ghost use Rattle.tables.specs.Tables.{noArity, signature, signatureAt, Tells};
+ghost use Rattle.tables.specs.Tables.{noArity, signature, signatureAt};
 use super::Hints;
 use super::Names;
 use super::Signatures;
@@ -27,7 +28,7 @@ pub fn arity_by(commas: usize, besides: usize) -> usize
 /// Whether the predicate of a name and an arity stands at a place.
 fn is_at(names: &Names, signatures: &Signatures, place: usize, words: Words, arity: usize) -> bool
     requires { ⌜ place < 32 ⌝ }
-    ensures { λ r. ⌜ Tells r (signatureAt (now (names .entry)) (now (signatures .entry)) place ≡ signature words arity) ⌝ }
+    ensures { λ r. ⌜ Decides r (signatureAt (now (names .entry)) (now (signatures .entry)) place ≡ signature words arity) ⌝ }
 {
     if widths::u8_to_usize(signatures[place]) != arity {
         return false;

@@ -117,7 +117,7 @@ pub enum Fault {
     Headless,
 }
 
-/// A line whose tests up to the count of fields are done: what the fields and the line's end need.
+/// A line whose tests before its fields are read are done: what the fields and the line's end need.
 pub struct Opened {
     pub letter: Letter,
     pub predicate: usize,

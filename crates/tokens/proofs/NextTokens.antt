@@ -4,7 +4,7 @@ use mathlib.Core.Bool.{Bool, true, false}
 use Prim.Native.Nat.{ℕ, _+_, _-_, _*_, _≤_, _<_}
 use native.Mathlib.Omega.{arith}
 use lib.ListN.{length, getD}
-use Rattle.groundwork.proofs.Truth.{by-truth, never-both, equal-eqb, eqb-different}
+use Rattle.groundwork.proofs.Truth.{Decides, by-truth, never-both, equal-eqb, eqb-different}
 use Rattle.theory.specs.Text.{Bytes, isLower, isUpper, isDigit, isNameByte, isWord, isName, isVariable}
 use Rattle.theory.specs.Terms.{symbolOf, noToken, tokenOf}
 use Rattle.theory.proofs.Reading.Bytes.{between-from, between-low, between-high}
@@ -13,7 +13,7 @@ use Rattle.text.specs.Scans.{part, Finds}
 use Rattle.text.proofs.Parts.{part-length, part-at, free-more}
 use Rattle.words.specs.Classes.{Class, EndsWord}
 use Rattle.words.proofs.Letters.{lower-in-name, upper-in-name}
-use Rattle.tokens.specs.TokenRows.{Decides, EndsAt, ArityAt, startOf, endOf, standingAt, VariableAt}
+use Rattle.tokens.specs.TokenRows.{EndsAt, ArityAt, startOf, endOf, standingAt, VariableAt}
 use Rattle.tokens.proofs.SymbolTokens.{lastByte, frontOf, SymbolWritten, symbol-read, other-no-token}
 use Rattle.tokens.proofs.WordEnding.{word-end-once, word-from}
 use Rattle.tokens.proofs.TokenEnds.{word-spelled, spelled-word, size, front-place, slash-place, digit-place}

@@ -7,14 +7,14 @@ use native.Mathlib.Omega.{arith}
 use lib.Dec.{eqb, leb}
 use lib.ListN.{length, getD, take, drop}
 use lib.Seq.{take-take}
-use Rattle.groundwork.proofs.Truth.{never-both, and-left, and-right, eqb-equal, eqb-unequal, leb-le, le-leb}
+use Rattle.groundwork.proofs.Truth.{Decides, never-both, and-left, and-right, eqb-equal, eqb-unequal, leb-le, le-leb}
 use Rattle.theory.specs.Lists.{every}
 use Rattle.theory.specs.Text.{Bytes, isDigit, isNameByte, isWord}
 use Rattle.theory.proofs.Reading.Bytes.{between-low}
 use Rattle.text.specs.Scans.{part}
 use Rattle.text.proofs.Parts.{part-length, part-at}
 use Rattle.words.proofs.WordReading.{word-is}
-use Rattle.tokens.specs.TokenRows.{Decides, EndsAt, ArityAt}
+use Rattle.tokens.specs.TokenRows.{EndsAt, ArityAt}
 use Rattle.tokens.proofs.SymbolTokens.{lastByte, lastButOne, frontOf}
 
 -- ---- the tests

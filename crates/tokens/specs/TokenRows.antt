@@ -1,6 +1,6 @@
 -- A term's tokens read once, into two rows for the two steps of its size: the arities of its symbols and the places of its variables.
 use mathlib.Core.Path.{_≡_}
-use mathlib.Core.Bool.{Bool, true, false}
+use mathlib.Core.Bool.{true}
 use mathlib.Core.List.{List, map}
 use mathlib.Core.Option.{some}
 use Prim.Native.Nat.{ℕ, _+_, _/_, _%_, _≤_, _<_}
@@ -11,11 +11,6 @@ use Rattle.theory.specs.Sizes.{aritiesOf}
 use Rattle.theory.specs.Faults.{isTerm}
 use Rattle.text.specs.Scans.{part}
 use Rattle.tokens.specs.declared.Tokens.{Tokens}
-
--- a test decides
-pub record Decides (r : Bool) (P : Type 0) : Type 0 where
-  pub yes : r ≡ true → P
-  pub no : r ≡ false → P → ⊥
 
 -- a space or nothing stands at a place
 pub record EndsAt (s : Bytes) (at : ℕ) : Type 0 where

@@ -5,7 +5,8 @@ ghost use Prim.Native.Nat.{_+_, _-_, _*_, _≤_, _<_};
 ghost use lib.ListN.{length, getD};
 ghost use Rattle.theory.specs.Text.{isDigit};
 ghost use Rattle.words.specs.Classes.{Class, Classes};
-ghost use Rattle.tokens.specs.TokenRows.{EndsAt, ArityAt, Decides, VariableRead, TokensRead, startOf, endOf};
+ghost use Rattle.groundwork.proofs.Truth.{Decides};
+ghost use Rattle.tokens.specs.TokenRows.{EndsAt, ArityAt, VariableRead, TokensRead, startOf, endOf};
 
 fn is_digit(b: u8) -> bool
     ensures { λ r. ⌜ r ≡ isDigit b ⌝ }

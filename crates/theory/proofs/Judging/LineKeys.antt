@@ -63,9 +63,14 @@ pub atom-key : (fields : List Bytes) (n : ℕ) → length fields ≡ n + 2 → a
 unfolding atomFrom
 atom-key fields n is = ap (key (field 1 fields)) (omega (arith, terms-arity (drop 2 fields), length-drop 2 fields))
 
+-- a query has a size for each field after the first two
+pub sizes-count : (fields : List Bytes) → length (queryFrom fields .sizes) ≡ length fields - 2
+unfolding queryFrom
+sizes-count fields = length-map (drop 2 fields) _ ∙ length-drop 2 fields
+
 pub query-key : (fields : List Bytes) (n : ℕ) → length fields ≡ n + 2 → queryKey (queryFrom fields) ≡ key (field 0 fields) n
 unfolding queryFrom
-query-key fields n is = ap (key (field 0 fields)) (length-map (drop 2 fields) _ ∙ omega (arith, length-drop 2 fields))
+query-key fields n is = ap (key (field 0 fields)) (omega (arith, sizes-count fields))
 
 -- lines that state an atom
 pub data StatesAtom : Letter → Type 0 where
