@@ -1,6 +1,7 @@
-//! How much stack each call of the library uses, at most, on the packs that are timed.
+//! How much stack each call of the library uses, at most, on the packs and clause texts that are timed.
 
 use crate::generate::term_of_length;
+use crate::imports::{lines_for, CLAUSE_TEXTS};
 use crate::kinds::{Kind, Sample};
 use crate::{library, plain, stack};
 use std::hint::black_box;
@@ -42,21 +43,34 @@ fn call_measure(term: &mut &[u8]) {
     black_box(library::measure(term));
 }
 
+/// A clause text, and a buffer for its lines, which is not on the stack that is measured.
+fn call_import((text, lines): &mut (String, Vec<u8>)) {
+    black_box(library::import(text.as_bytes(), lines));
+}
+
 fn call_deep(_: &mut ()) {
     black_box(&mut [0_u8; DEEP_CALL]);
 }
 
-/// The calls with the most stack that each used: measure on terms, the others on packs of all kinds.
-pub fn depths(kinds: &[Kind]) -> [Depth; 4] {
+/// The import of a clause text into a buffer that is long enough, and into one that is too short.
+fn depth_of_import(text: String) -> usize {
+    let lines = lines_for(&text);
+    stack::depth(call_import, &mut (text.clone(), lines)).max(stack::depth(call_import, &mut (text, Vec::new())))
+}
+
+/// The calls with the most stack that each used: measure on terms, import on clause texts, the others on packs of all kinds.
+pub fn depths(kinds: &[Kind]) -> [Depth; 5] {
     let samples = || kinds.iter().flat_map(|kind| kind.samples.iter().take(PACKS_TRIED));
     let most = |call: fn(&mut &Sample)| samples().map(|mut sample| stack::depth(call, &mut sample)).max().unwrap_or(0);
     let terms = ["a/0".to_string(), "s/1 X".to_string(), term_of_length(1_024), term_of_length(1_025)];
     let measure = terms.iter().map(|term| stack::depth(call_measure, &mut term.as_bytes())).max().unwrap_or(0);
+    let import = CLAUSE_TEXTS.iter().map(|texts| depth_of_import(texts.shortest())).max().unwrap_or(0);
     [
         Depth { call: "check", bytes: most(call_check) },
         Depth { call: "reserve", bytes: most(call_reserve) },
         Depth { call: "measure", bytes: measure },
         Depth { call: "cerrundix_sheet", bytes: most(call_sheet) },
+        Depth { call: "cerrundix_import", bytes: import },
     ]
 }
 

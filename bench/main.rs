@@ -1,6 +1,8 @@
 //! The benchmark: what a check costs in the project's static library and in the plain implementation of the documents, on
-//! packs of several kinds, what a sheet costs beside a check, and how much stack a call uses.
+//! packs of several kinds, what a sheet costs beside a check, what an import costs for each byte, and how much stack a call
+//! uses.
 //!   bench            sees that both answer alike, then prints the tables of times and the stack
+//!   bench --import   prints the times of the import alone
 //!   bench --stack    prints the stack alone
 //!   bench --check    judges, without times: 'ok: ..' or 'FAILED: ..' for each kind and each call; status 1 if one fails
 
@@ -15,6 +17,7 @@ mod facts;
 mod filling;
 #[path = "../fuzz/generate.rs"]
 mod generate;
+mod imports;
 mod kinds;
 #[path = "../fuzz/library.rs"]
 mod library;
@@ -36,10 +39,11 @@ fn main() -> ExitCode {
     let all = kinds::kinds();
     match arguments.iter().map(String::as_str).collect::<Vec<_>>()[..] {
         [] => show_times(all),
+        ["--import"] => imports::show_times(),
         ["--stack"] => show_stack(&all),
         ["--check"] => return check_all(&all),
         _ => {
-            eprintln!("usage: bench/run [--check or --stack]");
+            eprintln!("usage: bench/run [--check, --import or --stack]");
             return ExitCode::from(2);
         }
     }
@@ -60,6 +64,8 @@ fn show_times(all: Vec<Kind>) {
     time::show(&rows[..count]);
     println!("\nthe last row's packs by their length");
     time::show(&rows[count..]);
+    println!("\nimport, best of {} rounds", imports::ROUNDS);
+    imports::show_times();
     println!();
     show_stack(&rows.into_iter().map(|row| row.kind).collect::<Vec<Kind>>());
 }
@@ -103,6 +109,10 @@ fn check_all(all: &[Kind]) -> ExitCode {
     // Or nothing would have been compared but packs that are accepted.
     let has_both = refused > 0 && residuals > 0;
     report.line(has_both, &format!("damaged copies: {refused} refused, {residuals} of them with a residual"));
+    for texts in &imports::CLAUSE_TEXTS {
+        let judged = texts.judge();
+        report.line(judged.is_ok(), &judged.unwrap_or_else(|fault| fault));
+    }
     check_stack(all, &mut report);
     ExitCode::from(u8::from(report.has_failure))
 }

@@ -105,9 +105,9 @@ fn missing(command: &Command, found: usize) -> &'static str {
 pub fn help(command: Option<&Command>) -> String {
     let flags = "  --json      answer with one JSON object (docs/packdesk.1 says what its keys mean)\n  \
                  -h, --help  this text\n  --version   the version\n  --          what follows is no flag\n";
-    let statuses = "Exit status: 0 accepted, 1 the pack, a query or a term is refused, 2 misuse, a file that\n\
-                    can't be read or output that can't be written, 3 the desk works out something else than\n\
-                    the library answers.\n";
+    let statuses = "Exit status: 0 accepted, 1 the pack, a query, a term or a clause text is refused, 2 misuse,\n\
+                    a file that can't be read or output that can't be written, 3 the desk works out something\n\
+                    else than the library answers.\n";
     let Some(command) = command else {
         let rows = COMMANDS
             .iter()

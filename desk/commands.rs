@@ -1,7 +1,7 @@
 //! The commands. A command more is an entry more in the table.
 
 use crate::report::{Misuse, Report};
-use crate::{check, measure, reserve, sheet};
+use crate::{check, import, measure, reserve, sheet};
 use std::ffi::OsStr;
 
 pub struct Command {
@@ -15,7 +15,7 @@ pub struct Command {
     pub run: fn(&[&OsStr]) -> Result<Report, Misuse>,
 }
 
-pub const COMMANDS: [Command; 4] = [
+pub const COMMANDS: [Command; 5] = [
     Command {
         name: "check",
         operands: "PACK",
@@ -67,5 +67,19 @@ and nothing else: for each rule a line of 64 columns with the rule's number, its
 many subgoals and how many M lines it has. A refused pack has no sheet; it is explained as check
 does.",
         run: sheet::run,
+    },
+    Command {
+        name: "import",
+        operands: "CLAUSES",
+        least: 1,
+        most: 1,
+        about: "print a maker's Prolog clauses as H and B lines of a pack",
+        help: "\
+Imports the clauses in the file CLAUSES (- reads standard input), facts and rules in a subset of
+Prolog, and prints the lines that the library writes for them, and nothing else: an H line for
+each clause and a B line for each subgoal, to be put into a pack. Refused: the line with a mark
+under the first token that cannot stand there, and what may stand there instead; or the clause
+that passes a limit of packs, and by what.",
+        run: import::run,
     },
 ];

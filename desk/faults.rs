@@ -1,7 +1,9 @@
-//! What is wrong with a line, a query or a term that the library refuses, and what to mend. For each number there is one
-//! explanation, which looks for the fault that the number names; where it finds none, the desk and the library disagree.
+//! What is wrong with a line, a query, a term or a clause text that the library refuses, and what to mend. For each number
+//! there is one explanation, which looks for the fault that the number names; where it finds none, the desk and the library
+//! disagree.
 
 mod bytes;
+pub mod clause_limits;
 mod counts;
 mod declarations;
 mod facts;
@@ -10,12 +12,15 @@ mod heads;
 mod names;
 mod numbers;
 mod order;
+pub mod subset;
 mod terms;
 mod text;
 
+use crate::candidates::Candidate;
 use crate::facts::FactJudgement;
 use crate::heads::HeadlessPredicate;
 use crate::pack::{fields_of, Pack};
+use clause_limits::ClauseLimits;
 use std::ops::Range;
 pub use text::{of_text, LastLine, Length};
 
@@ -27,10 +32,13 @@ pub struct Fault {
     pub detail: Option<Detail>,
 }
 
-/// What is shown beside the sentences: how a fact that fails a claim is judged (22), or which predicates head no rule (24).
+/// What is shown beside the sentences: how a fact that fails a claim is judged (22), which predicates head no rule (24), what
+/// may stand at a place of a clause text (25), or which limits a clause passes (26).
 pub enum Detail {
     Fact(FactJudgement),
     Heads(Vec<HeadlessPredicate>),
+    Candidates(Vec<Candidate>),
+    Limits(ClauseLimits),
 }
 
 impl Fault {

@@ -1,7 +1,9 @@
 //! A finding as JSON; docs/packdesk.1 says what the keys mean.
 
+use crate::candidates::Candidate;
 use crate::claims::inequality;
 use crate::facts::{judge, FactJudgement, FailedClaim};
+use crate::faults::clause_limits::{ClauseLimits, LimitPassed};
 use crate::faults::Detail;
 use crate::findings::{numbers_of, Refusal, Working};
 use crate::forms::Form;
@@ -72,8 +74,30 @@ pub fn refusal_json(refusal: &Refusal) -> Json {
         Some(Working::Rule(judgement)) => json.with("judgement", judgement_json(judgement)),
         Some(Working::Fault(Detail::Fact(judgement))) => json.with("judgement", fact_judgement_json(judgement)),
         Some(Working::Fault(Detail::Heads(headless))) => json.with("judgement", heads_json(headless)),
+        Some(Working::Fault(Detail::Candidates(candidates))) => json.with("may_stand", candidates_json(candidates)),
+        Some(Working::Fault(Detail::Limits(limits))) => json.with("judgement", limits_json(limits)),
         None => json,
     }
+}
+
+fn candidates_json(candidates: &[Candidate]) -> Json {
+    Json::List(candidates.iter().map(|candidate| Json::text(candidate.words())).collect())
+}
+
+fn limits_json(limits: &ClauseLimits) -> Json {
+    let limit_json = |limit: &LimitPassed| {
+        Json::object([
+            ("counted", Json::text(limit.counted)),
+            ("found", Json::number(limit.found)),
+            ("most", Json::number(limit.highest)),
+        ])
+    };
+    Json::object([
+        ("clause", Json::number(limits.clause)),
+        ("line", Json::number(limits.line)),
+        ("head", Json::text(&limits.head)),
+        ("limits", Json::List(limits.limits.iter().map(limit_json).collect())),
+    ])
 }
 
 fn judgement_json(judgement: &Judgement) -> Json {

@@ -1,7 +1,9 @@
 //! A finding on the page: the verdict, the claims and facts of an accepted pack, or what is wrong and what to mend.
 
+use crate::candidates::Candidate;
 use crate::claims::{argument_name, inequality, remark};
 use crate::facts::FactJudgement;
+use crate::faults::clause_limits::ClauseLimits;
 use crate::faults::Detail;
 use crate::findings::{Refusal, Working};
 use crate::forms::Form;
@@ -9,8 +11,9 @@ use crate::heads::HeadlessPredicate;
 use crate::input::Source;
 use crate::pack::{Pack, Predicate};
 use crate::page::{Page, Style};
+use crate::quoting::shortened;
 use crate::residuals::Judgement;
-use crate::words::{count, listed};
+use crate::words::{count, grouped, listed};
 use cerrundix::Verdict;
 
 /// The heading that every answer on a pack begins with.
@@ -91,8 +94,8 @@ pub fn show_facts(page: &mut Page, pack: &Pack) {
     page.sentence(0, &format!("{come}. {each} meets every claim on its predicate."));
 }
 
-/// The line quoted, what is wrong, the working for claims that are not justified, not met or without a rule, and what to
-/// mend.
+/// The line quoted, what is wrong, the working for claims that are not justified, not met or without a rule, or what a
+/// clause text has or may have, and what to mend.
 pub fn show_refusal(page: &mut Page, refusal: &Refusal) {
     match &refusal.quote {
         Some(quote) => page.quote(quote.number, quote.text, quote.mark.as_ref()),
@@ -105,6 +108,8 @@ pub fn show_refusal(page: &mut Page, refusal: &Refusal) {
             Working::Rule(judgement) => show_judgement(page, judgement),
             Working::Fault(Detail::Fact(judgement)) => show_fact_judgement(page, judgement),
             Working::Fault(Detail::Heads(headless)) => show_headless(page, headless),
+            Working::Fault(Detail::Candidates(candidates)) => show_candidates(page, candidates),
+            Working::Fault(Detail::Limits(limits)) => show_limits(page, limits),
         }
         page.blank();
     }
@@ -149,6 +154,24 @@ fn show_headless(page: &mut Page, headless: &[HeadlessPredicate]) {
         for near in &predicate.near {
             page.row("near", Style::Plain, &near.written());
         }
+    }
+}
+
+/// What may stand at the place, each in a row.
+fn show_candidates(page: &mut Page, candidates: &[Candidate]) {
+    for (place, candidate) in candidates.iter().enumerate() {
+        page.row(if place == 0 { "may stand" } else { "" }, Style::Plain, candidate.words());
+    }
+}
+
+/// The clause by its head, and the limits that it passes.
+fn show_limits(page: &mut Page, limits: &ClauseLimits) {
+    let head = shortened(limits.head.as_bytes());
+    page.row(&format!("clause {}", limits.clause), Style::Plain, &format!("{head} (line {})", limits.line));
+    for (place, limit) in limits.limits.iter().enumerate() {
+        let (found, highest) = (grouped(limit.found as u64), grouped(limit.highest as u64));
+        let said = format!("{}: {found}, at most {highest}", limit.counted);
+        page.row(if place == 0 { "passed" } else { "" }, Style::Bad, &said);
     }
 }
 

@@ -1,4 +1,4 @@
-//! What the operands name: a pack in a file or on standard input, and queries or terms.
+//! What the operands name: a pack or a clause text in a file or on standard input, and queries or terms.
 
 use crate::faults::Length;
 use crate::report::Misuse;
@@ -11,7 +11,7 @@ use std::os::unix::ffi::OsStrExt;
 /// No more than this is read of a file. A pack is far shorter, so the library refuses it by what was read.
 const MOST_BYTES: u64 = 1 << 20;
 
-/// A pack's text, and what it is called on the page.
+/// The text of a pack or of clauses, and what it is called on the page.
 pub struct Source {
     pub shown: String,
     pub text: Vec<u8>,
@@ -29,6 +29,21 @@ impl Source {
 pub const STANDARD_INPUT: &str = "-";
 
 pub fn read_pack(operand: &OsStr) -> Result<Source, Misuse> {
+    read_source(operand, "pack")
+}
+
+/// All of a clause text: one that is cut off would be another text. The library takes texts of any length, but what more
+/// than this becomes has no room in a pack.
+pub fn read_clauses(operand: &OsStr) -> Result<Source, Misuse> {
+    let source = read_source(operand, "clause text")?;
+    if source.text.len() as u64 > MOST_BYTES {
+        let (shown, most) = (&source.shown, grouped(MOST_BYTES));
+        return Err(Misuse(format!("{shown} has over {most} bytes, and no longer clause text is read: split it")));
+    }
+    Ok(source)
+}
+
+fn read_source(operand: &OsStr, what: &str) -> Result<Source, Misuse> {
     if operand == STANDARD_INPUT {
         let text = read_at_most(io::stdin().lock()).map_err(|error| cannot_read("standard input", &error))?;
         let length = length_of(&text, None);
@@ -38,7 +53,7 @@ pub fn read_pack(operand: &OsStr) -> Result<Source, Misuse> {
     let file = File::open(operand).map_err(|error| cannot_read(&shown, &error))?;
     let metadata = file.metadata().map_err(|error| cannot_read(&shown, &error))?;
     if metadata.is_dir() {
-        return Err(Misuse(format!("{shown} is a folder; name the pack's file")));
+        return Err(Misuse(format!("{shown} is a folder; name the {what}'s file")));
     }
     let text = read_at_most(file).map_err(|error| cannot_read(&shown, &error))?;
     let length = length_of(&text, metadata.is_file().then_some(metadata.len()));

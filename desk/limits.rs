@@ -9,5 +9,6 @@ pub const RULES: usize = 64;
 pub const SUBGOALS: usize = 8;
 pub const VARIABLES: usize = 16;
 pub const HIGHEST_ARITY: i64 = 8;
+pub const HIGHEST_SYMBOL_ARITY: usize = 9;
 pub const HIGHEST_NUMBER: i64 = 9_999;
 pub const HIGHEST_SIZE: i64 = 65_535;

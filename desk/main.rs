@@ -1,11 +1,13 @@
-//! packdesk: says in words what the library answers of a pack, a query or a term, for those who write packs. Verdicts,
-//! bounds, sizes and sheets are the library's alone. What this program works out to explain them is compared with them at every
-//! run; where the two differ it says so, and ends with status 3.
+//! packdesk: says in words what the library answers of a pack, a query, a term or a clause text, for those who write packs.
+//! Verdicts, bounds, sizes, sheets and imported lines are the library's alone. What this program works out to explain them
+//! is compared with them at every run; where the two differ it says so, and ends with status 3.
 
 mod arguments;
 mod bounds;
+mod candidates;
 mod check;
 mod claims;
+mod clauses;
 mod commands;
 mod facts;
 mod faults;
@@ -14,6 +16,7 @@ mod findings_json;
 mod findings_page;
 mod forms;
 mod heads;
+mod import;
 mod input;
 mod json;
 mod letters;
@@ -32,6 +35,10 @@ mod sheet;
 mod terms;
 mod tokens;
 mod words;
+
+#[cfg(test)]
+#[path = "../tests/desk/clause_texts.rs"]
+mod clause_texts;
 
 #[cfg(test)]
 #[path = "../tests/desk/vectors.rs"]

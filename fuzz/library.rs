@@ -1,4 +1,4 @@
-//! The project's static library as C sees it: three functions with an answer of one 64-bit word, and one with an answer of
+//! The project's static library as C sees it: three functions with an answer of one 64-bit word, and two with an answer of
 //! four.
 
 #[repr(C)]
@@ -19,6 +19,8 @@ extern "C" {
     fn library_measure(term: *const u8, term_length: usize) -> u64;
     #[link_name = "cerrundix_sheet"]
     fn library_sheet(text: *const u8, text_length: usize, page: *mut u8, page_length: usize) -> FourNumbers;
+    #[link_name = "cerrundix_import"]
+    fn library_import(text: *const u8, text_length: usize, buffer: *mut u8, buffer_length: usize) -> FourNumbers;
 }
 
 pub fn check(text: &[u8], area: &mut [i64]) -> u64 {
@@ -39,5 +41,11 @@ pub fn measure(term: &[u8]) -> u64 {
 pub fn sheet(text: &[u8], page: &mut [u8]) -> [u64; 4] {
     // Safe: as above.
     let four = unsafe { library_sheet(text.as_ptr(), text.len(), page.as_mut_ptr(), page.len()) };
+    [four.number, four.line, four.rule, four.claim]
+}
+
+pub fn import(text: &[u8], buffer: &mut [u8]) -> [u64; 4] {
+    // Safe: as above.
+    let four = unsafe { library_import(text.as_ptr(), text.len(), buffer.as_mut_ptr(), buffer.len()) };
     [four.number, four.line, four.rule, four.claim]
 }

@@ -1,11 +1,15 @@
 //! The fuzz test: asks the project's static library and the plain implementation of the documents the same questions
-//! about packs made at random, and fails if two answers differ or if some kind of answer never occurred.
+//! about packs and clause texts made at random, and fails if two answers differ or if some kind of answer never occurred.
 
 mod damage;
+mod damage_clauses;
 mod generate;
+mod generate_clauses;
+mod imports;
 mod library;
 mod limits;
 mod plain;
+mod plain_import;
 mod question;
 mod random;
 mod tally;
@@ -194,10 +198,11 @@ fn ask_about_pack(random: &mut Random, number: u64, tally: &mut Tally) {
     let sheet = Question { call: Call::Sheet, area: Vec::new(), page, ..check };
     let answer = compare(&sheet, number, tally);
     tally.count_sheet(answer.numbers);
+    imports::ask_about_clauses(random, number, tally);
 }
 
 /// Asks both and returns the library's answer; a difference is counted, and shown if it is among the first.
-fn compare(question: &Question, number: u64, tally: &mut Tally) -> Answer {
+pub fn compare(question: &Question, number: u64, tally: &mut Tally) -> Answer {
     let answer = question.ask_library();
     if tally.shows_questions {
         show_question(question, number);
@@ -220,7 +225,7 @@ fn show_difference(question: &Question, number: u64) {
     if question.call == Call::Reserve {
         println!("  query {}", hexadecimal(&question.query));
     }
-    if question.call == Call::Sheet {
+    if question.call == Call::Sheet || question.call == Call::Import {
         println!("  page  {}", hexadecimal(&question.page));
     }
     show_answers(question);
@@ -239,6 +244,11 @@ fn show_question(question: &Question, number: u64) {
         Call::Reserve => println!("reserve {}", question.query.escape_ascii()),
         Call::Measure => println!("measure {}", question.text.escape_ascii()),
         Call::Sheet => println!("sheet on a page of {}:", question.page.len()),
+        Call::Import => {
+            println!("import of {} bytes to a buffer of {}:", question.text.len(), question.page.len());
+            question.text.split_inclusive(|byte| *byte == 10).for_each(|line| println!("  {}", line.escape_ascii()));
+            println!("  clauses {}", hexadecimal(&question.text));
+        }
     }
     show_answers(question);
 }
@@ -261,7 +271,7 @@ fn show_answer(side: &str, call: Call, answer: &Answer) {
         ),
         Call::Reserve => println!("  {side}: {},{},{}", (word as u8) as char, word >> 16, word >> 8 & 0xFF),
         Call::Measure => println!("  {side}: refusal {}, size {}", word & 0xFF, word >> 8),
-        Call::Sheet => {
+        Call::Sheet | Call::Import => {
             let [number, line, rule, claim] = answer.numbers;
             println!("  {side}: {number},{line},{rule},{claim}, page {}", hexadecimal(&answer.page));
         }

@@ -1,6 +1,6 @@
 //! One question to a call, asked of the library and of the plain implementation.
 
-use crate::{library, plain};
+use crate::{library, plain, plain_import};
 
 #[derive(Clone, Copy, PartialEq, Debug)]
 pub enum Call {
@@ -8,18 +8,19 @@ pub enum Call {
     Reserve,
     Measure,
     Sheet,
+    Import,
 }
 
 #[derive(Clone)]
 pub struct Question {
     pub call: Call,
-    /// The pack, or the term for `measure`.
+    /// The pack, the term for `measure`, or the clauses for `import`.
     pub text: Vec<u8>,
     /// The area at entry, for `check`.
     pub area: Vec<i64>,
     /// For `reserve`.
     pub query: Vec<u8>,
-    /// The page at entry, for `sheet`.
+    /// The page at entry, for `sheet`, or the buffer, for `import`.
     pub page: Vec<u8>,
     /// The byte that stands before and after the lent texts, many times: the answer must not depend on it.
     pub guard: u8,
@@ -29,11 +30,11 @@ pub struct Question {
 pub struct Answer {
     /// Of the calls that answer with a word.
     pub word: u64,
-    /// Of the sheet.
+    /// Of the sheet and the import.
     pub numbers: [u64; 4],
     /// The area at exit.
     pub area: Vec<i64>,
-    /// The page at exit.
+    /// The page or the buffer at exit.
     pub page: Vec<u8>,
     /// Whether all memory but the area and the page has stayed as it was.
     pub rest_is_unchanged: bool,
@@ -86,6 +87,7 @@ impl Question {
             Call::Reserve => word = library::reserve(text.inner(), query.inner()),
             Call::Measure => word = library::measure(text.inner()),
             Call::Sheet => numbers = library::sheet(text.inner(), page.inner_mut()),
+            Call::Import => numbers = library::import(text.inner(), page.inner_mut()),
         }
         let are_texts_unchanged = text.is_unchanged() && query.is_unchanged();
         let rest_is_unchanged = are_texts_unchanged && area.guards_are_unchanged() && page.guards_are_unchanged();
@@ -100,37 +102,57 @@ impl Question {
             Call::Reserve => word = plain::word_of_reserve(plain::reserve(&self.text, &self.query)),
             Call::Measure => word = plain::word_of_measure(plain::measure(&self.text)),
             Call::Sheet => numbers = plain::sheets::sheet(&self.text, &mut page),
+            Call::Import => numbers = plain_import::import(&self.text, &mut page),
         }
         Answer { word, numbers, area, page, rest_is_unchanged: true }
     }
 
-    fn has_two_answers(&self) -> bool {
-        self.ask_library() != self.ask_plain()
+    /// The question with parts of the text left out that the difference does not need: of a pack lines, of clauses bytes.
+    pub fn reduced(&self) -> Question {
+        if self.call == Call::Import {
+            self.without_bytes()
+        } else {
+            self.without_lines()
+        }
     }
 
-    /// The question with lines left out that the difference does not need: runs of many lines first, since the lines of
-    /// a rule belong together, at last single ones.
-    pub fn reduced(&self) -> Question {
+    /// Runs of many lines first, since the lines of a rule belong together, at last single ones.
+    fn without_lines(&self) -> Question {
         let mut smallest = self.clone();
         for run in [512, 128, 32].into_iter().chain((1..=24).rev()) {
-            smallest = smallest.without_runs(run);
-        }
-        smallest
-    }
-
-    /// Leaves out every run of so many lines that can be missed.
-    fn without_runs(self, run: usize) -> Question {
-        let mut smallest = self;
-        let mut line = 0;
-        while let Some(text) = without_lines(&smallest.text, line, run) {
-            let shorter = Question { text, ..smallest.clone() };
-            if shorter.has_two_answers() {
-                smallest = shorter;
-            } else {
-                line += 1;
+            let mut line = 0;
+            while let Some(text) = without_lines(&smallest.text, line, run) {
+                line += usize::from(!smallest.takes(text));
             }
         }
         smallest
+    }
+
+    /// The half of the text first, then ever shorter runs of bytes, down to single ones; so many attempts at most, since a
+    /// text of clauses has no limit.
+    fn without_bytes(&self) -> Question {
+        let (mut smallest, mut attempts) = (self.clone(), 4_000);
+        let mut run = self.text.len() / 2;
+        while run > 0 {
+            let mut first = 0;
+            while first + run <= smallest.text.len() && attempts > 0 {
+                let text = [&smallest.text[..first], &smallest.text[first + run..]].concat();
+                first += if smallest.takes(text) { 0 } else { run };
+                attempts -= 1;
+            }
+            run /= 2;
+        }
+        smallest
+    }
+
+    /// Is there a difference with this text too? Then it is the question's text from here on.
+    fn takes(&mut self, text: Vec<u8>) -> bool {
+        let shorter = Question { text, ..self.clone() };
+        let has_two_answers = shorter.ask_library() != shorter.ask_plain();
+        if has_two_answers {
+            *self = shorter;
+        }
+        has_two_answers
     }
 }
 

@@ -2,6 +2,8 @@
 
 #[path = "tally_arities.rs"]
 mod arities;
+#[path = "tally_imports.rs"]
+mod imports;
 
 use crate::plain;
 use std::collections::BTreeMap;
@@ -27,6 +29,7 @@ pub struct Tally {
     /// How often each kind of answer occurred, under names as `check 13` or `reserve B`.
     answers: BTreeMap<String, u64>,
     pub bytes: u64,
+    pub clause_bytes: u64,
     pub differences: u64,
     /// Whether every question is shown: for a pack that is made again alone.
     pub shows_questions: bool,
@@ -96,27 +99,37 @@ impl Tally {
         }
     }
 
+    pub fn count_import(&mut self, numbers: [u64; 4], text: &[u8], room: usize) {
+        imports::kinds_of_import(numbers, text, room).into_iter().for_each(|name| self.count(name));
+    }
+
     /// Prints how often each answer occurred.
     pub fn report(&self, start: Instant) {
         let mut names: Vec<&String> = self.answers.keys().collect();
         names.sort_by_key(|name| (name.split(' ').next(), name.len(), name.to_string()));
         let counts: Vec<String> = names.iter().map(|name| format!("{name}: {}", self.answers[*name])).collect();
         println!("{}", counts.join(", "));
-        println!("{} bytes of packs, {:.1} seconds", self.bytes, start.elapsed().as_secs_f64());
+        let seconds = start.elapsed().as_secs_f64();
+        println!("{} bytes of packs, {} bytes of clauses, {seconds:.1} seconds", self.bytes, self.clause_bytes);
     }
 
-    /// Names the answers that must occur and did not; true if there is one.
+    /// Names the answers that must occur and did not, or too rarely; true if there is one.
     pub fn say_missing(&self) -> bool {
-        let missing: Vec<String> =
-            needed_answers().into_iter().filter(|name| !self.answers.contains_key(name)).collect();
-        for name in &missing {
-            println!("FAILED: never met: {name}");
+        let packs = needed_answers().into_iter().map(|name| (name, 1));
+        let imports = imports::needed_answers().map(|name| (name, imports::FEWEST));
+        let mut is_missing = false;
+        for (name, fewest) in packs.chain(imports) {
+            let met = self.answers.get(&name).copied().unwrap_or(0);
+            if met < fewest {
+                println!("FAILED: met {met} times, fewer than {fewest}: {name}");
+                is_missing = true;
+            }
         }
-        !missing.is_empty()
+        is_missing
     }
 }
 
-/// All answers that a run must have met.
+/// All answers about packs that a run must have met.
 fn needed_answers() -> Vec<String> {
     let check = (0..=13).chain([20, 21, 22, 24]).map(|number| format!("check {number}"));
     let check = check.chain([ACCEPTED_WITH_FACTS, LINES_AFTER_24, FIELDS_BEFORE_24].map(String::from));

@@ -1,13 +1,14 @@
-/* Cerrundix: checks the size claims of a rule pack, reserves by them, measures ground terms, writes a pack's sheet.
+/* Cerrundix: checks the size claims of a rule pack, reserves by them, measures ground terms, writes a pack's sheet, and
+ * imports the clauses that makers send as Prolog text, as lines of a pack.
  *
  * Link with libcerrundix.a (`scripts/prepare library` makes it, for x86-64 Linux). The library keeps no state, so threads
  * may call it at the same time; it takes no memory from the heap, and calls nothing but memset and memcpy. Each call
- * returns, whatever the bytes, given enough stack (check, reserve and the sheet used 17,608 bytes at most, measure 1,944:
- * bench/README.md); no call reads or writes outside the buffers that it is lent. What each answer means is proved against
- * documents 01 and 02 (docs/MAP.md).
+ * returns, whatever the bytes, given enough stack (check, reserve and the sheet used 17,608 bytes at most, the import
+ * 12,544, measure 1,944: bench/README.md); no call reads or writes outside the buffers that it is lent. What each answer
+ * means is proved against documents 01 and 02 (docs/MAP.md).
  *
  * A buffer is a pointer and a length. A buffer of length 0 may be lent as NULL and 0. No buffer needs to end with a zero
- * byte. What a call may write to, the residual area or the page, must not overlap the text.
+ * byte. What a call may write to, the residual area, the page or the buffer for lines, must not overlap the text.
  */
 #ifndef CERRUNDIX_H
 #define CERRUNDIX_H
@@ -72,6 +73,26 @@ struct cerrundix_answer {
  * A refusal leaves the whole page as it was, and a pack's own comes before 23. A page of CERRUNDIX_SHEET_LIMIT bytes is
  * long enough for every pack; a pack without rules needs none, and NULL and 0 will do. */
 struct cerrundix_answer cerrundix_sheet(const uint8_t *text, size_t text_length, uint8_t *page, size_t page_length);
+
+/* Imports clause text: facts and rules in a subset of Prolog (docs/FORMAT.md says which). To the front of a buffer it
+ * writes for each clause an `H` line, the head, and a `B` line for each subgoal, as a pack has them, each with its byte 10:
+ * of `p(a,f(X,_)) :- q(X), r.` the three lines `H,p,a/0,f/2 X V1`, `B,q,X` and `B,r`. There is no zero byte at the end. The
+ * lines are no pack yet: P, C, M and E lines have to be put with them. The answer is
+ *   number 0: the lines are written; line holds the count of clauses, rule that of the bytes written, claim is 0. What
+ *   lies after them in the buffer is unchanged. A text without clauses, an empty one too, is answered 0, 0, 0, 0
+ *   number 25: the text is not in the subset; line is the byte, from 0, where the first token starts that cannot continue
+ *   it, or the text's length where it ends inside a clause
+ *   number 26: a clause would pass a limit of packs: a line of over 1,024 bytes, over 8 arguments of a head or subgoal, 9
+ *   of a symbol inside them, a name or variable of over 16 bytes, over 8 subgoals or 16 variables; line is the clause, from 1
+ *   number 27: the buffer is shorter than the lines up to and including this clause's; line is the clause, from 1
+ * rule and claim are 0 for these three. A refusal leaves the whole buffer as it was. The clauses are tested one after the
+ * other, each for 25, then 26, then 27. The text may have any length; NULL and 0 will do for the buffer of a text without
+ * clauses. */
+struct cerrundix_answer cerrundix_import(const uint8_t *text, size_t text_length, uint8_t *buffer, size_t buffer_length);
+
+/* A buffer of so many bytes is long enough for every text of this length: 27 is never given, which is proved. Two bytes of
+ * text give four at most, as `a.` gives `H,a` and its byte 10, `,a` gives `,a/0`, and `,_` gives `,V16` or shorter. */
+#define CERRUNDIX_IMPORT_ROOM(text_length) (2 * (size_t)(text_length))
 
 /* The first three calls by prefixed names, for code that has the prefix everywhere. Where a name is a macro, as when the
  * archive's own names are changed (README.md), the declaration above has the name that it stands for, and there is none
@@ -142,6 +163,9 @@ static inline const char *cerrundix_reason(unsigned number) {
     case 22: return "a fact on a G line fails a claim on its predicate: correct the fact or weaken the claim";
     case 23: return "the page is shorter than the sheet, 65 bytes for each rule: lend a longer one, 4,160 bytes do for every pack";
     case 24: return "a ruled predicate has a claim and heads no rule: look for a head that is misspelt or has another number of arguments, add its rules, or take its claims out";
+    case 25: return "the text is not in the subset of Prolog that is imported: look at the token at this byte; where it is the text's length, the last clause is not ended";
+    case 26: return "a clause passes a limit: a line of 1,024 bytes, 8 arguments of a head or subgoal, 9 of a symbol, 16 bytes of a name or variable, 8 subgoals, 16 variables: shorten or split it";
+    case 27: return "the buffer is shorter than the lines up to this clause: lend a longer one, twice as long as the text does for every text";
     default: return "no refusal of this library";
     }
 }

@@ -1,7 +1,7 @@
 // Calls the library as the terminal's firmware does, and runs the program packcheck, on the cases of vector files
-// (tests/vectors/README.md says what their lines are). Answers are compared whole: each word, the sheet's four numbers,
-// check's area and the sheet's page at exit, the program's output. All that a call is lent stands between guard bytes, and
-// nothing may be written but check's area and the page.
+// (tests/vectors/README.md says what their lines are). Answers are compared whole: each word, the four numbers of sheet and
+// import, check's area, the sheet's page and the import's buffer at exit, the program's output. All that a call is lent
+// stands between guard bytes, and nothing may be written but check's area, the page and the buffer.
 //
 //     calls PROGRAM FILE...
 //
@@ -9,82 +9,13 @@
 // 'ok: N CALL of FILE' with the number of cases that passed. It exits with 1 if anything failed.
 #define _POSIX_C_SOURCE 200809L
 #include "cerrundix.h"
+#include "lent_buffers.h"
 #include "vector_lines.h"
 
 #include <sys/wait.h>
 
 // The longest that a run of the program, and the calls of one file, may take before they count as hanging, in seconds.
 enum { PROGRAM_SECONDS = 60, FILE_SECONDS = 600 };
-
-// ---- Lending
-
-// Bytes lent to a call, between guards, and a copy of all that: what it has to be when the call has returned.
-struct lent {
-    uint8_t *block;
-    uint8_t *expected;
-    size_t guard;
-    size_t length;
-};
-
-// Text is lent at an odd address, as nothing may count on another; an area where 64-bit numbers may lie.
-enum { TEXT_GUARD = 77, AREA_GUARD = 16 * sizeof(int64_t) };
-
-static struct lent lend(struct bytes bytes, size_t guard)
-{
-    size_t size = guard + bytes.length + guard;
-    struct lent lent = {memory(NULL, size), memory(NULL, size), guard, bytes.length};
-    for (size_t i = 0; i < size; i++)
-        lent.block[i] = (uint8_t)(37 * i + 11);
-    memcpy(lent.block + guard, bytes.at, bytes.length);
-    memcpy(lent.expected, lent.block, size);
-    return lent;
-}
-
-static uint8_t *lent_bytes(struct lent lent)
-{
-    return lent.block + lent.guard;
-}
-
-// Sees that a call wrote nothing to what it was lent to read, nor beside it.
-static void compare_unwritten(struct lent lent, const char *what)
-{
-    for (size_t i = 0; i < lent.guard + lent.length + lent.guard; i++)
-        if (lent.block[i] != lent.expected[i])
-            fail("the call wrote %d over %d at byte %td of the %s, which has %zu: expected no write", lent.block[i],
-                 lent.expected[i], (ptrdiff_t)(i - lent.guard), what, lent.length);
-}
-
-// Sees that the area is as it should be at exit, and that nothing was written beside it.
-static void compare_area(struct lent area, struct bytes at_exit)
-{
-    memcpy(area.expected + area.guard, at_exit.at, at_exit.length);
-    const int64_t *got = (const int64_t *)area.block, *expected = (const int64_t *)area.expected;
-    size_t before = area.guard / sizeof *got, count = area.length / sizeof *got;
-    for (size_t i = 0; i < before + count + before; i++)
-        if (got[i] != expected[i])
-            fail("number %td of the area, which has %zu: expected %" PRId64 ", got %" PRId64,
-                 (ptrdiff_t)(i - before) + 1, count, expected[i], got[i]);
-}
-
-// A page of so many bytes to write on. It is filled with bytes above 127, another one at each place, and no sheet has such:
-// so a byte that is not written shows, and one that is written where no sheet lies.
-static struct lent lend_page(size_t length)
-{
-    struct bytes page = no_bytes();
-    for (size_t i = 0; i < length; i++)
-        append_byte(&page, (uint8_t)(128 + (37 * i + 11) % 128));
-    return lend(page, TEXT_GUARD);
-}
-
-// Sees that the sheet lies at the front of the page, and that nothing was written after it or beside the page.
-static void compare_page(struct lent page, struct bytes sheet)
-{
-    memcpy(page.expected + page.guard, sheet.at, sheet.length);
-    for (size_t i = 0; i < page.guard + page.length + page.guard; i++)
-        if (page.block[i] != page.expected[i])
-            fail("byte %td of the page, which has %zu, counted from 0: expected %d, got %d", (ptrdiff_t)(i - page.guard),
-                 page.length, page.expected[i], page.block[i]);
-}
 
 // ---- The calls
 
@@ -152,9 +83,9 @@ static void try_measure(struct reader *reader)
     compare_unwritten(lent, "term");
 }
 
-// `sheet TEXT ROOM NUMBERS SHEET`: how many bytes the page has, the four numbers, and the sheet, of no bytes where none is
-// written.
-static void try_sheet(struct reader *reader)
+// `CALL TEXT ROOM NUMBERS WRITTEN`: how many bytes the page has, the four numbers, and what is written to its front, of no
+// bytes where nothing is.
+static void try_written(struct reader *reader, struct cerrundix_answer (*call)(const uint8_t *, size_t, uint8_t *, size_t))
 {
     struct bytes text = read_bytes(reader);
     next_field(reader);
@@ -162,18 +93,30 @@ static void try_sheet(struct reader *reader)
     next_field(reader);
     uint64_t number = read_part(reader, 63), line = read_next_part(reader, 63);
     uint64_t rule = read_next_part(reader, 63), claim = read_next_part(reader, 63);
-    struct bytes sheet = read_bytes(reader);
-    if (sheet.length > room)
-        misread(reader, "the sheet has more bytes than there is room");
+    struct bytes written = read_bytes(reader);
+    if (written.length > room)
+        misread(reader, "more bytes are to be written than there is room");
     if (!understood(reader))
         return;
     struct lent lent = lend(text, TEXT_GUARD), page = lend_page(room);
-    struct cerrundix_answer got = cerrundix_sheet(lent_bytes(lent), text.length, lent_bytes(page), room);
+    struct cerrundix_answer got = call(lent_bytes(lent), text.length, lent_bytes(page), room);
     if (got.number != number || got.line != line || got.rule != rule || got.claim != claim)
         fail("expected %" PRIu64 ",%" PRIu64 ",%" PRIu64 ",%" PRIu64 ", got %" PRIu64 ",%" PRIu64 ",%" PRIu64 ",%" PRIu64,
              number, line, rule, claim, got.number, got.line, got.rule, got.claim);
-    compare_page(page, sheet);
+    compare_page(page, written);
     compare_unwritten(lent, "text");
+}
+
+// `sheet TEXT ROOM NUMBERS SHEET`.
+static void try_sheet(struct reader *reader)
+{
+    try_written(reader, cerrundix_sheet);
+}
+
+// `import TEXT ROOM NUMBERS LINES`.
+static void try_import(struct reader *reader)
+{
+    try_written(reader, cerrundix_import);
 }
 
 // ---- The program
@@ -264,7 +207,7 @@ static void name_bytes(struct reader *reader)
     reader->at += length;
     struct bytes bytes = read_bytes(reader);
     if (names == MOST_NAMES)
-        misread(reader, "too many names: raise MOST_NAMES in tests/calls.c");
+        misread(reader, "too many names: raise MOST_NAMES in tests/vector_lines.h");
     if (!understood(reader))
         return;
     named[names].name = name;
@@ -279,6 +222,7 @@ static const struct {
              {"reserve", try_reserve},
              {"measure", try_measure},
              {"sheet", try_sheet},
+             {"import", try_import},
              {"program", try_program}};
 enum { CALLS = sizeof calls / sizeof calls[0] };
 
@@ -303,7 +247,7 @@ static void try_line(const char *line, size_t passed[CALLS])
             passed[i] += line_failed ? 0 : 1;
             return;
         }
-    fail("a line begins with check, reserve, measure, sheet, program, let or #: '%.40s'", line);
+    fail("a line begins with check, reserve, measure, sheet, import, program, let or #: '%.40s'", line);
 }
 
 // Tries each line of a file's text, which it cuts at byte 10.
@@ -364,8 +308,27 @@ static void try_null(void)
         fail("measure of an empty term gives another word than 11");
     else if (cerrundix_sheet(NULL, 0, NULL, 0).number != 3 || cerrundix_sheet((const uint8_t *)"E\n", 2, NULL, 0).number != 0)
         fail("the sheet's number is another than 3 of an empty pack and 0 of one without rules");
+    else if (cerrundix_import(NULL, 0, NULL, 0).number != 0 || cerrundix_import((const uint8_t *)"a.", 2, NULL, 0).number != 27)
+        fail("the import's number is another than 0 of an empty text and 27 of a clause without a buffer");
     else
-        printf("ok: 6 calls on empty buffers lent as NULL\n");
+        printf("ok: 8 calls on empty buffers lent as NULL\n");
+}
+
+// The room that cerrundix.h has for a text: `a.` needs all of it.
+static void try_room(void)
+{
+    static const uint8_t text[] = {'a', '.'};
+    uint8_t buffer[CERRUNDIX_IMPORT_ROOM(sizeof text)];
+    file_name = "tests/calls.c";
+    line_number = __LINE__;
+    call_name = "CERRUNDIX_IMPORT_ROOM";
+    line_failed = false;
+    struct cerrundix_answer got = cerrundix_import(text, sizeof text, buffer, sizeof buffer);
+    if (got.number != 0 || got.rule != sizeof buffer)
+        fail("the import of a. answers %" PRIu64 ", with %" PRIu64 " bytes: expected 0, and all %zu bytes of its room", got.number,
+             got.rule, sizeof buffer);
+    else
+        printf("ok: 1 call on a buffer of the room that the header has\n");
 }
 
 int main(int count, char **words)
@@ -379,6 +342,7 @@ int main(int count, char **words)
     watch_for_signals();
     program = words[1];
     try_null();
+    try_room();
     for (int i = 2; i < count; i++)
         try_file(words[i]);
     return any_failed ? 1 : 0;

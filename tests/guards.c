@@ -1,6 +1,7 @@
 // Stands between a caller and the library: each lent buffer is copied between guard bytes, the real call is made on the
-// copy, and it is seen that the guards stand, that nothing was written but the area or the page, and no more of those than
-// the documents allow. The linker puts these functions in front of the calls (--wrap), so the callers need not know of them.
+// copy, and it is seen that the guards stand, that nothing was written but the area, the page or the buffer for lines, and
+// no more of those than the documents allow. The linker puts these functions in front of the calls (--wrap), so the callers
+// need not know of them.
 #include "cerrundix.h"
 
 #include <stdio.h>
@@ -11,10 +12,12 @@ uint64_t __real_check(const uint8_t *text, size_t text_length, int64_t *area, si
 uint64_t __real_reserve(const uint8_t *text, size_t text_length, const uint8_t *query, size_t query_length);
 uint64_t __real_measure(const uint8_t *term, size_t term_length);
 struct cerrundix_answer __real_cerrundix_sheet(const uint8_t *text, size_t text_length, uint8_t *page, size_t page_length);
+struct cerrundix_answer __real_cerrundix_import(const uint8_t *text, size_t text_length, uint8_t *buffer, size_t buffer_length);
 uint64_t __wrap_check(const uint8_t *text, size_t text_length, int64_t *area, size_t area_length);
 uint64_t __wrap_reserve(const uint8_t *text, size_t text_length, const uint8_t *query, size_t query_length);
 uint64_t __wrap_measure(const uint8_t *term, size_t term_length);
 struct cerrundix_answer __wrap_cerrundix_sheet(const uint8_t *text, size_t text_length, uint8_t *page, size_t page_length);
+struct cerrundix_answer __wrap_cerrundix_import(const uint8_t *text, size_t text_length, uint8_t *buffer, size_t buffer_length);
 
 enum { GUARD = 64, FILL = 0xa5 };
 
@@ -80,17 +83,27 @@ uint64_t __wrap_measure(const uint8_t *term, size_t term_length) {
     return word;
 }
 
-struct cerrundix_answer __wrap_cerrundix_sheet(const uint8_t *text, size_t text_length, uint8_t *page, size_t page_length) {
+// A call that writes to the front of a page: no more of it than its answer counts, in units of so many bytes.
+static struct cerrundix_answer watch_page(struct cerrundix_answer (*call)(const uint8_t *, size_t, uint8_t *, size_t), size_t unit,
+                                          const uint8_t *text, size_t text_length, uint8_t *page, size_t page_length) {
     uint8_t *lent_text = lend(text, text_length), *lent_page = lend(page, page_length);
-    struct cerrundix_answer answer = __real_cerrundix_sheet(lent_text, text_length, lent_page, page_length);
-    size_t written = answer.number == 0 ? answer.rule * CERRUNDIX_SHEET_LINE : 0;
+    struct cerrundix_answer answer = call(lent_text, text_length, lent_page, page_length);
+    size_t written = answer.number == 0 ? answer.rule * unit : 0;
     if (written > page_length) {
-        fail("the sheet has more bytes than the page");
+        fail("a call counts more bytes than the page has");
     }
     if (page_length != written && memcmp(lent_page + written, page + written, page_length - written) != 0) {
-        fail("the sheet's call wrote more of the page than it may");
+        fail("a call wrote more of the page than it counts");
     }
     take_back(lent_text, text, NULL, text_length);
     take_back(lent_page, page, page, page_length);
     return answer;
+}
+
+struct cerrundix_answer __wrap_cerrundix_sheet(const uint8_t *text, size_t text_length, uint8_t *page, size_t page_length) {
+    return watch_page(__real_cerrundix_sheet, CERRUNDIX_SHEET_LINE, text, text_length, page, page_length);
+}
+
+struct cerrundix_answer __wrap_cerrundix_import(const uint8_t *text, size_t text_length, uint8_t *buffer, size_t buffer_length) {
+    return watch_page(__real_cerrundix_import, 1, text, text_length, buffer, buffer_length);
 }

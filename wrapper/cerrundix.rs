@@ -15,6 +15,7 @@ mod calls {
         pub fn reserve(text: *const u8, text_length: usize, query: *const u8, query_length: usize) -> u64;
         pub fn measure(term: *const u8, term_length: usize) -> u64;
         pub fn cerrundix_sheet(text: *const u8, text_length: usize, page: *mut u8, page_length: usize) -> Answer;
+        pub fn cerrundix_import(text: *const u8, text_length: usize, buffer: *mut u8, buffer_length: usize) -> Answer;
     }
 }
 
@@ -52,6 +53,59 @@ pub enum Filing {
     ShortPage,
     /// The pack is refused, with check's numbers: rule and claim are 0 but for 13.
     Refused { number: u64, line: u64, rule: u64, claim: u64 },
+}
+
+/// What import has written to the front of the buffer.
+#[derive(Debug, PartialEq)]
+pub struct Imported {
+    pub clauses: u64,
+    pub bytes: u64,
+}
+
+/// Why import has written nothing.
+#[derive(Debug, PartialEq)]
+pub enum ImportRefusal {
+    /// The text is not in the subset (25). The byte, from 0, where the first token starts that cannot continue it, or the
+    /// text's length where it ends inside a clause.
+    NotInSubset { byte: u64 },
+    /// This clause, from 1, passes a limit of packs (26).
+    PastLimit { clause: u64 },
+    /// The buffer is shorter than the lines up to and including those of this clause, from 1 (27).
+    ShortBuffer { clause: u64 },
+    /// Any other four numbers: no answer of this library.
+    Unknown([u64; 4]),
+}
+
+impl ImportRefusal {
+    /// The four numbers of the call.
+    pub fn numbers(&self) -> [u64; 4] {
+        match *self {
+            ImportRefusal::NotInSubset { byte } => [25, byte, 0, 0],
+            ImportRefusal::PastLimit { clause } => [26, clause, 0, 0],
+            ImportRefusal::ShortBuffer { clause } => [27, clause, 0, 0],
+            ImportRefusal::Unknown(numbers) => numbers,
+        }
+    }
+}
+
+impl std::fmt::Display for ImportRefusal {
+    fn fmt(&self, formatter: &mut std::fmt::Formatter) -> std::fmt::Result {
+        match self {
+            ImportRefusal::NotInSubset { byte } => write!(formatter, "refused (25) at byte {}", byte),
+            ImportRefusal::PastLimit { clause } => write!(formatter, "refused (26): clause {} passes a limit", clause),
+            ImportRefusal::ShortBuffer { clause } => {
+                write!(formatter, "refused (27): the buffer is too short for the lines up to clause {}", clause)
+            }
+            ImportRefusal::Unknown(numbers) => write!(formatter, "no answer of this library: {:?}", numbers),
+        }
+    }
+}
+
+impl std::error::Error for ImportRefusal {}
+
+/// The length of a buffer that is long enough for every text of this length.
+pub const fn import_room(text_length: usize) -> usize {
+    2 * text_length
 }
 
 /// Checks a pack.
@@ -100,5 +154,21 @@ pub fn sheet(pack: &[u8], page: &mut [u8]) -> Filing {
         (0, lines, rules, multiplier_lines) => Filing::Filed { lines, rules, multiplier_lines },
         (23, 0, 0, 0) => Filing::ShortPage,
         _ => Filing::Refused { number, line, rule, claim },
+    }
+}
+
+/// Writes the lines of a clause text to the front of a buffer: for each clause an `H` line and its `B` lines, each with its
+/// byte 10. The rest of the buffer stays as it is, and all of it if the text is refused. A buffer of `import_room` bytes is
+/// long enough.
+pub fn import(text: &[u8], buffer: &mut [u8]) -> Result<Imported, ImportRefusal> {
+    // Safe: both buffers are live for the call and do not overlap, and the library stays within their lengths.
+    let answer = unsafe { calls::cerrundix_import(text.as_ptr(), text.len(), buffer.as_mut_ptr(), buffer.len()) };
+    let calls::Answer { number, line, rule, claim } = answer;
+    match (number, line, rule, claim) {
+        (0, clauses, bytes, 0) => Ok(Imported { clauses, bytes }),
+        (25, byte, 0, 0) => Err(ImportRefusal::NotInSubset { byte }),
+        (26, clause, 0, 0) => Err(ImportRefusal::PastLimit { clause }),
+        (27, clause, 0, 0) => Err(ImportRefusal::ShortBuffer { clause }),
+        _ => Err(ImportRefusal::Unknown([number, line, rule, claim])),
     }
 }

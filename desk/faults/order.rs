@@ -105,7 +105,9 @@ fn no_letter(seen: &Pack, line: &[u8]) -> (String, String) {
     }
     if line.windows(2).any(|pair| pair == b":-") || first.contains(&b'(') {
         let wrong = "This looks like a clause in the usual notation, and a pack has lines of fields.";
-        let mend = "Write a rule as an H line, its B lines and its M lines, and a given fact as a G line";
+        let mend =
+            "Write a rule as an H line, its B lines and its M lines, and a given fact as a G line (packdesk import \
+                    writes clauses as H and B lines)";
         return (wrong.into(), format!("{mend}; {may_stand}."));
     }
     let wrong = format!("The first field, {}, is no letter that a line begins with.", quoted(first));

@@ -1,4 +1,4 @@
-//! Damage to packs, queries and terms, for the desk's run against the library (vectors.rs).
+//! Damage to packs, queries, terms and clause texts, for the desk's runs against the library (vectors.rs, clause_texts.rs).
 
 use super::random::Random;
 use crate::pack::{fields_of, lines_of};
@@ -10,6 +10,14 @@ const FIELDS: [&[u8]; 37] = [
     b"next", b"trail", b"tray/0", b"up/1 tray/0", b"3", b"8", b"path",
 ];
 const BYTES: &[u8] = b"PCGHBME,, /019-+XYan_.#(\n\n\r\t\x00\x7f\xc3\xa9";
+/// Parts of clause texts: tokens of the subset, tokens that it leaves out, and what passes limits.
+#[rustfmt::skip]
+const CLAUSE_PARTS: [&[u8]; 50] = [
+    b"a", b"X", b"_", b"V1", b"V2", b"(", b")", b",", b" ", b"\n", b":-", b".", b". ", b".\n", b"f(", b"f(X)", b"p(a) :- q.",
+    b"_,_", b"cons(_,", b"9", b"9a", b"_a", b"__", b"[", b"|", b"%", b"/*", b"\t", b"\r", b"'", b"\"", b"\\+", b"->", b"-->",
+    b"!", b";", b"=", b" is ", b" > Y", b":", b"-", b"{", b"\xc3\xa9", b"\x00", b"\xef\xbb\xbf", b"(a)", b" (",
+    b"abcdefghijklmnopq", b"a,a,a,a,a,a,a,a,a,a", b"_,_,_,_,_,_,_,_",
+];
 
 pub fn damage(text: &mut Vec<u8>, random: &mut Random) {
     if text.is_empty() {
@@ -76,6 +84,25 @@ pub fn damaged_bytes(bytes: &[u8], random: &mut Random) -> Vec<u8> {
         }
     }
     damaged
+}
+
+/// Puts a part in, takes some bytes out, repeats some, or cuts the text off.
+pub fn damage_clauses(text: &mut Vec<u8>, random: &mut Random) {
+    let place = random.below(text.len() + 1);
+    let end = (place + random.below(12)).min(text.len());
+    match random.below(10) {
+        0 => text.truncate(place),
+        1 | 2 => {
+            text.drain(place..end);
+        }
+        3 => {
+            let repeated = text[place..end].repeat(1 + random.below(20));
+            text.splice(place..place, repeated);
+        }
+        _ => {
+            text.splice(place..place, random.pick(&CLAUSE_PARTS).iter().copied());
+        }
+    }
 }
 
 /// A query of a predicate that the pack declares, mostly well-formed.

@@ -4,7 +4,9 @@
 #[path = "../../wrapper/cerrundix.rs"]
 mod truth;
 
-pub use truth::{Filing, Reservation, Residual, Verdict, SHEET_LIMIT, SHEET_LINE};
+pub use truth::{
+    import_room, Filing, ImportRefusal, Imported, Reservation, Residual, Verdict, SHEET_LIMIT, SHEET_LINE,
+};
 
 /// One rule more in an accepted pack of over nine lines; one more at the constant of a residual; a fact that fails a claim
 /// is passed, and so is a pack with a predicate that heads no rule; another number for any other refusal but 2. Where it is
@@ -56,3 +58,20 @@ pub fn sheet(pack: &[u8], page: &mut [u8]) -> Filing {
 
 /// The last byte of the first line's count of subgoals.
 const SUBGOALS: usize = 23;
+
+/// Of a text of one clause, one more; of two, another byte on the first line; of three, a byte more; of more, a byte after
+/// the lines. Of a text that is not in the subset the next place; a limit that is passed is said to be a short buffer.
+pub fn import(text: &[u8], buffer: &mut [u8]) -> Result<Imported, ImportRefusal> {
+    let mut imported = truth::import(text, buffer).map_err(|refusal| match refusal {
+        ImportRefusal::NotInSubset { byte } => ImportRefusal::NotInSubset { byte: byte + 1 },
+        ImportRefusal::PastLimit { clause } => ImportRefusal::ShortBuffer { clause },
+        other => other,
+    })?;
+    match imported.clauses {
+        1 => imported.clauses += 1,
+        2 => buffer[2] ^= 1,
+        3 => imported.bytes += 1,
+        _ => buffer[imported.bytes as usize] = 0,
+    }
+    Ok(imported)
+}

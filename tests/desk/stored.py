@@ -1,6 +1,7 @@
 """The stored outputs in tests/desk/expected: the JSON is JSON, its numbers and answers are those of the pack's .out file, and
-docs/packdesk.1 names every key; sheets are those of the rules that are counted here from the pack's lines. Run from the
-project's folder."""
+docs/packdesk.1 names every key; sheets are those of the rules that are counted here from the pack's lines. Imports have the
+numbers and lines of the files beside the clause texts, and these lines are those of the packs of the same names. Run from
+the project's folder."""
 import glob
 import json
 import os
@@ -48,6 +49,35 @@ def sheet_of(rules):
     return "".join(" ".join(row).ljust(64) + "\n" for row in rows)
 
 
+def import_faults(path, stored):
+    """An import's numbers and lines are those of the file .lines beside the text, or of .out if it is refused."""
+    text, front = read(stored["file"]).split("\n"), stored["file"].removesuffix(".pl")
+    if not os.path.exists(front + ".lines"):
+        wanted = list(map(int, read(front + ".out").split(",")))
+        return [] if stored["numbers"] == wanted else [f"{path}: {stored['numbers']} stands there, {wanted} in {front}.out"]
+    lines = read(front + ".lines")
+    found = []
+    if stored["numbers"] != [0, lines.count("H,"), len(lines), 0]:
+        found.append(f"{path}: {stored['numbers']} are not the numbers of {front}.lines")
+    if "".join(line + "\n" for clause in stored["clauses"] for line in clause["lines"]) != lines:
+        found.append(f"{path}: its lines are not those of {front}.lines")
+    for number, clause in enumerate(stored["clauses"], 1):
+        if clause["clause"] != number or not text[clause["line"] - 1].startswith(clause["lines"][0].split(",")[1]):
+            found.append(f"{path}: clause {number} does not start on that line of {stored['file']}")
+    return found
+
+
+def lines_of_pack(name, given):
+    """The G, H and B lines of a pack, those of this given predicate as a clause text has them."""
+    lines = [line for line in read(f"packs/{name}.pack").splitlines() if line[0] in "GHB"]
+    return [line.replace(f"G,{given},", f"H,{given},", 1) for line in lines]
+
+
+def read(path):
+    with open(path, encoding="ascii") as file:
+        return file.read()
+
+
 paths = sorted(glob.glob("tests/desk/expected/*.json"))
 if len(paths) < 20:
     faults.append(f"there are only {len(paths)} stored files")
@@ -56,6 +86,9 @@ for path in paths:
         stored = json.load(file)
     collect(stored)
     if stored["command"] == "measure":
+        continue
+    if stored["command"] == "import":
+        faults += import_faults(path, stored)
         continue
     with open(stored["pack"].removesuffix(".pack") + ".out", encoding="utf-8") as file:
         wanted = file.read().splitlines()
@@ -72,6 +105,13 @@ for path in glob.glob("packs/*.pack") + glob.glob("packs/refused/*.pack"):
     kinds = ["check"] if name.startswith("refused-") else ["check", "sheet"]
     missing = [kind for kind in kinds if not os.path.exists(f"tests/desk/expected/{name}.{kind}.json")]
     faults += [f"there is no stored output of {kind} for {path}" for kind in missing]
+for path in glob.glob("packs/clauses/*.pl") + glob.glob("packs/clauses/refused/*.pl"):
+    name = path.removeprefix("packs/").removesuffix(".pl").replace("/", "-")
+    if not os.path.exists(f"tests/desk/expected/{name}.import.json"):
+        faults.append(f"there is no stored output of import for {path}")
+for name, given in {"join": None, "accumulator": None, "tree": None, "sorter": "next"}.items():
+    if read(f"packs/clauses/{name}.lines").splitlines() != lines_of_pack(name, given):
+        faults.append(f"packs/clauses/{name}.lines are not the lines of packs/{name}.pack")
 with open("docs/packdesk.1", encoding="utf-8") as file:
     page = file.read()
 faults += [f"docs/packdesk.1 does not name the key {key}" for key in sorted(keys) if f".B {key}\n" not in page]

@@ -18,10 +18,10 @@ use std::collections::{BTreeMap, BTreeSet};
 
 #[path = "../../fuzz/random.rs"]
 #[allow(dead_code)]
-mod random;
+pub mod random;
 
 #[path = "damage.rs"]
-mod damage;
+pub mod damage;
 
 const VECTORS: &str = "tests/vectors";
 const DAMAGED_PACKS: usize = 6_000;
@@ -49,10 +49,11 @@ const PACKS_WITH_ARITIES: [&[u8]; 3] = [
 // The vectors (tests/vectors/README.md says how their lines are written).
 
 #[derive(Default)]
-struct Vectors {
+pub struct Vectors {
     packs: Vec<Vec<u8>>,
     queries: Vec<(Vec<u8>, Vec<u8>)>,
     terms: Vec<Vec<u8>>,
+    pub clause_texts: Vec<Vec<u8>>,
 }
 
 /// A place in a line of a vector file, and what `let` has named so far.
@@ -118,7 +119,7 @@ impl LineReader<'_> {
     }
 }
 
-fn read_vectors() -> Vectors {
+pub fn read_vectors() -> Vectors {
     let mut vectors = Vectors::default();
     let entries = std::fs::read_dir(VECTORS).expect("run this from the project's folder");
     let paths = entries.map(|entry| entry.expect("an entry of the folder").path());
@@ -148,6 +149,7 @@ fn read_vector(line: &[u8], named: &mut BTreeMap<String, Vec<u8>>, vectors: &mut
         }
         "measure" => vectors.terms.push(reader.bytes()),
         "program" => vectors.packs.push(reader.bytes()),
+        "import" => vectors.clause_texts.push(reader.bytes()),
         _ => {}
     }
 }

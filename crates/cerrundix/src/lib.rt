@@ -7,9 +7,12 @@ ghost use Rattle.theory.specs.Check.{numbers, checkOf};
 ghost use Rattle.theory.specs.Measure.{measured, measureOf};
 ghost use Rattle.theory.specs.Reserve.{fields, reserveOf};
 ghost use Rattle.theory.specs.Sheet.{sheetOf};
+ghost use Rattle.theory.specs.Import.{importOf};
+ghost use Rattle.theory.specs.Answers.{importNumbers};
 use answers::Four;
 use answers::Three;
 use answers::Two;
+use theory::Importation;
 
 fn check_word(four: Four) -> u64
     ensures { λ r. ⌜ r ≡ checkWord (numbers (four .number) (four .line) (four .rule) (four .claim)) ⌝ }
@@ -84,4 +87,35 @@ pub extern "C" fn cerrundix_sheet(text: &[u8], page: &mut [u8]) -> Answer
     ensures { λ r. ⌜ (numbers (r .number) (r .line) (r .rule) (r .claim) ≡ sheetOf (now (text .entry)) (now (page .entry)) .returned) × (now (page .exit) ≡ sheetOf (now (text .entry)) (now (page .entry)) .page) ⌝ }
 {
     four_numbers(answers::filing_numbers(sheets::sheet(text, page)))
+}
+
+fn import_answer(number: u64, second: usize, third: usize) -> Answer
+    ensures { λ r. ⌜ numbers (r .number) (r .line) (r .rule) (r .claim) ≡ numbers number second third 0 ⌝ }
+{
+    Answer {
+        number,
+        line: second as u64,
+        rule: third as u64,
+        claim: 0,
+    }
+}
+
+fn import_numbers(importation: Importation) -> Answer
+    ensures { λ r. ⌜ numbers (r .number) (r .line) (r .rule) (r .claim) ≡ importNumbers importation ⌝ }
+{
+    match importation {
+        Importation::Imported(clauses, bytes) => import_answer(0, clauses, bytes),
+        Importation::NoClauses(place) => import_answer(25, place, 0),
+        Importation::OverLimit(clause) => import_answer(26, clause, 0),
+        Importation::ShortBuffer(clause) => import_answer(27, clause, 0),
+    }
+}
+
+/// Imports a clause text: an `H` line and `B` lines for each clause, at the front of a buffer. A refusal leaves the buffer as
+/// it is.
+#[no_mangle]
+pub extern "C" fn cerrundix_import(text: &[u8], buffer: &mut [u8]) -> Answer
+    ensures { λ r. ⌜ (numbers (r .number) (r .line) (r .rule) (r .claim) ≡ importOf (now (text .entry)) (now (buffer .entry)) .returned) × (now (buffer .exit) ≡ importOf (now (text .entry)) (now (buffer .entry)) .page) ⌝ }
+{
+    import_numbers(imports::import(text, buffer))
 }

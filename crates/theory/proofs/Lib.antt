@@ -1,5 +1,5 @@
 -- What is proved of the definitions. The promises of specs/Promises.antt are proved in the files of this folder;
--- what they lean on is in four rooms.
+-- what they lean on is in six rooms.
 
 -- what bytes spell: reading is the inverse of writing
 pub mod Reading
@@ -11,6 +11,8 @@ pub mod Soundness
 pub mod Reserving
 -- the sheet
 pub mod Sheets
+-- clauses as the makers write them
+pub mod Importing
 -- what sizes are
 pub mod SectionForm
 -- names with their arities
@@ -23,6 +25,8 @@ pub mod DemandThree
 pub mod RightCase
 -- what the sheet tells
 pub mod SheetKept
+-- what import promises
+pub mod ImportKept
 -- document 01's starred examples, and those of later requests; facts with derivations, and a fact without
 pub mod Examples
 pub mod Derived

@@ -16,6 +16,10 @@ pub mod Program
 pub mod Words
 pub mod Pages
 pub mod Sheet
+pub mod ClauseTokens
+pub mod Clauses
+pub mod Import
+pub mod Imported
 pub mod Answers
 pub mod Limits
 pub mod Derivations

@@ -34,7 +34,7 @@ use Rattle.theory.proofs.Reading.TermFields.{terms-written, terms-forme
 use Rattle.theory.proofs.Judging.Tests.{Clear, _then_, clear-parts, both-clear}
 
 -- the fields of an atom's line
-abbrev atomLine : Letter → Atom → List Bytes
+abbrev pub atomLine : Letter → Atom → List Bytes
 atomLine letter a = letterField letter ∷ a .name ∷ termFields (a .terms)
 
 -- ---- from a line
@@ -131,11 +131,11 @@ subgoal-step p fields h =
 -- ---- to a line
 
 module _ (a : Atom) (formed : AllWellFormed (a .terms)) where
-  atom-again : (letter : Letter) → atomFrom (atomLine letter a) ≡ a
+  pub atom-again : (letter : Letter) → atomFrom (atomLine letter a) ≡ a
   unfolding atomFrom
   atom-again letter = rw (written-terms (a .terms) formed)
 
-  atom-plain : (letter : Letter) → isName (a .name) ≡ true → Plain (atomLine letter a)
+  pub atom-plain : (letter : Letter) → isName (a .name) ≡ true → Plain (atomLine letter a)
   atom-plain letter named = plain-cons (letter-plain letter) (plain-cons (name-plain (a .name) named) (terms-plain (a .terms) formed))
 
   pub fact-adds : (p : Pack) → isName (a .name) ≡ true → Adds G p (factLine a) (onFacts (ending a) p)

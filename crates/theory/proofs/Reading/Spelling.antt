@@ -8,7 +8,7 @@ use native.Mathlib.Omega.{arith}
 use lib.Dec.{eqb, leb}
 use lib.IntN.{ℤ, pos, negsuc, natAbs}
 use lib.ListN.{length}
-use Rattle.groundwork.proofs.Truth.{by-truth, and-left, and-right, and-both, eqb-equal, eqb-different, leb-le, le-leb}
+use Rattle.groundwork.proofs.Truth.{by-truth, never-both, and-left, and-right, and-both, eqb-equal, eqb-different, leb-le, le-leb}
 use Rattle.theory.specs.Lists.{every}
 use Rattle.theory.specs.Text.{Bytes, between, isLower, isUpper, isDigit, isNameByte, isWord, isName, isVariable, isDecimal, valueAfter, natural, negated, integer, decimal, signedDecimal}
 use Rattle.theory.proofs.Reading.Bytes.{isTokenByte, between-low, between-high}
@@ -139,6 +139,11 @@ name-length [] h = absurd (false≢true h)
 name-length (b ∷ bs) h = omega (arith, leb-le (length bs) 15 (and-right (isLower b && every isNameByte bs) (leb (length bs) 15) h))
 
 -- neither has a `/`
+pub name-some : (bs : Bytes) → isName bs ≡ true → 1 ≤ length bs
+unfolding isWord
+name-some [] h = never-both h refl
+name-some (b ∷ bs) h = omega arith
+
 pub name-no-slash : (bs : Bytes) → isName bs ≡ true → isFree 47 bs ≡ true
 unfolding isNameByte
 name-no-slash bs h = free-from isNameByte 47 refl bs (name-word bs h)

@@ -1,0 +1,3 @@
+-- Laws on the reading of a clause.
+pub mod Advancing
+pub mod Reading

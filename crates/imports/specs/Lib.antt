@@ -1,0 +1,2 @@
+-- What comes of one clause. No public promise cites it.
+pub mod Takings

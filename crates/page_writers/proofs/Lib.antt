@@ -1,0 +1,2 @@
+-- Laws on what the writers leave of a page.
+pub mod PageParts

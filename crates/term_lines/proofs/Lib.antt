@@ -1,0 +1,5 @@
+-- Laws on what is written of a clause.
+pub mod DrawnTexts
+pub mod DrawnLimits
+pub mod Moving
+pub mod Drawing

@@ -1,0 +1,173 @@
+-- Twice as many bytes as a text has are room enough for its lines: token by token, a clause's lines have at most twice its bytes.
+use mathlib.Core.Path.{_≡_, refl, _∙_, ap}
+use mathlib.Core.Logic.{⊎-elim}
+use mathlib.Core.Bool.{Bool, true, false, cond}
+use mathlib.Core.List.{List, [], _∷_, _++_, map, flatMap, List·Memᴰ·head, List·Memᴰ·tail, List·Memᴰ·append-cases, Memᴰ·append-left, Memᴰ·append-right}
+use Prim.Native.Nat.{ℕ, zero, suc, _+_, _*_, _≤_, _<_}
+use native.Mathlib.Decide.{decLt}
+use native.Mathlib.Omega.{arith}
+use lib.ListN.{length, take, drop, length-append, List·getD-eq-default}
+use lib.Seq.{split-at, length-take-le}
+use Rattle.groundwork.proofs.Truth.{by-truth}
+use Rattle.theory.specs.Lists.{_∈_}
+use Rattle.theory.specs.Text.{Bytes, bytes, among, decimal}
+use Rattle.theory.specs.Terms.{Term, Terms, symbol, nil, cons, arity, symbolToken, tokens, allTokens, WellFormed, AllWellFormed, variables, allVariables}
+use Rattle.theory.specs.Terms as T
+use Rattle.theory.specs.Packs.{Atom, termFields, headLine, subgoalLine, line, textOf}
+use Rattle.theory.specs.ClauseTokens.{Mark, name, variable, comma, neck, isLayout, bytesAfter, markOf, tokensFrom, tokensOf, token}
+use Rattle.theory.specs.Clauses.{Clause, termMarks, argumentMarks, laterMarks, atomMarks, bodyMarks, clauseMarks}
+use Rattle.theory.specs.Residuals.{numbered}
+use Rattle.theory.specs.Import.{clauseVariables, isLone, lones, numberedVariable, nth, freshOf, filledTerm, filledTerms, filledAtom, filledAtoms, filled, clauseLines, clauseFits}
+use Rattle.theory.specs.Imported.{marks, spelling, AtomWithin, linesFor}
+use Rattle.theory.proofs.Importing.Arrangements.{bytes-within, token-bytes}
+use Rattle.theory.proofs.Importing.FilledVariables.{named, filled-count}
+use Rattle.theory.proofs.Importing.ClauseLimits.{limits-kept}
+use Rattle.theory.proofs.Importing.FreshNumbering.{among-numbered-named}
+use Rattle.theory.proofs.Importing.FreshVariables.{numbers-few, fresh-length}
+use Rattle.theory.proofs.Importing.Freshness.{fresh-each}
+use Rattle.theory.proofs.Judging.Variables.{among-member, not-among}
+use Rattle.theory.proofs.Reading.Bytes.{same-equal}
+use Rattle.theory.proofs.Reading.Digits.{digits-one, digits-few}
+use Rattle.theory.proofs.Reading.Spelling.{name-some}
+use Rattle.theory.proofs.Reading.TermLengths.{lengthsAfter, joined-length, after-append, fields-after}
+
+-- ---- the bytes of tokens
+
+byteCount : List Mark → ℕ
+byteCount [] = 0
+byteCount (m ∷ ms) = length (spelling m) + byteCount ms
+
+count-append : (ms ns : List Mark) → byteCount (ms ++ ns) ≡ byteCount ms + byteCount ns
+unfolding byteCount
+count-append [] ns = omega arith
+count-append (m ∷ ms) ns = omega (arith, count-append ms ns)
+
+-- a text has no fewer bytes than its tokens
+count-within : (apart : Bool) (left place : ℕ) (bs : Bytes) → left ≤ length bs → byteCount (marks (tokensFrom apart left place bs)) + left ≤ length bs
+unfolding byteCount tokensFrom
+count-within apart left place [] long = omega arith
+count-within apart (suc left) place (b ∷ bs) long = omega (arith, count-within apart left (suc place) bs (omega arith))
+count-within apart zero place (b ∷ bs) long =
+    by-truth (λ c. byteCount (marks (cond c (tokensFrom true 0 (suc place) bs) (token (markOf apart b bs) place ∷ tokensFrom false (bytesAfter b bs) (suc place) bs))) + 0 ≤ suc (length bs)) (isLayout b)
+    (λ _. omega (arith, count-within true 0 (suc place) bs (omega arith)))
+    (λ _. omega (arith, token-bytes apart b bs, count-within false (bytesAfter b bs) (suc place) bs (bytes-within b bs)))
+
+text-count : (text : Bytes) (front rest : List Mark) → marks (tokensOf text) ≡ front ++ rest → byteCount front ≤ length text
+text-count text front rest is = omega (arith, count-within false 0 0 text (omega arith), ap byteCount is, count-append front rest)
+
+-- ---- terms
+
+lone-some : (x : Bytes) → isLone x ≡ true → length x ≡ 1
+unfolding bytes
+lone-some x is = ap length (same-equal x (bytes "_") is)
+
+module _ (fresh : List Bytes) (short : (i : ℕ) → length (nth fresh i) ≤ 3) where
+  mutual
+    unfolding filledTerm termMarks tokens lengthsAfter byteCount spelling bytes symbolToken
+
+    term-room : (i : ℕ) (t : Term) → WellFormed (filledTerm fresh i t) → lengthsAfter (tokens (filledTerm fresh i t)) ≤ 2 * suc (byteCount (termMarks t))
+    term-room i (T.variable x) formed =
+        by-truth (λ c. isLone x ≡ c → lengthsAfter (tokens (cond c (T.variable (nth fresh i)) (T.variable x))) ≤ 2 * suc (length x + 0)) (isLone x)
+        (λ _ is. omega (arith, short i, lone-some x is)) (λ _ is. omega arith) refl
+    term-room i (symbol f ts) formed =
+        let k = arity (filledTerms fresh i ts) in
+        omega (arith, name-some f (formed .0), length-append f (47 ∷ decimal k), digits-one k (omega (arith, formed .1)), arguments-room i ts (formed .2))
+
+    arguments-room : (i : ℕ) (ts : Terms) → AllWellFormed (filledTerms fresh i ts) → lengthsAfter (allTokens (filledTerms fresh i ts)) ≤ 2 * byteCount (argumentMarks ts)
+    arguments-room i nil formed = omega arith
+    arguments-room i (cons t ts) formed =
+        let j = i + lones (variables t) in
+        omega (arith, after-append (tokens (filledTerm fresh i t)) (allTokens (filledTerms fresh j ts)), count-append (termMarks t) (laterMarks ts), term-room i t (formed .0), later-room j ts (formed .1))
+
+    later-room : (i : ℕ) (ts : Terms) → AllWellFormed (filledTerms fresh i ts) → lengthsAfter (allTokens (filledTerms fresh i ts)) + 2 ≤ 2 * byteCount (laterMarks ts)
+    later-room i nil formed = omega arith
+    later-room i (cons t ts) formed =
+        let j = i + lones (variables t) in
+        omega (arith, after-append (tokens (filledTerm fresh i t)) (allTokens (filledTerms fresh j ts)), count-append (termMarks t) (laterMarks ts), term-room i t (formed .0), later-room j ts (formed .1))
+
+  -- ---- lines
+
+  -- a head's or a subgoal's line and its end, against its tokens and the one after them
+  atom-room : (letter : ℕ) (i : ℕ) (a : Atom) → AtomWithin (filledAtom fresh i a)
+      → suc (length (line ((letter ∷ []) ∷ filledAtom fresh i a .name ∷ termFields (filledAtom fresh i a .terms)))) ≤ 2 * suc (byteCount (atomMarks a))
+  unfolding filledAtom termMarks lengthsAfter byteCount spelling
+  atom-room letter i a within =
+      let ts = filledTerms fresh i (a .terms) in
+      omega (arith, joined-length 44 (letter ∷ []) (a .name ∷ termFields ts), fields-after ts, name-some (a .name) (within .named), arguments-room i (a .terms) (within .formed))
+
+  body-room : (before : Mark) → 1 ≤ length (spelling before) → (i : ℕ) (atoms : List Atom) → ((a : Atom) → a ∈ filledAtoms fresh i atoms → AtomWithin a)
+      → length (textOf (map line (map subgoalLine (filledAtoms fresh i atoms)))) + 2 ≤ 2 * byteCount (bodyMarks before atoms)
+  unfolding filledAtoms bodyMarks textOf subgoalLine byteCount spelling bytes
+  body-room before some i [] within = omega arith
+  body-room before some i (a ∷ atoms) within =
+      let j = i + lones (allVariables (a .terms)) in
+      let l = line (subgoalLine (filledAtom fresh i a)) in
+      let later = map line (map subgoalLine (filledAtoms fresh j atoms)) in
+      omega (arith, length-append l (10 ∷ textOf later), atom-room 66 i a (within (filledAtom fresh i a) (List·Memᴰ·head refl)), body-room comma (omega arith) j atoms (λ b m. within b (List·Memᴰ·tail m)), count-append (atomMarks a) (bodyMarks comma atoms))
+
+-- ---- fresh variables are short
+
+member-among : (x : Bytes) (ys : List Bytes) → x ∈ ys → among x ys ≡ true
+member-among x ys m = by-truth (λ b. among x ys ≡ b → b ≡ true) (among x ys) (λ _ _. refl) (λ _ e. absurd (not-among x ys e m)) refl
+
+module _ (c : Clause) (fits : clauseFits (filled c) ≡ true) where
+  abbrev names : List Bytes
+  names = numbered [] (named (clauseVariables c))
+
+  fresh-short : (i : ℕ) → length (nth (freshOf c) i) ≤ 3
+  unfolding numberedVariable
+  fresh-short i = at (decLt i (length (freshOf c)))
+    where
+      made : List Bytes
+      made = take i (freshOf c)
+
+      taken-there : (m : ℕ) → numberedVariable m ∈ (made ++ clauseVariables c) → among (numberedVariable m) (made ++ names) ≡ true
+      taken-there m n =
+          member-among (numberedVariable m) (made ++ names)
+          (⊎-elim (Memᴰ·append-left names)
+          (λ written. Memᴰ·append-right made (among-member (numberedVariable m) names (among-numbered-named m (clauseVariables c) ∙ member-among (numberedVariable m) (clauseVariables c) written)))
+          (List·Memᴰ·append-cases made n))
+
+      at : Dec (i < length (freshOf c)) → length (nth (freshOf c) i) ≤ 3
+      at (no past) = omega (arith, ap length (List·getD-eq-default (freshOf c) [] {n = i} (omega arith)))
+      at (yes inside) =
+          let v = fresh-each (lones (clauseVariables c)) (clauseVariables c) made (drop (suc i) (freshOf c)) (nth (freshOf c) i) (split-at (freshOf c) i [] inside) in
+          let few = numbers-few 1 (v .number) (made ++ names) (λ m from below. taken-there m (v .lowest m from below)) in
+          let low : v .number < 100 =
+          omega (arith, few, length-append made names, length-take-le i (freshOf c) (omega arith), fresh-length (lones (clauseVariables c)) (clauseVariables c), filled-count c, limits-kept (filled c) .fits .0 fits .variables) in
+          omega (arith, ap length (v .is), digits-few 1 (v .number) low)
+
+  -- ---- a clause
+
+  clause-room : length (textOf (clauseLines (filled c))) ≤ 2 * byteCount (clauseMarks c)
+  unfolding clauseLines filled clauseMarks textOf headLine spelling bytes
+  clause-room =
+      let within = limits-kept (filled c) .fits .0 fits .atoms in
+      let lone = lones (allVariables (c .head .terms)) in
+      let l = line (headLine (filled c .head)) in
+      let later = map line (map subgoalLine (filled c .subgoals)) in
+      omega (
+        arith,
+        length-append l (10 ∷ textOf later),
+        atom-room (freshOf c) fresh-short 72 0 (c .head) (within (filled c .head) (List·Memᴰ·head refl)),
+        body-room (freshOf c) fresh-short neck (omega arith) lone (c .subgoals) (λ a m. within a (List·Memᴰ·tail m)),
+        count-append (atomMarks (c .head)) (bodyMarks neck (c .subgoals)),
+      )
+
+-- ---- clauses
+
+lines-room : (clauses : List Clause) → ((c : Clause) → c ∈ clauses → clauseFits (filled c) ≡ true) → length (linesFor clauses) ≤ 2 * byteCount (flatMap clauseMarks clauses)
+unfolding linesFor byteCount flatMap
+lines-room [] fit = omega arith
+lines-room (c ∷ clauses) fit =
+    omega (
+      arith,
+      clause-room c (fit c (List·Memᴰ·head refl)),
+      lines-room clauses (λ d m. fit d (List·Memᴰ·tail m)),
+      length-append (textOf (clauseLines (filled c))) (linesFor clauses),
+      count-append (clauseMarks c) (flatMap clauseMarks clauses),
+    )
+
+pub room-enough : (text : Bytes) (clauses : List Clause) (rest : List Mark) → marks (tokensOf text) ≡ flatMap clauseMarks clauses ++ rest → ((c : Clause) → c ∈ clauses → clauseFits (filled c) ≡ true)
+    → length (linesFor clauses) ≤ 2 * length text
+room-enough text clauses rest is fit = omega (arith, lines-room clauses fit, text-count text (flatMap clauseMarks clauses) rest is)

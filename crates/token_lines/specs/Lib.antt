@@ -1,0 +1,2 @@
+-- Which tokens end a line. No public promise cites it.
+pub mod LineEnds

@@ -1,0 +1,5 @@
+reverse(List, Turned) :- reverse(List, nil, Turned).
+
+reverse(nil, Done, Done).
+reverse(cons(First,Rest), Done, Turned) :-
+    reverse(Rest, cons(First,Done), Turned).

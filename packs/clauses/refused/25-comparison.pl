@@ -1,0 +1,1 @@
+heavier(coin(X,_), coin(Y,_)) :- X > Y.
