@@ -21,6 +21,7 @@ pub mod Runs
 -- lines without a fault, letter by letter
 pub mod Tests
 pub mod LineKeys
+pub mod Fitness
 pub mod ResidualNumbers
 pub mod Faultless
 pub mod PredicateLines

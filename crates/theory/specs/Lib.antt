@@ -9,6 +9,7 @@ pub mod Written
 pub mod Residuals
 pub mod Facts
 pub mod Faults
+pub mod LineWords
 pub mod Check
 pub mod Measure
 pub mod Reserve

@@ -2,7 +2,8 @@
 use mathlib.Core.Bool.{Bool, true, false, _&&_, _||_}
 use mathlib.Core.List.{List, [], _∷_, _++_, List·Memᴰ}
 use mathlib.Core.Option.{Option, some, none}
-use Prim.Native.Nat.{ℕ, _+_}
+use Prim.Native.Nat.{ℕ, zero, suc, _+_}
+use lib.IntN.{ℤ, pos, _+ℤ_}
 use lib.ListN.{length, drop}
 
 -- a is one of l
@@ -35,6 +36,11 @@ ending a l = l ++ (a ∷ [])
 unfoldable pub total : List ℕ → ℕ
 total [] = 0
 total (n ∷ ns) = n + total ns
+
+-- the sum of a number for each of the first n places, from 0
+unfoldable pub summed : ℕ → (ℕ → ℤ) → ℤ
+summed zero number = pos 0
+summed (suc n) number = number 0 +ℤ summed n (λ i. number (suc i))
 
 -- a list laid over the first elements of another, whose rest is unchanged
 abbrev pub over : {A : Type 0} → List A → List A → List A

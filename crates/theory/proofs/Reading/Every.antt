@@ -1,6 +1,6 @@
 -- A test of every member of a list, and of some member: what it says of each member, and of parts of the list.
 use mathlib.Core.Path.{_≡_, refl, sym, _∙_, ap}
-use mathlib.Core.Bool.{Bool, true, false, _||_, or-false, or-assoc}
+use mathlib.Core.Bool.{Bool, true, false, _&&_, _||_, or-false, or-assoc}
 use mathlib.Core.List.{List, [], _∷_, _++_, List·Memᴰ·head, List·Memᴰ·tail}
 use Prim.Native.Nat.{ℕ, zero, suc, _≤_}
 use native.Mathlib.Omega.{arith}
@@ -61,6 +61,16 @@ module _ {A : Type 0} (test : A → Bool) where
   unfolding every
   every-replicate zero a h = refl
   every-replicate (suc n) a h = every-cons a (replicate n a) h (every-replicate n a h)
+
+  -- not of every member: there is one of which it does not hold
+  pub some-failing : (l : List A) → every test l ≡ false → (a : A) × (a ∈ l) × (test a ≡ false)
+  unfolding every
+  some-failing [] h = never-both refl h
+  some-failing (a ∷ l) h =
+      by-truth (λ (b : Bool). (b && every test l) ≡ false → (c : A) × (c ∈ (a ∷ l)) × (test c ≡ false)) (test a)
+      (λ here h. let (c, m, fails) = some-failing l h in (c, List·Memᴰ·tail m, fails))
+      (λ fails h. (a, List·Memᴰ·head refl, fails))
+      h
 
   -- ---- of some member
 
