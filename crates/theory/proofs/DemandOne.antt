@@ -20,15 +20,11 @@ use Rattle.theory.specs.Faults.{whole, fault, lastRule, headClaims, mayS
 use Rattle.theory.specs.Check.{Judgement, plain, numbers, multiplierLines, refused, checked, checkOf, Checked, judgementOf, verdictOf, isFinished, judge}
 use Rattle.theory.specs.Outcomes.{AllFine, Judged, FirstFault, residualFor, Unjustified, Outcome, faulty, accepted, unjustified, noEnd, shortArea, longText, unfinished}
 use Rattle.theory.specs.Promises.{DemandOne}
-use Rattle.theory.proofs.Judging.Completeness.{due-from-incomplete}
-use Rattle.theory.proofs.Judging.FaultNumbers.{past-place, thirteen-is-m}
+use Rattle.theory.proofs.Judging.UnjustifiedLines.{unjustified-line}
 use Rattle.theory.proofs.Judging.JudgedLines.{JudgedAs, all-fine, fault-at, atEnd, judged-as}
+use Rattle.theory.proofs.Soundness.ResidualTold.{numbers-told}
 
 -- ---- the residual's numbers
-
-pub seventeen : (xs : List Bytes) (f : Form) → length (residualNumbers xs f) ≡ areaNeeded
-unfolding residualNumbers
-seventeen xs f = length-take-le areaNeeded (f .constant ∷ map (f .coefficient) xs ++ replicate variableLimit (pos 0)) (omega (arith, length-append (map (f .coefficient) xs) (replicate 16 (pos 0)), length-map xs (f .coefficient), length-replicate 16 (pos 0)))
 
 -- what is due on a line of multipliers, by the number of its claim
 due-for : (p : Pack) (ms : List ℕ) → residualDue p ms ≡ residualFor p (lastRule p) (length (lastRule p .multipliers) + 1) ms
@@ -37,15 +33,7 @@ due-for p ms = let place : length (lastRule p .multipliers) + 1 - 1 ≡ length (
 
 due-length : (p : Pack) (ms : List ℕ) → length (residualDue p ms) ≡ areaNeeded
 unfolding residualDue
-due-length p ms = seventeen _ _
-
--- a 13 is found on a line of multipliers that is due
-claim-due : (w : Written) (l : Bytes) → fault whole w l ≡ 13 → length (lastRule (w .pack) .multipliers) < length (headClaims (w .pack))
-unfolding mayStand
-claim-due w l e =
-    let place = past-place whole w l 13 e (λ h. omega arith) (λ h. omega arith) in
-    let isM = thirteen-is-m whole (lineLetter l) (fieldsOf l) (w .pack) (place .found) in
-    due-from-incomplete (w .pack) (not-true _ (rw isM at (place .stands)))
+due-length p ms = numbers-told _ _ .count
 
 -- ---- the outcomes
 
@@ -69,13 +57,19 @@ module _ (text : Bytes) (area : List ℤ) where
       first = record { before = before; faulty = l; after = after; are = are; place = refl; fine = fine; has = refl; isFault = has }
 
       unjust : n ≡ 13 → Unjustified text (length before + 1) (length (w .pack .rules)) (length (lastRule (w .pack) .multipliers) + 1) (residualDue (w .pack) (multipliersFrom (fieldsOf l)))
-      unjust e = record {
-        first = record { before = before; faulty = l; after = after; are = are; place = refl; fine = fine; has = e; isFault = λ z. omega arith };
-        isRule = refl;
-        low = omega arith;
-        high = omega (arith, claim-due w l e);
-        isResidual = due-for (w .pack) (multipliersFrom (fieldsOf l));
-      }
+      unjust e =
+          let line = unjustified-line w l e in
+          record {
+            first = record { before = before; faulty = l; after = after; are = are; place = refl; fine = fine; has = e; isFault = λ z. omega arith };
+            isRule = refl;
+            isDue = refl;
+            high = omega (arith, line .due);
+            multipliers = multipliersFrom (fieldsOf l);
+            isLine = line .isLine;
+            fit = line .fit;
+            isResidual = due-for (w .pack) (multipliersFrom (fieldsOf l));
+            negative = line .negative;
+          }
 
       go : (b : Bool) → eqb n 13 ≡ b → Told (cond b (record { returned = numbers 13 (length before + 1) (length (w .pack .rules)) (length (lastRule (w .pack) .multipliers) + 1); residue = residualDue (w .pack) (multipliersFrom (fieldsOf l)) }) (plain (numbers n (length before + 1) 0 0)))
       go true e =
@@ -134,7 +128,7 @@ module _ (text : Bytes) (area : List ℤ) where
   rest (unfinished h k e) = refl
   rest (noEnd j f e) = refl
   rest (faulty j f h) = refl
-  rest (unjustified {residue = residue} j u) = drop-at residue (drop areaNeeded area) areaNeeded (ap length (u .isResidual) ∙ seventeen _ _)
+  rest (unjustified {residue = residue} j u) = drop-at residue (drop areaNeeded area) areaNeeded (ap length (u .isResidual) ∙ numbers-told _ _ .count)
 
 pub demand-one : (text : Bytes) (area : List ℤ) → DemandOne text area
 demand-one text area = record { outcome = outcome text area; unchanged = unchanged text area (outcome text area); rest = rest text area (outcome text area) }

@@ -10,6 +10,7 @@ pub mod Completeness
 pub mod Heads
 pub mod Variables
 pub mod RuleVariables
+pub mod VariableOrder
 -- runs of lines, as what they add, and packs within the limits
 pub mod Sections
 pub mod Steps
@@ -32,6 +33,7 @@ pub mod LineReading
 pub mod LineWriting
 -- the numbers of faults, and the first faulty line
 pub mod FaultNumbers
+pub mod UnjustifiedLines
 pub mod JudgedLines
 -- whole texts
 pub mod PackReading

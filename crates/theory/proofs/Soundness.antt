@@ -2,6 +2,7 @@
 pub mod FormValues
 pub mod Sizes
 pub mod SubgoalForms
+pub mod ResidualTold
 pub mod Derivable
 pub mod FormBounds
 pub mod FormRanges

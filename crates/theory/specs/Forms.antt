@@ -2,6 +2,7 @@
 use mathlib.Core.List.{List, [], _∷_}
 use Prim.Native.Nat.{ℕ}
 use lib.IntN.{ℤ, pos, negsuc, _+ℤ_, _*ℤ_}
+use Rattle.theory.specs.Lists.{_∈_}
 use Rattle.theory.specs.Text.{Bytes}
 use Rattle.theory.specs.Terms.{Term}
 use Rattle.theory.specs.Sizes.{Measure, constantOf, coefficientOf}
@@ -30,6 +31,11 @@ constantForm c = record { constant = c; coefficient = λ x. pos 0 }
 -- A term's size by a measure, as a form: both parts together.
 unfoldable pub formOf : Measure → Term → Form
 formOf m t = record { constant = pos (constantOf m t); coefficient = λ x. pos (coefficientOf m t x) }
+
+-- each of some variables stands in the list once
+pub data Once : List Bytes → Type 0 where
+  once-none : Once []
+  once-more : {x : Bytes} {xs : List Bytes} → (x ∈ xs → ⊥) → Once xs → Once (x ∷ xs)
 
 -- a form's value where each of some variables has a size
 unfoldable pub valueAt : (Bytes → ℕ) → List Bytes → Form → ℤ

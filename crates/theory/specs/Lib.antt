@@ -8,6 +8,7 @@ pub mod Packs
 pub mod Written
 pub mod Residuals
 pub mod Facts
+pub mod ResidualWords
 pub mod Faults
 pub mod LineWords
 pub mod Check

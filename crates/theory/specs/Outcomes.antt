@@ -3,15 +3,18 @@ use mathlib.Core.Path.{_≡_}
 use mathlib.Core.Bool.{true, false}
 use mathlib.Core.List.{List, [], _∷_, _++_}
 use Prim.Native.Nat.{ℕ, _+_, _-_, _≤_, _<_}
-use lib.IntN.{ℤ}
+use lib.IntN.{ℤ, pos}
 use lib.ListN.{length, getD, drop}
-use Rattle.theory.specs.Text.{Bytes, linesOf, fieldsOf}
+use lib.Signed.{_<ℤ_}
+use Rattle.theory.specs.Lists.{_∈_}
+use Rattle.theory.specs.Text.{Bytes, linesOf}
 use Rattle.theory.specs.Sizes.{structural}
-use Rattle.theory.specs.Packs.{Rule, Pack, textLimit, noClaim, atomKey, claimsOn}
-use Rattle.theory.specs.Written.{Written, nothing, write, writeAll, packOf, multipliersFrom}
+use Rattle.theory.specs.Packs.{Rule, Pack, textLimit, noClaim, atomKey, claimsOn, multiplierLine, line as written}
+use Rattle.theory.specs.Written.{Written, nothing, write, writeAll, packOf}
 use Rattle.theory.specs.Residuals.{areaNeeded, residual, ruleVariables, residualNumbers}
 use Rattle.theory.specs.Faults.{Manner, whole, fault, lastRule}
 use Rattle.theory.specs.Check.{numbers, multiplierLines, isFinished, Checked, checked}
+use Rattle.theory.specs.Limits.{MultipliersFit}
 
 -- no line of these has a fault, judged in some manner after lines that write w
 abbrev pub AllFine : Manner → Written → List Bytes → Type 0
@@ -43,14 +46,18 @@ packBefore first = writeAll nothing (first .before) .pack
 abbrev pub residualFor : Pack → Rule → ℕ → List ℕ → List ℤ
 residualFor p r claim ms = residualNumbers (ruleVariables (r .head) (r .subgoals)) (residual structural (p .claims) (r .head) (r .subgoals) (getD (claimsOn (atomKey (r .head)) (p .claims)) (claim - 1) noClaim) ms)
 
--- An unjustified claim: the first fault is a 13, on a line of multipliers for this claim on the head of this rule, the last
--- one so far; rules and claims are counted from 1.
+-- An unjustified claim: the first fault is a 13, on a line of multipliers of this rule, the last one so far, for this claim on its
+-- head, the one that is due there; rules and claims are counted from 1. The multipliers fit, and a number of the residual is below 0.
 pub record Unjustified (text : Bytes) (line rule claim : ℕ) (residue : List ℤ) : Type 0 where
   pub first : FirstFault text 13 line
   pub isRule : rule ≡ length (packBefore first .rules)
-  pub low : 1 ≤ claim
+  pub isDue : claim ≡ length (lastRule (packBefore first) .multipliers) + 1
   pub high : claim ≤ length (claimsOn (atomKey (lastRule (packBefore first) .head)) (packBefore first .claims))
-  pub isResidual : residue ≡ residualFor (packBefore first) (lastRule (packBefore first)) claim (multipliersFrom (fieldsOf (first .faulty)))
+  pub multipliers : List ℕ
+  pub isLine : first .faulty ≡ written (multiplierLine multipliers)
+  pub fit : MultipliersFit (packBefore first .claims) (lastRule (packBefore first) .subgoals) multipliers
+  pub isResidual : residue ≡ residualFor (packBefore first) (lastRule (packBefore first)) claim multipliers
+  pub negative : (z : ℤ) × (z ∈ residue) × (z <ℤ pos 0)
 
 -- What check may answer, and when. The area at exit is the one at entry but in the last case.
 pub data Outcome (text : Bytes) (area : List ℤ) : Checked → Type 0 where

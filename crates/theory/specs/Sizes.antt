@@ -81,6 +81,18 @@ unfoldable mutual
 abbrev pub coefficientOf : Measure → Term → Bytes → ℕ
 coefficientOf m t x = occurrences x (counted m t)
 
+-- ## At sizes of the variables
+
+-- A term's size where each variable has some size: what its symbols count, with the sizes of the arguments that they count.
+unfoldable mutual
+  pub sizeWhere : Measure → (Bytes → ℕ) → Term → ℕ
+  sizeWhere m sizes (variable x) = sizes x
+  sizeWhere m sizes (symbol f ts) = m f (arity ts) .constant + total (flagged (m f (arity ts) .flags) (sizesWhere m sizes ts))
+
+  pub sizesWhere : Measure → (Bytes → ℕ) → Terms → List ℕ
+  sizesWhere m sizes nil = []
+  sizesWhere m sizes (cons t ts) = sizeWhere m sizes t ∷ sizesWhere m sizes ts
+
 -- A ground term has no variables, so its size is the first part. And the sizes of arguments: si is the size of argument i.
 abbrev pub size : Measure → Term → ℕ
 size m t = constantOf m t

@@ -26,7 +26,7 @@ use Rattle.theory.proofs.Reading.Spelling.{natural-of-decimal, decimal-
 use Rattle.theory.proofs.Judging.Steps.{Step, multiplierStep}
 use Rattle.theory.proofs.Judging.Tests.{Clear, _then_}
 
-multiplier-line-again : (fields : List Bytes) → 1 ≤ length fields → field 0 fields ≡ bytes "M" → every isMultiplier (drop 1 fields) ≡ true
+pub multiplier-line-again : (fields : List Bytes) → 1 ≤ length fields → field 0 fields ≡ bytes "M" → every isMultiplier (drop 1 fields) ≡ true
     → multiplierLine (multipliersFrom fields) ≡ fields
 unfolding multiplierLine multipliersFrom
 multiplier-line-again fields long letter valid =

@@ -40,6 +40,12 @@ pub first-found : (n : ℕ) (finds : Bool) (ts : List Test) → finds ≡ true �
 unfolding firstOf
 first-found n finds ts e = rw e
 
+-- the last test of some, with none before it that finds its fault
+pub last-found : (n : ℕ) (finds : Bool) → 0 < n → firstOf (test n finds ∷ []) ≡ n → finds ≡ true
+unfolding firstOf
+last-found n true above e = refl
+last-found n false above e = absurd (omega arith)
+
 -- no test has the number that says there is no fault
 abbrev pub Numbered : List Test → Type 0
 Numbered [] = Unit {0}

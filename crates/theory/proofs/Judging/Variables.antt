@@ -9,6 +9,7 @@ use Rattle.groundwork.proofs.Truth.{by-truth, never-both, or-not-left, or-not-r
 use Rattle.theory.specs.Lists.{_∈_}
 use Rattle.theory.specs.Text.{Bytes, same, among}
 use Rattle.theory.specs.Terms.{allVariables}
+pub use Rattle.theory.specs.Forms.{Once, once-none, once-more}
 use Rattle.theory.specs.Packs.{Atom}
 use Rattle.theory.specs.Residuals.{numbered, atomsVariables, ruleVariables}
 use Rattle.theory.proofs.Reading.Bytes.{same-equal, same-unequal}
@@ -27,10 +28,6 @@ not-among x (y ∷ ys) e (List·Memᴰ·head h) = same-unequal x y (or-not-left 
 not-among x (y ∷ ys) e (List·Memᴰ·tail m) = not-among x ys (or-not-right (same x y) (among x ys) e) m
 
 -- ---- a list that holds each of its elements once
-
-pub data Once : List Bytes → Type 0 where
-  once-none : Once []
-  once-more : {x : Bytes} {xs : List Bytes} → (x ∈ xs → ⊥) → Once xs → Once (x ∷ xs)
 
 once-after : {xs : List Bytes} (x : Bytes) → Once xs → (x ∈ xs → ⊥) → Once (xs ++ (x ∷ []))
 once-after x once-none new = once-more new once-none

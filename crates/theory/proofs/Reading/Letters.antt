@@ -1,5 +1,5 @@
 -- The letter of a line and the bytes of its first field.
-use mathlib.Core.Path.{_≡_, refl}
+use mathlib.Core.Path.{_≡_, refl, sym, _∙_, ap}
 use mathlib.Core.Bool.{cond}
 use mathlib.Core.List.{[]}
 use Rattle.theory.specs.Text.{Bytes, bytes, same}
@@ -45,3 +45,7 @@ by-letter Q f lettered other =
   where
     branch : (text : Bytes) (letter rest : Letter) → (f ≡ text → Q letter) → Q rest → Q (cond (same f text) letter rest)
     branch text letter rest found missed = by-truth (λ b. Q (cond b letter rest)) (same f text) (λ e. found (same-equal f text e)) (λ e. missed)
+
+-- a field with a letter is that letter
+pub field-of-letter : (f : Bytes) (letter : Letter) → (letter ≡ NoLetter → ⊥) → letterOf f ≡ letter → f ≡ letterField letter
+field-of-letter f letter some = by-letter (λ found. found ≡ letter → f ≡ letterField letter) f (λ found is e. is ∙ ap letterField e) (λ e. absurd (some (sym e)))

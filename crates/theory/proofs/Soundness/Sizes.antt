@@ -12,7 +12,7 @@ use Rattle.groundwork.proofs.Truth.{by-truth}
 use Rattle.theory.specs.Lists.{_∈_, total}
 use Rattle.theory.specs.Text.{Bytes, same}
 use Rattle.theory.specs.Terms.{Term, Terms, variable, symbol, nil, cons, arity, variables, allVariables, AllGround, IsGround, Substitution, under, allUnder}
-use Rattle.theory.specs.Sizes.{Measure, flagged, size, argumentSizes, counted, argumentsCounted, occurrences, constantOf, constantsOf}
+use Rattle.theory.specs.Sizes.{Measure, flagged, size, argumentSizes, counted, argumentsCounted, occurrences, constantOf, constantsOf, sizeWhere, sizesWhere}
 use Rattle.theory.specs.Forms.{Form, plus, constantForm, formOf, valueAt}
 use Rattle.theory.specs.Packs.{Claim, Atom, atomKey, key}
 use Rattle.theory.specs.Residuals.{weighted, claimForm}
@@ -89,35 +89,52 @@ variable-value m sizeOf y =
     only-value sizeOf (formOf m (variable y)) y refl (rw (same-refl y))
     (λ x differ. by-truth (λ b. pos (cond b 1 0) ≡ pos 0) (same x y) (λ h. absurd (differ (same-equal x y h))) (λ h. refl))
 
-module _ (m : Measure) (σ : Substitution) (xs : List Bytes) (once : Once xs) where
-  -- the size of what σ gives for a variable
-  abbrev given : Bytes → ℕ
-  given x = size m (σ .for x)
-
+-- the form's value is the size at the sizes of the variables, once for every arity and number of variables
+module _ (m : Measure) (sizes : Bytes → ℕ) (xs : List Bytes) (once : Once xs) where
   mutual
-    unfolding constantOf counted under arity variables occurrences flagged total flatten
+    unfolding sizeWhere constantOf counted arity variables occurrences flagged total flatten
 
-    pub size-under : (t : Term) → ((x : Bytes) → x ∈ variables t → x ∈ xs) → valueAt (λ x. size m (σ .for x)) xs (formOf m t) ≡ pos (size m (under σ t))
-    size-under (variable y) within = variable-value m given y once (within y (List·Memᴰ·head refl))
-    size-under (symbol f ts) within =
-        rw (symbol-form m f ts, value-plus, value-constant, sizes-under ts (m f (arity ts) .flags) within, arity-under σ ts)
+    pub size-where : (t : Term) → ((x : Bytes) → x ∈ variables t → x ∈ xs) → valueAt sizes xs (formOf m t) ≡ pos (sizeWhere m sizes t)
+    size-where (variable y) within = variable-value m sizes y once (within y (List·Memᴰ·head refl))
+    size-where (symbol f ts) within = rw (symbol-form m f ts, value-plus, value-constant, flagged-where ts (m f (arity ts) .flags) within)
 
-    sizes-under : (ts : Terms) (flags : List Bool) → ((x : Bytes) → x ∈ allVariables ts → x ∈ xs) → valueAt (λ x. size m (σ .for x)) xs (flaggedForm m flags ts) ≡ pos (total (flagged flags (argumentSizes m (allUnder σ ts))))
-    sizes-under nil [] within = value-without _ xs (flaggedForm m [] nil) (λ x n. refl)
-    sizes-under nil (flag ∷ flags) within = value-without _ xs (flaggedForm m (flag ∷ flags) nil) (λ x n. refl)
-    sizes-under (cons t ts) [] within = value-without _ xs (flaggedForm m [] (cons t ts)) (λ x n. refl)
-    sizes-under (cons t ts) (true ∷ flags) within =
-        rw (first-form m flags t ts, value-plus, size-under t (λ x n. within x (Memᴰ·append-left (allVariables ts) n)), sizes-under ts flags (λ x n. within x (Memᴰ·append-right (variables t) n)))
-    sizes-under (cons t ts) (false ∷ flags) within = sizes-under ts flags (λ x n. within x (Memᴰ·append-right (variables t) n))
+    flagged-where : (ts : Terms) (flags : List Bool) → ((x : Bytes) → x ∈ allVariables ts → x ∈ xs) → valueAt sizes xs (flaggedForm m flags ts) ≡ pos (total (flagged flags (sizesWhere m sizes ts)))
+    flagged-where nil [] within = value-without _ xs (flaggedForm m [] nil) (λ x n. refl)
+    flagged-where nil (flag ∷ flags) within = value-without _ xs (flaggedForm m (flag ∷ flags) nil) (λ x n. refl)
+    flagged-where (cons t ts) [] within = value-without _ xs (flaggedForm m [] (cons t ts)) (λ x n. refl)
+    flagged-where (cons t ts) (true ∷ flags) within =
+        rw (first-form m flags t ts, value-plus, size-where t (λ x n. within x (Memᴰ·append-left (allVariables ts) n)), flagged-where ts flags (λ x n. within x (Memᴰ·append-right (variables t) n)))
+    flagged-where (cons t ts) (false ∷ flags) within = flagged-where ts flags (λ x n. within x (Memᴰ·append-right (variables t) n))
 
-  weighted-under : (cs : List ℤ) (ts : Terms) → ((x : Bytes) → x ∈ allVariables ts → x ∈ xs) → valueAt (λ x. size m (σ .for x)) xs (weighted m cs ts) ≡ weightedSizes cs (argumentSizes m (allUnder σ ts))
-  unfolding weighted weightedSizes constantsOf allUnder allVariables
-  weighted-under [] ts within = value-zero _ xs
-  weighted-under (c ∷ cs) nil within = value-zero _ xs
-  weighted-under (c ∷ cs) (cons t ts) within =
-      rw (value-plus, value-times, size-under t (λ x n. within x (Memᴰ·append-left (allVariables ts) n)), weighted-under cs ts (λ x n. within x (Memᴰ·append-right (variables t) n)))
+  weighted-where : (cs : List ℤ) (ts : Terms) → ((x : Bytes) → x ∈ allVariables ts → x ∈ xs) → valueAt sizes xs (weighted m cs ts) ≡ weightedSizes cs (sizesWhere m sizes ts)
+  unfolding weighted weightedSizes sizesWhere allVariables
+  weighted-where [] ts within = value-zero _ xs
+  weighted-where (c ∷ cs) nil within = value-zero _ xs
+  weighted-where (c ∷ cs) (cons t ts) within =
+      rw (value-plus, value-times, size-where t (λ x n. within x (Memᴰ·append-left (allVariables ts) n)), weighted-where cs ts (λ x n. within x (Memᴰ·append-right (variables t) n)))
 
-  -- a claim with an atom's sizes put in, at the sizes substituted: the claim's value at the sizes of the atom's terms under σ
-  pub claim-under : (a : Atom) (c : Claim) → ((x : Bytes) → x ∈ allVariables (a .terms) → x ∈ xs) → valueAt (λ x. size m (σ .for x)) xs (claimForm m a c) ≡ c .constant +ℤ weightedSizes (c .coefficients) (argumentSizes m (allUnder σ (a .terms)))
+  -- a claim with an atom's sizes put in: the claim's value at the sizes of the atom's terms
+  pub claim-where : (a : Atom) (c : Claim) → ((x : Bytes) → x ∈ allVariables (a .terms) → x ∈ xs) → valueAt sizes xs (claimForm m a c) ≡ c .constant +ℤ weightedSizes (c .coefficients) (sizesWhere m sizes (a .terms))
   unfolding claimForm
-  claim-under a c within = rw (value-plus, value-constant, weighted-under (c .coefficients) (a .terms) within)
+  claim-where a c within = rw (value-plus, value-constant, weighted-where (c .coefficients) (a .terms) within)
+
+-- ---- under a substitution each variable has the size of what is substituted
+
+module _ (m : Measure) (σ : Substitution) where
+  mutual
+    unfolding sizeWhere constantOf under
+
+    where-under : (t : Term) → sizeWhere m (λ x. size m (σ .for x)) t ≡ size m (under σ t)
+    where-under (variable x) = refl
+    where-under (symbol f ts) = rw (all-where-under ts, arity-under σ ts)
+
+    all-where-under : (ts : Terms) → sizesWhere m (λ x. size m (σ .for x)) ts ≡ argumentSizes m (allUnder σ ts)
+    all-where-under nil = refl
+    all-where-under (cons t ts) = rw (where-under t, all-where-under ts)
+
+  module _ (xs : List Bytes) (once : Once xs) where
+    pub size-under : (t : Term) → ((x : Bytes) → x ∈ variables t → x ∈ xs) → valueAt (λ x. size m (σ .for x)) xs (formOf m t) ≡ pos (size m (under σ t))
+    size-under t within = size-where m _ xs once t within ∙ ap pos (where-under t)
+
+    pub claim-under : (a : Atom) (c : Claim) → ((x : Bytes) → x ∈ allVariables (a .terms) → x ∈ xs) → valueAt (λ x. size m (σ .for x)) xs (claimForm m a c) ≡ c .constant +ℤ weightedSizes (c .coefficients) (argumentSizes m (allUnder σ (a .terms)))
+    claim-under a c within = claim-where m _ xs once a c within ∙ ap (λ (sizes : List ℕ). c .constant +ℤ weightedSizes (c .coefficients) sizes) (all-where-under (a .terms))
