@@ -54,6 +54,10 @@ module _ {ℓ} {A : Type ℓ} where
   pub split-member : {l : List A} (before after : List A) (a : A) → l ≡ before ++ (a ∷ after) → List·Memᴰ a l
   split-member before after a e = subst (λ (k : List A). List·Memᴰ a k) (sym e) (Memᴰ·append-right before (List·Memᴰ·head refl))
 
+  pub member-split : {a : A} {l : List A} → List·Memᴰ a l → (before : List A) × (after : List A) × (l ≡ before ++ (a ∷ after))
+  member-split (List·Memᴰ·head {xs = xs} e) = ([], xs, ap (λ (b : A). b ∷ xs) (sym e))
+  member-split (List·Memᴰ·tail {x = x} m) = let (before, after, is) = member-split m in (x ∷ before, after, ap (λ (rest : List A). x ∷ rest) is)
+
   pub split-shorter : {l : List A} (before after : List A) (a : A) → l ≡ before ++ (a ∷ after) → length before < length l
   split-shorter before after a e = omega (arith, ap length e, length-append before (a ∷ after))
 

@@ -1,12 +1,12 @@
 -- The order on the integers; "z is at least 0" is `pos 0 ≤ℤ z`. And floor division as an order.
 use mathlib.Core.Path.{_≡_, refl}
 use mathlib.Core.Logic.{_↔_}
-use mathlib.Core.Bool.{true}
+use mathlib.Core.Bool.{true, false}
 use Prim.Native.Nat.{ℕ, suc, _*_, _/_, _≤_, _<_}
 use native.Mathlib.Nat.{le-div-iff-mul-le}
 use native.Mathlib.Omega.{arith}
 use lib.IntN.{ℤ, pos, negsuc, _+ℤ_, _-ℤ_, _*ℤ_}
-use lib.Signed.{_≤ℤ_, nonNeg, yes-nonNeg}
+use lib.Signed.{_≤ℤ_, _<ℤ_, nonNeg, yes-nonNeg, ltZ-yes}
 use Rattle.groundwork.proofs.Truth.{true-from, never-both}
 use Rattle.groundwork.proofs.Difference.{to-diff, by-naturals, by-diff₂, by-diff₃, by-diff₄}
 
@@ -44,6 +44,10 @@ nonneg-of-rest = by-diff₂ _ λ p n q m. simp to-diff (omega by-naturals)
 pub nonneg-test : (z : ℤ) → nonNeg z ≡ true → pos 0 ≤ℤ z
 nonneg-test (pos n) e = nonneg-pos n
 nonneg-test (negsuc n) e = never-both e refl
+
+pub below-zero : (z : ℤ) → nonNeg z ≡ false → z <ℤ pos 0
+below-zero (pos n) e = never-both refl e
+below-zero (negsuc n) e = ltZ-yes tt
 
 pub test-nonneg : (z : ℤ) → pos 0 ≤ℤ z → nonNeg z ≡ true
 test-nonneg z h = true-from (nonNeg z) (yes-nonNeg h)

@@ -31,6 +31,8 @@ pub mod AtomLines
 pub mod MultiplierLines
 pub mod LineReading
 pub mod LineWriting
+pub mod LinesTold
+pub mod LettersTold
 -- the numbers of faults, and the first faulty line
 pub mod FaultNumbers
 pub mod UnjustifiedLines

@@ -230,10 +230,13 @@ tests m M fields p = multiplierTests fields p
 tests m E fields p = endTests m fields p
 tests m NoLetter fields p = []
 
--- The number of the fault of a line, judged in some manner after lines that write w.
-unfoldable pub fault : Manner → Written → Bytes → ℕ
-fault m w l =
-    firstOf
-    (test 4 (isUnfit l)
+-- All tests of a line, judged in some manner after lines that write w.
+abbrev pub lineTests : Manner → Written → Bytes → List Test
+lineTests m w l =
+    test 4 (isUnfit l)
     ∷ test 5 (w .ended || not (m .allows (w .pack) (lineLetter l)))
-    ∷ tests m (lineLetter l) (fieldsOf l) (w .pack))
+    ∷ tests m (lineLetter l) (fieldsOf l) (w .pack)
+
+-- The number of the line's fault.
+unfoldable pub fault : Manner → Written → Bytes → ℕ
+fault m w l = firstOf (lineTests m w l)

@@ -10,7 +10,6 @@ pub mod Residuals
 pub mod Facts
 pub mod ResidualWords
 pub mod Faults
-pub mod LineWords
 pub mod Check
 pub mod Measure
 pub mod Reserve
@@ -24,6 +23,7 @@ pub mod Import
 pub mod Imported
 pub mod Answers
 pub mod Limits
+pub mod LineWords
 pub mod Derivations
 pub mod Outcomes
 pub mod SmallestBound

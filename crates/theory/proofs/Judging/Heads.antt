@@ -14,20 +14,20 @@ use Rattle.theory.proofs.Judging.Keys.{sameKey-refl, sameKey-equal}
 
 -- ---- one predicate
 
-abbrev onClaim : Predicate → Claim → Bool
+abbrev pub onClaim : Predicate → Claim → Bool
 onClaim x c = sameKey (keyOf x) (claimKey c)
 
 abbrev atHead : Predicate → Rule → Bool
 atHead x r = sameKey (keyOf x) (atomKey (r .head))
 
 module _ (p : Pack) (x : Predicate) where
-  heads-from-test : headsRule (p .rules) x ≡ true → HeadsRule p x
+  pub heads-from-test : headsRule (p .rules) x ≡ true → HeadsRule p x
   heads-from-test e = let (r, m, same) = any-found (atHead x) (p .rules) e in record { rule = r; isOne = m; isHead = sym (sameKey-equal (keyOf x) (atomKey (r .head)) same) }
 
-  test-from-heads : HeadsRule p x → headsRule (p .rules) x ≡ true
+  pub test-from-heads : HeadsRule p x → headsRule (p .rules) x ≡ true
   test-from-heads h = any-member (atHead x) (rw (h .isHead) (sameKey-refl (keyOf x))) (h .isOne)
 
-  owes-from-claim : x .kind ≡ ruled → (c : Claim) → c ∈ p .claims → claimKey c ≡ keyOf x → owesRule (p .claims) x ≡ true
+  pub owes-from-claim : x .kind ≡ ruled → (c : Claim) → c ∈ p .claims → claimKey c ≡ keyOf x → owesRule (p .claims) x ≡ true
   unfolding isGiven
   owes-from-claim isRuled c m is = rw isRuled (any-member (onClaim x) (rw is (sameKey-refl (keyOf x))) m)
 

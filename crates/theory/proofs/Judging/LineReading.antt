@@ -46,7 +46,7 @@ pub data Fine (refuses : Bool) (p : Pack) : List Bytes → Written → Type 0 wh
 
 -- ---- a line without fault
 
-tests-numbered : (m : Manner) (letter : Letter) (fields : List Bytes) (p : Pack) → Numbered (tests m letter fields p)
+pub tests-numbered : (m : Manner) (letter : Letter) (fields : List Bytes) (p : Pack) → Numbered (tests m letter fields p)
 unfolding tests predicateTests claimTests atomTests factTests headTests subgoalTests multiplierTests endTests
 tests-numbered m P fields p = omega arith
 tests-numbered m C fields p = omega arith

@@ -1,13 +1,14 @@
 -- What a 13 says of its line: it is a line of multipliers that is due, they fit, and a number of the residual is below 0.
-use mathlib.Core.Path.{_≡_, refl, sym, _∙_, ap}
+use mathlib.Core.Path.{_≡_, sym, _∙_, ap}
 use mathlib.Core.Bool.{true, false, not}
 use mathlib.Core.List.{List}
 use Prim.Native.Nat.{ℕ, _+_, _<_}
 use native.Mathlib.Omega.{arith}
-use lib.IntN.{ℤ, pos, negsuc}
+use lib.IntN.{ℤ, pos}
 use lib.ListN.{length, drop}
-use lib.Signed.{nonNeg, _<ℤ_, ltZ-yes}
-use Rattle.groundwork.proofs.Truth.{not-true, not-false, never-both, eqb-equal}
+use lib.Signed.{nonNeg, _<ℤ_}
+use Rattle.groundwork.proofs.Order.{below-zero}
+use Rattle.groundwork.proofs.Truth.{not-true, not-false, eqb-equal}
 use Rattle.theory.specs.Lists.{_∈_, every}
 use Rattle.theory.specs.Text.{Bytes, fieldsOf}
 use Rattle.theory.specs.Packs.{claimsOnAll, multiplierLine, line}
@@ -29,10 +30,6 @@ pub record UnjustifiedLine (w : Written) (l : Bytes) : Type 0 where
   pub isLine : l ≡ line (multiplierLine (multipliersFrom (fieldsOf l)))
   pub fit : MultipliersFit (w .pack .claims) (lastRule (w .pack) .subgoals) (multipliersFrom (fieldsOf l))
   pub negative : (z : ℤ) × (z ∈ residualDue (w .pack) (multipliersFrom (fieldsOf l))) × (z <ℤ pos 0)
-
-below-zero : (z : ℤ) → nonNeg z ≡ false → z <ℤ pos 0
-below-zero (pos n) e = absurd (never-both refl e)
-below-zero (negsuc n) e = ltZ-yes tt
 
 pub unjustified-line : (w : Written) (l : Bytes) → fault whole w l ≡ 13 → UnjustifiedLine w l
 unfolding tests multiplierTests mayStand isJustified letterField
