@@ -45,3 +45,5 @@ pub mod ButForHeads
 pub mod Acceptance
 pub mod VerdictRange
 pub mod Locality
+-- worked lines
+pub mod Examples
