@@ -1,5 +1,5 @@
 -- Demand 2: which packs check accepts, also but for 24, and which bounds reserve gives.
-use mathlib.Core.Path.{_≡_, refl, _∙_, ap}
+use mathlib.Core.Path.{_≡_, refl, sym, _∙_, ap}
 use mathlib.Core.Bool.{false}
 use mathlib.Core.Logic.{_↔_}
 use Prim.Native.Char.{code}
@@ -12,6 +12,7 @@ use Rattle.theory.specs.Reserve.{queryOf, Fields, fields, reservation, a
 use Rattle.theory.specs.SmallestBound.{BoundGiven, ImpossibleBy, NoneUsable}
 use Rattle.theory.specs.Promises.{Answerable, DemandTwo, ButForHeads}
 use Rattle.theory.proofs.Judging.Acceptance.{check-accepts, acceptable-checks, accepts-but-for-heads, counts-but-for-heads}
+use Rattle.theory.proofs.Judging.PackReading.{fits-spelled, lines-write}
 use Rattle.theory.proofs.Judging.ButForHeads.{judgements-agree, no-judgement-24, goes-past}
 use Rattle.theory.proofs.Reserving.Reservations.{bound-exactly, impossible-exactly, none-exactly}
 use Rattle.theory.proofs.Reserving.ReserveAnswers.{answered}
@@ -32,6 +33,7 @@ exactly text query x Told other told = (
 pub demand-two : (text : Bytes) → DemandTwo text
 demand-two text = record {
   accepted = λ area. (check-accepts text area, acceptable-checks text area);
+  pack = λ a. sym (rw (a .isWritten) (lines-write (a .pack) (fits-spelled (a .pack) (a .fits))));
   bound = λ query b n. exactly text query (fields (code "B") b n) (BoundGiven (packOf text) (queryOf query) b n) refl (bound-exactly (packOf text) (queryOf query) b n);
   impossible = λ query n. exactly text query (fields (code "I") 0 n) (ImpossibleBy (packOf text) (queryOf query) n) refl (impossible-exactly (packOf text) (queryOf query) n);
   noBound = λ query. exactly text query (fields (code "N") 0 0) (NoneUsable (packOf text) (queryOf query)) refl (none-exactly (packOf text) (queryOf query));

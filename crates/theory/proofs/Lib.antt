@@ -31,3 +31,5 @@ pub mod ImportKept
 pub mod Examples
 pub mod Derived
 pub mod Shipped
+-- all of it
+pub mod Promised

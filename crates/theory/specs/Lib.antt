@@ -29,3 +29,4 @@ pub mod Outcomes
 pub mod SmallestBound
 pub mod Ranges
 pub mod Promises
+pub mod Promised

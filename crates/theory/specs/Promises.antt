@@ -1,6 +1,5 @@
--- The three demands, as statements about what check and reserve return, each with its premises; and what the calls' own
--- answers and words tell. Proved in proofs/DemandOne, DemandTwo, DemandThree, Words; what sizes are, in
--- proofs/SectionForm; what a name with its arity means, in proofs/ShareNothing.
+-- The three demands, as statements about what check and reserve return; and what the calls' own answers and words tell. Promised
+-- says of what all this holds, and that is proved as a whole.
 use mathlib.Core.Path.{_≡_}
 use mathlib.Core.Logic.{_↔_}
 use mathlib.Core.List.{List}
@@ -11,9 +10,9 @@ use lib.IntN.{ℤ, pos}
 use lib.ListN.{length, drop}
 use Rattle.theory.specs.Lists.{_∈_, ending}
 use Rattle.theory.specs.Text.{Bytes, linesOf}
-use Rattle.theory.specs.Terms.{Term}
-use Rattle.theory.specs.Sizes.{sumOfArities, occurrencesIn, structural, constantOf, coefficientOf}
-use Rattle.theory.specs.Forms.{formOf}
+use Rattle.theory.specs.Terms.{Term, variables, Substitution, under}
+use Rattle.theory.specs.Sizes.{sumOfArities, occurrencesIn, Measure, structural, constantOf, coefficientOf, size}
+use Rattle.theory.specs.Forms.{formOf, Once, valueAt}
 use Rattle.theory.specs.Packs.{Predicate, Claim, Atom, Pack, key, claimKey, atomKey, declaredAs, claimsOn, onClaims}
 use Rattle.theory.specs.Written.{packOf}
 use Rattle.theory.specs.Residuals.{areaNeeded}
@@ -37,7 +36,7 @@ use Rattle.theory.specs.declared.Reservation.the-variants.{Bounded, Impo
 use Rattle.theory.specs.Facts.{MeetsAll}
 use Rattle.theory.specs.Derivations.{GivenFact, ShippedFact, Derivable}
 
--- ## Sizes (02, 4/14)
+-- ## Sizes (demand 2, its first sentence; 02, 4/14)
 
 -- By the structural measure a term's form is what 000, section 1.4 makes of the term: the first part is the sum of the
 -- arities of its symbols, the second the number of occurrences of each variable, and both together are the form.
@@ -46,10 +45,15 @@ pub record SectionForm (t : Term) : Type 0 where
   pub second : (x : Bytes) → coefficientOf structural t x ≡ occurrencesIn t x
   pub both : formOf structural t ≡ record { constant = pos (sumOfArities t); coefficient = λ x. pos (occurrencesIn t x) }
 
+-- Measuring a term after substitution gives what its form gives at the sizes substituted: for every measure, and any list of
+-- variables that holds the term's own, each once.
+pub record SizeUnder (m : Measure) (σ : Substitution) (t : Term) : Type 0 where
+  pub is : (xs : List Bytes) → Once xs → ((x : Bytes) → x ∈ variables t → x ∈ xs) → valueAt (λ x. size m (σ .for x)) xs (formOf m t) ≡ pos (size m (under σ t))
+
 -- ## Names (02, 5/14)
 
--- Two predicates of one name and different arities share nothing: no declaration, claim or fact is of both, and a claim on
--- the one changes no reservation by the other.
+-- What two predicates of one name and two arities share, which is nothing where the arities differ: no declaration, claim or fact
+-- is of both, and a claim on the one changes no reservation by the other.
 pub record ShareNothing (name : Bytes) (n other : ℕ) : Type 0 where
   pub declared : (ps : List Predicate) (x : Predicate) → declaredAs (key name n) ps ≡ some x → declaredAs (key name other) ps ≡ some x → ⊥
   pub claims : (cs : List Claim) (c : Claim) → c ∈ claimsOn (key name n) cs → c ∈ claimsOn (key name other) cs → ⊥
@@ -76,6 +80,8 @@ pub record Answerable (text query : Bytes) : Type 0 where
 -- that gives it; and so for the other answers.
 pub record DemandTwo (text : Bytes) : Type 0 where
   pub accepted : (area : List ℤ) → (checkOf text area .returned .number ≡ 0) ↔ Acceptable text area
+  -- the pack that the text writes is the one that its lines write, of which reserve and demand 3 speak
+  pub pack : (a : AcceptableButForHeads text) → a .pack ≡ packOf text
   pub bound : (query : Bytes) (b n : ℕ) → (reserveOf text query ≡ fields (code "B") b n) ↔ (Answerable text query × BoundGiven (packOf text) (queryOf query) b n)
   pub impossible : (query : Bytes) (n : ℕ) → (reserveOf text query ≡ fields (code "I") 0 n) ↔ (Answerable text query × ImpossibleBy (packOf text) (queryOf query) n)
   pub noBound : (query : Bytes) → (reserveOf text query ≡ fields (code "N") 0 0) ↔ (Answerable text query × NoneUsable (packOf text) (queryOf query))
