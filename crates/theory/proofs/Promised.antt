@@ -1,5 +1,6 @@
 -- All that is promised, proved as a whole.
 use mathlib.Core.Bool.{true}
+use Rattle.theory.specs.Written.{nothing, writeAll}
 use Rattle.theory.specs.Promised.{SizesPromised, LinesPromised, Promised}
 use Rattle.theory.proofs.Judging.FineRuns.{reached-short}
 use Rattle.theory.proofs.Judging.LinesTold.{line-told}
@@ -29,7 +30,7 @@ sizes-promised = record {
 lines-promised : LinesPromised
 lines-promised = record {
   every = λ before l. line-told _ l;
-  lettered = λ before l fine unended. letter-told _ l (reached-short true before fine unended .reached);
+  lettered = λ before l fine unended. letter-told (writeAll nothing before) l (reached-short true before fine unended .reached);
 }
 
 pub promised : Promised

@@ -48,8 +48,8 @@ pub record ResidualTold (m : Measure) (claims : List Claim) (head : Atom) (subgo
   pub headForm : (sizes : Bytes → ℕ) → valueAt sizes (ruleVariables head subgoals) (claimForm m head claim) ≡ valueOf claim (sizesWhere m sizes (head .terms))
   pub residual : (sizes : Bytes → ℕ) → valueAt sizes (ruleVariables head subgoals) (residual m claims head subgoals claim multipliers)
       ≡ valueOf claim (sizesWhere m sizes (head .terms)) -ℤ summed (length multipliers) (λ i.
-          let o = getD (owedBy claims subgoals) i noneOwed in
-          pos (getD multipliers i 0) *ℤ valueOf (o .claim) (sizesWhere m sizes (o .subgoal .terms)))
+      let o = getD (owedBy claims subgoals) i noneOwed in
+      pos (getD multipliers i 0) *ℤ valueOf (o .claim) (sizesWhere m sizes (o .subgoal .terms)))
 
 -- ## Variables and numbers
 

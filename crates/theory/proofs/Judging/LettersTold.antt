@@ -138,8 +138,7 @@ headless-told p = (from, λ h. any-member (isHeadless p) (headless (h .0) (h .1)
     from e =
         let (x, m, lacks) = any-found (isHeadless p) (p .predicates) e in
         let owes = and-left (owesRule (p .claims) x) (not (headsRule (p .rules) x)) lacks in
-        let (c, n, same) = any-found (claimOn x) (p .claims) (and-right (not (isGiven (x .kind))) (any (claimOn x) (p .claims)) owes) in
-        (
+        let (c, n, same) = any-found (claimOn x) (p .claims) (and-right (not (isGiven (x .kind))) (any (claimOn x) (p .claims)) owes) in (
           x,
           record {
             declared = m;
