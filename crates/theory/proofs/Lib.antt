@@ -13,6 +13,8 @@ pub mod Reserving
 pub mod Sheets
 -- clauses as the makers write them
 pub mod Importing
+-- measure and the program, in words
+pub mod MeasureTold
 -- what sizes are
 pub mod SectionForm
 -- names with their arities
