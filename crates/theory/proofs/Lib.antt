@@ -13,8 +13,11 @@ pub mod Reserving
 pub mod Sheets
 -- clauses as the makers write them
 pub mod Importing
+-- the program's input
+pub mod Replying
 -- measure and the program, in words
 pub mod MeasureTold
+pub mod ReplyTold
 -- what sizes are
 pub mod SectionForm
 -- names with their arities

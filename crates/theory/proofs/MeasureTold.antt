@@ -9,13 +9,13 @@ use Rattle.groundwork.proofs.Truth.{by-truth, and-left, never-both}
 use Rattle.groundwork.proofs.Lists.{member-unempty}
 use Rattle.theory.specs.Lists.{every, isEmpty, _∈_}
 use Rattle.theory.specs.Text.{Bytes, between}
-use Rattle.theory.specs.Terms.{Term, writtenTerm, readTerm, variables, IsGround}
+use Rattle.theory.specs.Terms.{Term, WrittenAs, readTerm, variables, IsGround}
 use Rattle.theory.specs.Sizes.{structural, sumOfArities, size}
 use Rattle.theory.specs.Packs.{lineLimit}
 use Rattle.theory.specs.Faults.{isUnfit}
 use Rattle.theory.specs.LineWords.{Fit}
 use Rattle.theory.specs.Measure.{Measured, measured, measureTerm, measureOf}
-use Rattle.theory.specs.MeasureTold.{Writes, MeasureOutcome, sized, unfit, notTerm, hasVariable, MeasureTold}
+use Rattle.theory.specs.MeasureTold.{MeasureOutcome, sized, unfit, notTerm, hasVariable, MeasureTold}
 use Rattle.theory.proofs.Reading.Bytes.{isFieldByte, between-low, between-high}
 use Rattle.theory.proofs.Reading.Every.{every-member}
 use Rattle.theory.proofs.Reading.TermReading.{read-of-written, written-of-read, term-bytes}
@@ -50,22 +50,21 @@ module _ (bs : Bytes) where
       (λ e. unfit (unfit-told bs e)) (λ e. of-term (fit-told bs e) (readTerm bs) refl)
     where
       of-term : Fit bs → (o : Option Term) → readTerm bs ≡ o → MeasureOutcome bs (measureTerm o)
-      of-term fit none e = notTerm fit λ t w. Option·none-ne-some t (sym e ∙ ap readTerm (w .are) ∙ read-of-written t (w .formed))
+      of-term fit none e = notTerm fit λ t w. Option·none-ne-some t (sym e ∙ ap readTerm (w .is) ∙ read-of-written t (w .formed))
       of-term fit (some t) e =
           let is = written-of-read bs t e in
-          let w : Writes bs t = record { formed = is .formed; are = is .is } in
           by-truth (λ (b : Bool). MeasureOutcome bs (cond b (measured 0 (size structural t)) (measured 19 0))) (isEmpty (variables t))
-          (λ g. rw (section-form t .first) (sized t w (ground-of t g) (fit .short)))
-          (λ g. let (x, m) = variable-of t g in hasVariable fit t w x m)
+          (λ g. rw (section-form t .first) (sized t is (ground-of t g) (fit .short)))
+          (λ g. let (x, m) = variable-of t g in hasVariable fit t is x m)
 
   -- ---- and there is no other
 
   -- a written term has bytes of a field, so only its length is asked
-  written-fit : (t : Term) → Writes bs t → length bs ≤ lineLimit → Fit bs
+  written-fit : (t : Term) → WrittenAs t bs → length bs ≤ lineLimit → Fit bs
   written-fit t w short = record {
     short = short;
     bytes = λ b m.
-        let h = and-left (between 32 126 b) _ (every-member isFieldByte (ap (every isFieldByte) (w .are) ∙ term-bytes t (w .formed)) m) in
+        let h = and-left (between 32 126 b) _ (every-member isFieldByte (ap (every isFieldByte) (w .is) ∙ term-bytes t (w .formed)) m) in
         (between-low 32 126 b h, between-high 32 126 b h);
   }
 
@@ -73,9 +72,9 @@ module _ (bs : Bytes) where
   unfolding measureOf
   fit-answer fit = rw (fit-exactly bs .1 fit)
 
-  term-answer : Fit bs → (t : Term) → Writes bs t → measureOf bs ≡ cond (isEmpty (variables t)) (measured 0 (size structural t)) (measured 19 0)
+  term-answer : Fit bs → (t : Term) → WrittenAs t bs → measureOf bs ≡ cond (isEmpty (variables t)) (measured 0 (size structural t)) (measured 19 0)
   unfolding measureTerm
-  term-answer fit t w = fit-answer fit ∙ ap measureTerm (ap readTerm (w .are) ∙ read-of-written t (w .formed))
+  term-answer fit t w = fit-answer fit ∙ ap measureTerm (ap readTerm (w .is) ∙ read-of-written t (w .formed))
 
   only : (m : Measured) → MeasureOutcome bs m → m ≡ measureOf bs
   unfolding measureOf measureTerm isEmpty
@@ -86,7 +85,7 @@ module _ (bs : Bytes) where
     where
       unread : (o : Option Term) → readTerm bs ≡ o → measureTerm o ≡ measured 11 0
       unread none e = refl
-      unread (some t) e = let is = written-of-read bs t e in absurd (without t (record { formed = is .formed; are = is .is }))
+      unread (some t) e = absurd (without t (written-of-read bs t e))
   only m (hasVariable fit t w x has) = sym (term-answer fit t w ∙ occurs (variables t) has)
     where
       occurs : (xs : List Bytes) → x ∈ xs → cond (isEmpty xs) (measured 0 (size structural t)) (measured 19 0) ≡ measured 19 0

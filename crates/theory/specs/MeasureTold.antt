@@ -4,24 +4,19 @@ use Prim.Native.Nat.{_≤_}
 use lib.ListN.{length}
 use Rattle.theory.specs.Lists.{_∈_}
 use Rattle.theory.specs.Text.{Bytes}
-use Rattle.theory.specs.Terms.{Term, writtenTerm, WellFormed, variables, IsGround}
+use Rattle.theory.specs.Terms.{Term, WrittenAs, variables, IsGround}
 use Rattle.theory.specs.Sizes.{sumOfArities}
 use Rattle.theory.specs.Packs.{lineLimit}
 use Rattle.theory.specs.LineWords.{Fit, Unfit}
 use Rattle.theory.specs.Measure.{Measured, measured, measureOf}
 
--- the bytes write a term: its names, variables and arities are such, and the bytes are the term written
-pub record Writes (bs : Bytes) (t : Term) : Type 0 where
-  pub formed : WellFormed t
-  pub are : bs ≡ writtenTerm t
-
 -- 0 with the sum of the arities, where the bytes write a ground term and are not too many. Else 4; 11 where they write no
 -- term; 19 where they write one with a variable.
 pub data MeasureOutcome (bs : Bytes) : Measured → Type 0 where
-  sized : (t : Term) → Writes bs t → IsGround t → length bs ≤ lineLimit → MeasureOutcome bs (measured 0 (sumOfArities t))
+  sized : (t : Term) → WrittenAs t bs → IsGround t → length bs ≤ lineLimit → MeasureOutcome bs (measured 0 (sumOfArities t))
   unfit : Unfit bs → MeasureOutcome bs (measured 4 0)
-  notTerm : Fit bs → ((t : Term) → Writes bs t → ⊥) → MeasureOutcome bs (measured 11 0)
-  hasVariable : Fit bs → (t : Term) → Writes bs t → (x : Bytes) → x ∈ variables t → MeasureOutcome bs (measured 19 0)
+  notTerm : Fit bs → ((t : Term) → WrittenAs t bs → ⊥) → MeasureOutcome bs (measured 11 0)
+  hasVariable : Fit bs → (t : Term) → WrittenAs t bs → (x : Bytes) → x ∈ variables t → MeasureOutcome bs (measured 19 0)
 
 -- For all bytes: measure's answer is such an outcome, and there is no other.
 pub record MeasureTold : Type 0 where
