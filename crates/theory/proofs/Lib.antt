@@ -34,5 +34,7 @@ pub mod SheetKept
 pub mod ImportKept
 -- document 01's starred examples, and those of later requests; facts with derivations, and a fact without
 pub mod Examples
+pub mod Limits
+pub mod Answering
 pub mod Derived
 pub mod Shipped

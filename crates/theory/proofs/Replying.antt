@@ -5,3 +5,5 @@ pub mod PackLines
 pub mod LinesTold
 -- where the pack ends
 pub mod Divisions
+-- worked examples
+pub mod Examples
