@@ -1,13 +1,16 @@
 -- Document 01's limits at their edges, as one table: what passes, and one more.
 use mathlib.Core.Path.{_≡_, refl}
 use mathlib.Core.List.{List, [], _∷_, _++_, map, flatMap, flatten}
-use Prim.Native.Nat.{ℕ}
+use mathlib.Core.Bool.{false}
+use Prim.Native.Nat.{ℕ, _≤_, _<_}
 use Prim.Native.Char.{code}
 use Prim.Native.String.{String}
 use lib.IntN.{ℤ, pos}
-use lib.ListN.{replicate}
+use lib.ListN.{length, replicate}
+use Rattle.groundwork.proofs.Truth.{lt-ltb, ge-ltb}
 use Rattle.theory.specs.Text.{Bytes, bytes}
-use Rattle.theory.specs.Check.{numbers}
+use Rattle.theory.specs.Packs.{textLimit}
+use Rattle.theory.specs.Check.{numbers, isFinished, judgementOf, verdictOf}
 use Rattle.theory.specs.Measure.{measured}
 use Rattle.theory.proofs.Examples.{Example, check, checkOn, measureOn, Answer, checked, sized, answerTo, before, unchanged, Row, _gives_, AnswersMet}
 
@@ -29,8 +32,7 @@ nested n constant = times n "f/1 " ++ bytes constant
 
 -- Counts: the line of the 12 is that of the 33rd predicate, the 17th claim, the 65th rule, the 9th subgoal and the 17th variable,
 -- so all before it pass. Then lines of 1,024 and 1,025 bytes; claim numbers and multipliers up to 9999; names, variables and symbols
--- of 16 and 17 bytes; 8 and 9 arguments of a predicate, 9 and 10 of a symbol; texts of 32,768 and 32,769 bytes; areas of 17 and 16
--- numbers; terms of 1,024 and 1,025 bytes.
+-- of 16 and 17 bytes; 8 and 9 arguments of a predicate, 9 and 10 of a symbol; areas of 17 and 16 numbers; terms of 1,024 and 1,025 bytes.
 abbrev pub limits : List Row
 limits =
     (checkOn (predicates ++ bytes "P,e,0,G\nE\n") before gives unchanged 12 33 0 0)
@@ -56,8 +58,6 @@ limits =
     ∷ (check "P,k,9,G\nE\n" before gives unchanged 10 1 0 0)
     ∷ (measureOn (bytes "f/9 " ++ times 8 "a/0 " ++ bytes "a/0") gives sized (measured 0 9))
     ∷ (measureOn (bytes "f/10 " ++ times 9 "a/0 " ++ bytes "a/0") gives sized (measured 11 0))
-    ∷ (checkOn (replicate 32768 (code "E")) before gives unchanged 3 0 0 0)
-    ∷ (checkOn (replicate 32769 (code "E")) before gives unchanged 2 0 0 0)
     ∷ (check "E\n" (replicate 17 (pos 7)) gives checked (record { returned = numbers 0 1 0 0; area = replicate 17 (pos 7) }))
     ∷ (check "E\n" (replicate 16 (pos 7)) gives checked (record { returned = numbers 1 0 0 0; area = replicate 16 (pos 7) }))
     ∷ (measureOn (nested 255 "ab/0") gives sized (measured 0 255))
@@ -67,3 +67,12 @@ limits =
 pub limits-are-met : AnswersMet limits
 unfolding answerTo bytes flatMap flatten
 limits-are-met = refl
+
+-- A text's length, for every text (one of 32,768 bytes takes long to compute): up to there its last byte is asked for.
+pub record TextLimitMet : Type 0 where
+  pub short : (text : Bytes) → length text ≤ 32768 → isFinished text ≡ false → verdictOf text .returned ≡ numbers 3 0 0 0
+  pub long : (text : Bytes) → 32768 < length text → verdictOf text .returned ≡ numbers 2 0 0 0
+
+pub text-limit-is-met : TextLimitMet
+unfolding judgementOf
+text-limit-is-met = record { short = λ text h e. rw (ge-ltb textLimit (length text) h, e); long = λ text h. rw (lt-ltb textLimit (length text) h) }
