@@ -1,4 +1,3 @@
 -- Laws on the lines that are printed, and on where the pack ends.
 pub mod PrintedLines
-pub mod PackLines
 pub mod PackSearch

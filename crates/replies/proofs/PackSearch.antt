@@ -13,7 +13,7 @@ use Rattle.theory.proofs.Reading.Separators.{isFree}
 use Rattle.text.specs.Scans.{part, Finds}
 use Rattle.text.proofs.Parts.{part-more, part-rest, drop-cut, drop-more}
 use Rattle.replies.specs.Replies.{PackEnds}
-use Rattle.replies.proofs.PackLines.{not-end, pack-end, queries-end, pack-line, queries-line, pack-last, queries-last}
+use Rattle.theory.proofs.Replying.PackLines.{not-end, pack-end, queries-end, pack-line, queries-line, pack-last, queries-last}
 
 -- the lines before a place are of the pack, and none of them ends it
 pub record Seeking (input : Bytes) (at : ℕ) : Type 0 where

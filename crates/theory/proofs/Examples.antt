@@ -23,39 +23,47 @@ use Rattle.theory.specs.Check.{numbers, Checked, multiplierLines, refuse
 use Rattle.theory.specs.Measure.{Measured, measured, measureTerm, measureOf}
 use Rattle.theory.specs.Pages.{Paged, paged, afterVerdict}
 use Rattle.theory.specs.Sheet.{spaces, rightAligned, leftAligned, columns, sheetLine, sheetLines, sheet, sheetOf}
+use Rattle.theory.specs.Program.{wholeLines, throughEnd, afterEnd, packPart, queries, printedNumbers, printedFields, reply}
 use Rattle.theory.specs.Derivations.{GivenFact, Derivable, byRule, atomUnder}
 use Rattle.theory.proofs.Judging.Keys.{declared-member}
 use Rattle.theory.specs.Reserve.{Fields, fields, sizeFrom, queryFrom, queryOf, queryFault, unknownsAtMostZero, knownPart, isUsable, numerator, boundBy, usableFrom, impossibles, smallest, bounded, impossibleOr, reservation, refusal, answerOf, reserveOf}
 
--- a call with quoted texts, and what it answers
+-- a call with quoted texts or with bytes, and what it answers
 pub data Example : Type 0 where
   check : String → List ℤ → Example
+  checkOn : Bytes → List ℤ → Example
   reserve : String → String → Example
   measure : String → Example
+  measureOn : Bytes → Example
   sheetOn : String → Bytes → Example
+  replyTo : String → Example
 
 pub data Answer : Type 0 where
   checked : Checked → Answer
   reserved : Fields → Answer
   sized : Measured → Answer
   filed : Paged → Answer
+  printed : Bytes → Answer
 
 unfoldable pub answerTo : Example → Answer
-unfolding bytes same among every any partsAt joined linesOf isNameByte isWord valueAfter isDecimal natural negated integer arity symbolFrom symbolIn tokenOf firstTerms after afterAll termsOf theOnly readTerm structural flagged total flatten constantOf counted variables occurrences zeroForm plus times minus constantForm formOf sameKey declaredAs claimsOn letterOf termsFrom kindFrom predicateFrom claimFrom atomFrom multipliersFrom nothing onLast add write writeAll packOf weighted claimForm subgoalForms combined residual numbered atomsVariables ruleVariables residualNumbers isJustified weightedSizes isMet firstOf isSome isUnfit less lineArity declaredFor isGiven givenIn ruledIn isEmpty noRule lastOf fromRules fromFacts fromClaims ruleLines claimLine factLine headLine mayStand noClaim residualDue predicateTests claimTests atomTests factTests headTests subgoalTests multiplierTests endTests tests fault multiplierLines refused judge isFinished judgementOf checkOf measureTerm measureOf sizeFrom queryFrom queryOf queryFault unknownsAtMostZero knownPart isUsable numerator boundBy usableFrom impossibles smallest bounded impossibleOr reservation refusal answerOf reserveOf flatMap textOf decimal lastDigits spaces rightAligned leftAligned columns sheetLine sheetLines sheet afterVerdict sheetOf
+unfolding bytes same among every any partsAt joined linesOf isNameByte isWord valueAfter isDecimal natural negated integer arity symbolFrom symbolIn tokenOf firstTerms after afterAll termsOf theOnly readTerm structural flagged total flatten constantOf counted variables occurrences zeroForm plus times minus constantForm formOf sameKey declaredAs claimsOn letterOf termsFrom kindFrom predicateFrom claimFrom atomFrom multipliersFrom nothing onLast add write writeAll packOf weighted claimForm subgoalForms combined residual numbered atomsVariables ruleVariables residualNumbers isJustified weightedSizes isMet firstOf isSome isUnfit less lineArity declaredFor isGiven givenIn ruledIn isEmpty noRule lastOf fromRules fromFacts fromClaims ruleLines claimLine factLine headLine mayStand noClaim residualDue predicateTests claimTests atomTests factTests headTests subgoalTests multiplierTests endTests tests fault multiplierLines refused judge isFinished judgementOf checkOf measureTerm measureOf sizeFrom queryFrom queryOf queryFault unknownsAtMostZero knownPart isUsable numerator boundBy usableFrom impossibles smallest bounded impossibleOr reservation refusal answerOf reserveOf flatMap textOf decimal lastDigits spaces rightAligned leftAligned columns sheetLine sheetLines sheet afterVerdict sheetOf wholeLines throughEnd afterEnd packPart queries printedNumbers printedFields reply
 answerTo (check pack area) = checked (checkOf (bytes pack) area)
+answerTo (checkOn pack area) = checked (checkOf pack area)
 answerTo (reserve pack query) = reserved (reserveOf (bytes pack) (bytes query))
 answerTo (measure term) = sized (measureOf (bytes term))
+answerTo (measureOn term) = sized (measureOf term)
 answerTo (sheetOn pack page) = filed (sheetOf (bytes pack) page)
+answerTo (replyTo input) = printed (reply (bytes input))
 
 -- an area at entry: 19 numbers, none of them 0
-abbrev before : List ℤ
+abbrev pub before : List ℤ
 before = replicate 19 (pos 7)
 
 -- at exit, where the residual lies in it: its first numbers, zeros up to 17, and the last two as they were
 abbrev left : ℕ → List ℤ → List ℤ
 left zeros numbers = numbers ++ (replicate zeros (pos 0) ++ replicate 2 (pos 7))
 
-abbrev unchanged : ℕ → ℕ → ℕ → ℕ → Answer
+abbrev pub unchanged : ℕ → ℕ → ℕ → ℕ → Answer
 unchanged a b c d = checked (record { returned = numbers a b c d; area = before })
 
 abbrev unjustified : ℕ → ℕ → ℕ → List ℤ → Answer
@@ -71,7 +79,7 @@ pub record Row : Type 1 where
   pub besides : Type 0
 
 infix 10 _gives_
-abbrev _gives_ : Example → Answer → Row
+abbrev pub _gives_ : Example → Answer → Row
 _gives_ e a = record { call = e; answer = a; besides = Unit {0} }
 
 -- a claim that contradicts itself
@@ -79,7 +87,7 @@ abbrev contradicted : String
 contradicted = "P,k,1,R\nC,k,-1,0\nH,k,X\nB,k,X\nM,1\nE\n"
 
 -- lists joined
-abbrev joining : String
+abbrev pub joining : String
 joining = "P,join,3,R\nC,join,0,1,1,-1\nC,join,0,-1,-1,1\nH,join,nil/0,Y,Y\nM\nM\nH,join,cons/2 X Xs,Y,cons/2 X Zs\nB,join,Xs,Y,Zs\nM,1,0\nM,0,1\nE\n"
 
 abbrev pub starred : List Row
@@ -118,9 +126,13 @@ abbrev AllBesides : List Row → Type 0
 AllBesides [] = Unit {0}
 AllBesides (r ∷ rows) = r .besides × AllBesides rows
 
+-- every answer of a table
+abbrev pub AnswersMet : List Row → Type 0
+AnswersMet rows = map (λ (r : Row). answerTo (r .call)) rows ≡ map (λ (r : Row). r .answer) rows
+
 -- A table as a whole: every answer, and what is said besides.
 pub record TableMet (rows : List Row) : Type 0 where
-  pub answers : map (λ (r : Row). answerTo (r .call)) rows ≡ map (λ (r : Row). r .answer) rows
+  pub answers : AnswersMet rows
   pub besides : AllBesides rows
 
 -- Document 01's starred examples.

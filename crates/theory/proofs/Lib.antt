@@ -13,6 +13,11 @@ pub mod Reserving
 pub mod Sheets
 -- clauses as the makers write them
 pub mod Importing
+-- the program's input
+pub mod Replying
+-- measure and the program, in words
+pub mod MeasureTold
+pub mod ReplyTold
 -- what sizes are
 pub mod SectionForm
 -- names with their arities
@@ -29,6 +34,8 @@ pub mod SheetKept
 pub mod ImportKept
 -- document 01's starred examples, and those of later requests; facts with derivations, and a fact without
 pub mod Examples
+pub mod Limits
+pub mod Answering
 pub mod Derived
 pub mod Shipped
 -- all of it

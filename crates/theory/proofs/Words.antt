@@ -20,7 +20,7 @@ use Rattle.theory.specs.Faults.{isUnfit}
 use Rattle.theory.specs.Check.{Numbers, numbers, verdictOf, checkOf}
 use Rattle.theory.specs.Measure.{Measured, measured, measureTerm, measureOf}
 use Rattle.theory.specs.Reserve.{queryOf, Fields, fields, reserveOf}
-use Rattle.theory.specs.Words.{checkWord, reserveWord, measureWord, CheckRoom, ReserveRoom, MeasureRoom, wordNumber, wordLetter, wordBy, wordMiddle, numbersIn, fieldsIn, measuredIn}
+use Rattle.theory.specs.Words.{checkWord, reserveWord, measureWord, CheckRoom, ReserveRoom, MeasureRoom, WordFactors, wordNumber, wordLetter, wordBy, wordMiddle, numbersIn, fieldsIn, measuredIn}
 use Rattle.theory.specs.Promises.{ClaimsKept, WordsKept, WordsTell}
 use Rattle.theory.proofs.Reading.TermReading.{written-of-read}
 use Rattle.theory.proofs.Reading.TermLengths.{tokens-written}
@@ -94,6 +94,10 @@ words-tell text area query term = record {
   reserve = fields-back _ (reserved-room text query);
   measure = measured-back _ (measure-room term);
 }
+
+pub word-factors : WordFactors
+unfolding checkWord reserveWord measureWord
+word-factors = record { check = λ a b c d. omega arith; reserve = λ l m c. omega arith; measure = λ r s. omega arith }
 
 -- ---- demand 3 of the words
 

@@ -12,8 +12,10 @@ pub mod ResidualWords
 pub mod Faults
 pub mod Check
 pub mod Measure
+pub mod MeasureTold
 pub mod Reserve
 pub mod Program
+pub mod ReplyTold
 pub mod Words
 pub mod Pages
 pub mod Sheet

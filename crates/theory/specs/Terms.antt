@@ -49,6 +49,11 @@ abbrev mutual
   AllWellFormed nil = Unit {0}
   AllWellFormed (cons t ts) = WellFormed t × AllWellFormed ts
 
+-- the bytes are such a term, written
+pub record WrittenAs (t : Term) (bs : Bytes) : Type 0 where
+  pub is : bs ≡ writtenTerm t
+  pub formed : WellFormed t
+
 -- ## How a field is read: its tokens from the last to the first, where a symbol of arity k takes the k terms after it
 
 pub data Token : Type 0 where

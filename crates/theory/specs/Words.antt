@@ -1,4 +1,5 @@
 -- Document 01, the C words of "What check returns": how an answer is put into one 64-bit word, and taken apart again.
+use mathlib.Core.Path.{_≡_}
 use Prim.Native.Nat.{ℕ, _+_, _*_, _/_, _%_, _^_, _<_}
 use Rattle.theory.specs.Check.{Numbers, numbers}
 use Rattle.theory.specs.Measure.{Measured, measured}
@@ -12,6 +13,12 @@ reserveWord f = f .letter + f .claim * 2 ^ 8 + f .middle * 2 ^ 16
 
 unfoldable pub measureWord : Measured → ℕ
 measureWord m = m .refusal + m .size * 2 ^ 8
+
+-- The same with the factors as plain numbers: 256, 16 777 216 and 4 294 967 296; 256 and 65 536; 256.
+pub record WordFactors : Type 0 where
+  pub check : (a b c d : ℕ) → checkWord (numbers a b c d) ≡ a + b * 256 + c * 16777216 + d * 4294967296
+  pub reserve : (l m c : ℕ) → reserveWord (fields l m c) ≡ l + c * 256 + m * 65536
+  pub measure : (r s : ℕ) → measureWord (measured r s) ≡ r + s * 256
 
 -- ## The room that each number has in its word
 

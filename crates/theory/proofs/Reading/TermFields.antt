@@ -6,7 +6,7 @@ use Prim.Native.Nat.{suc}
 use lib.ListN.{length}
 use Rattle.theory.specs.Lists.{every}
 use Rattle.theory.specs.Text.{Bytes}
-use Rattle.theory.specs.Terms.{Terms, variable, nil, cons, arity, AllWellFormed, writtenTerm, readTerm}
+use Rattle.theory.specs.Terms.{Terms, variable, nil, cons, arity, AllWellFormed, WrittenAs, writtenTerm, readTerm}
 use Rattle.theory.specs.Packs.{termFields}
 use Rattle.theory.specs.Written.{termsFrom}
 use Rattle.theory.specs.Faults.{isTerm}
@@ -14,7 +14,7 @@ use Rattle.theory.proofs.Reading.Every.{every-first, every-rest, every-
 use Rattle.theory.proofs.Reading.FieldValues.{valueOf, value-read}
 use Rattle.theory.proofs.Reading.PlainFields.{Plain, plain-nil, plain-cons}
 use Rattle.theory.proofs.Reading.Presence.{some-is}
-use Rattle.theory.proofs.Reading.TermReading.{WrittenAs, read-of-written, written-of-read, term-bytes}
+use Rattle.theory.proofs.Reading.TermReading.{read-of-written, written-of-read, term-bytes}
 
 first-written : (f : Bytes) (fs : List Bytes) → every isTerm (f ∷ fs) ≡ true → WrittenAs (valueOf readTerm (variable []) f) f
 first-written f fs h = written-of-read f (valueOf readTerm (variable []) f) (value-read readTerm (variable []) f (every-first isTerm f fs h))

@@ -6,7 +6,7 @@ use mathlib.Core.Option.{Option, some, none, Option·map, Option·some-injective
 use Prim.Native.Nat.{ℕ, zero, suc, _≤_}
 use Rattle.theory.specs.Lists.{every, _∈_}
 use Rattle.theory.specs.Text.{Bytes, partsAt, joined}
-use Rattle.theory.specs.Terms.{Term, variable, symbol, Terms, nil, cons, arity, symbolToken, tokens, allTokens, writtenTerm, WellFormed, AllWellFormed}
+use Rattle.theory.specs.Terms.{Term, variable, symbol, Terms, nil, cons, arity, symbolToken, tokens, allTokens, writtenTerm, WellFormed, AllWellFormed, WrittenAs}
 use Rattle.theory.specs.Terms.{Token, tokenOf, firstTerms, after, afterAll, termsOf, theOnly, readTerm}
 use Rattle.theory.proofs.Reading.Bytes.{isFieldByte, isTokenByte, token-field}
 use Rattle.theory.proofs.Reading.Separators.{AllFree, free-from, parts-of-joined, joined-of-parts, every-joined}
@@ -116,10 +116,6 @@ parts-of-written t h = cut-again t (λ part m. free-from isTokenByte 32 refl par
 pub read-of-written : (t : Term) → WellFormed t → readTerm (writtenTerm t) ≡ some t
 unfolding readTerm theOnly termsOf
 read-of-written t h = rw (parts-of-written t h, ← append-nil (tokens t), terms-of-tokens t h [] nil refl)
-
-pub record WrittenAs (t : Term) (bs : Bytes) : Type 0 where
-  pub is : bs ≡ writtenTerm t
-  pub formed : WellFormed t
 
 pub written-of-read : (bs : Bytes) (t : Term) → readTerm bs ≡ some t → WrittenAs t bs
 unfolding readTerm theOnly writtenTerm tokens

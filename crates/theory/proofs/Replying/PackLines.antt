@@ -45,7 +45,7 @@ flat-whole (b ∷ bs) = by (eqb b 10) (flat-whole bs)
 
 -- ---- the line that ends the pack
 
-abbrev isEnd : Bytes → Bool
+abbrev pub isEnd : Bytes → Bool
 isEnd line = same line (bytes "E\n")
 
 -- a line of another length, or of another byte

@@ -1,0 +1,2 @@
+-- The answers of the calls as types.
+pub mod Examples

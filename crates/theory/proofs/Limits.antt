@@ -1,0 +1,2 @@
+-- The limits, as worked examples.
+pub mod Examples
