@@ -1,5 +1,6 @@
 -- What queries ask, and what usable claims give.
 pub mod QuerySizes
+pub mod ClaimWords
 pub mod Bounds
 pub mod UsableClaims
 pub mod Reservations
