@@ -23,6 +23,8 @@ pub mod DemandTwo
 pub mod Words
 pub mod DemandThree
 pub mod RightCase
+-- what reserve returns
+pub mod ReserveTold
 -- what the sheet tells
 pub mod SheetKept
 -- what import promises

@@ -1,6 +1,8 @@
 -- What queries ask, and what usable claims give.
 pub mod QuerySizes
 pub mod ClaimWords
+pub mod QueryFields
+pub mod QueryWords
 pub mod Bounds
 pub mod UsableClaims
 pub mod Reservations

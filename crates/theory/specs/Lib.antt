@@ -26,5 +26,6 @@ pub mod Limits
 pub mod Derivations
 pub mod Outcomes
 pub mod SmallestBound
+pub mod Queries
 pub mod Ranges
 pub mod Promises

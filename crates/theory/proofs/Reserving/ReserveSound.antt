@@ -1,6 +1,5 @@
 -- What a bound and "impossible" mean for facts: whenever every fact of some kind meets the claims on its predicate.
 use mathlib.Core.Path.{sym, ap, subst}
-use mathlib.Core.Option.{some}
 use Prim.Native.Nat.{ℕ, _≤_}
 use native.Mathlib.Omega.{arith}
 use lib.Signed.{clashℤ}
