@@ -31,5 +31,5 @@ pub mod SheetKept
 pub mod ImportKept
 -- document 01's starred examples, and those of later requests; facts with derivations, and a fact without
 pub mod Examples
-pub mod Derived
 pub mod Shipped
+pub mod Derived

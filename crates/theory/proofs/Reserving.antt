@@ -10,3 +10,4 @@ pub mod ReserveAnswers
 pub mod RefusalNumbers
 pub mod ReserveSound
 pub mod ReserveRange
+pub mod Examples

@@ -28,4 +28,5 @@ pub mod Outcomes
 pub mod SmallestBound
 pub mod Queries
 pub mod Ranges
+pub mod Witnesses
 pub mod Promises
