@@ -8,26 +8,21 @@ use Rattle.theory.specs.Text.{Bytes}
 use Rattle.theory.specs.Written.{packOf}
 use Rattle.theory.specs.Faults.{whole}
 use Rattle.theory.specs.Check.{Judgement}
-use Rattle.theory.specs.Reserve.{queryOf, Fields, fields, reservation, answerOf, reserveOf}
+use Rattle.theory.specs.Reserve.{queryOf, Fields, fields, reservation, reserveOf}
 use Rattle.theory.specs.SmallestBound.{BoundGiven, ImpossibleBy, NoneUsable}
 use Rattle.theory.specs.Promises.{Answerable, DemandTwo, ButForHeads}
 use Rattle.theory.proofs.Judging.Acceptance.{check-accepts, acceptable-checks, accepts-but-for-heads, counts-but-for-heads}
 use Rattle.theory.proofs.Judging.PackReading.{fits-spelled, lines-write}
 use Rattle.theory.proofs.Judging.ButForHeads.{judgements-agree, no-judgement-24, goes-past}
 use Rattle.theory.proofs.Reserving.Reservations.{bound-exactly, impossible-exactly, none-exactly}
-use Rattle.theory.proofs.Reserving.ReserveAnswers.{answered}
-
--- what is answered is what the claims give
-reserves : (text query : Bytes) → Answerable text query → reserveOf text query ≡ reservation (packOf text) (queryOf query)
-unfolding reserveOf answerOf
-reserves text query a = rw (a .accepted, a .faultless)
+use Rattle.theory.proofs.Reserving.ReserveAnswers.{answered, reserves}
 
 -- an answer that is no refusal, whatever it says of the pack and the query
 exactly : (text query : Bytes) (x : Fields) (Told : Type 0) → eqb (x .letter) (code "R") ≡ false → (reservation (packOf text) (queryOf query) ≡ x) ↔ Told
     → (reserveOf text query ≡ x) ↔ (Answerable text query × Told)
 exactly text query x Told other told = (
   λ e. let a = answered text query x other e in (record { accepted = a .accepted; faultless = a .faultless }, told .0 (a .says)),
-  λ h. reserves text query (h .0) ∙ told .1 (h .1),
+  λ h. reserves text query (h .0 .accepted) (h .0 .faultless) ∙ told .1 (h .1),
 )
 
 pub demand-two : (text : Bytes) → DemandTwo text

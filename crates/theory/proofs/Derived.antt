@@ -1,55 +1,157 @@
--- Demand 3 is not about nothing: facts that have derivations, by rules and as given, from the bytes of document 01's packs.
-use mathlib.Core.Path.{refl}
-use mathlib.Core.List.{[], flatMap, flatten, List·Memᴰ·head, List·Memᴰ·tail, List·Memᴰ·not-nil}
+-- The promises are not about nothing (specs/Witnesses.antt): facts that have derivations, by rules and as given, from the bytes of document
+-- 01's packs, with the known sizes of queries that are answered.
+use mathlib.Core.Path.{_≡_, refl, _∙_, ap}
+use mathlib.Core.Bool.{Bool, true, false, _&&_}
+use mathlib.Core.List.{List, [], _∷_, flatMap, flatten, List·Memᴰ·head, List·Memᴰ·tail, List·Memᴰ·not-nil}
+use mathlib.Core.Option.{Option, some, none, Option·some-injective, Option·none-ne-some}
+use Prim.Native.Nat as N
+use Prim.Native.Nat.{ℕ, suc}
+use Prim.Native.Char.{code}
+use Prim.Native.String.{String}
+use lib.Dec.{eqb}
 use lib.ListN.{getD}
 use Rattle.groundwork.proofs.Lists.{all-cons}
 use Rattle.groundwork.proofs.Order.{nonneg-pos}
+use Rattle.groundwork.proofs.Truth.{never-both, and-left, and-right, eqb-equal}
 use Rattle.theory.specs.Lists.{total, every}
-use Rattle.theory.specs.Text.{bytes, same, partsAt, linesOf, isNameByte, isWord, valueAfter, isDecimal, natural, negated, integer, Bytes}
-use Rattle.theory.specs.Terms.{arity, symbolFrom, symbolIn, tokenOf, firstTerms, after, afterAll, termsOf, theOnly, readTerm, variables, Term, symbol, nil, cons, Substitution, under, allUnder, allVariables}
+use Rattle.theory.specs.Text.{Bytes, bytes, same, partsAt, linesOf, isNameByte, isWord, valueAfter, isDecimal, natural, negated, integer}
+use Rattle.theory.specs.Terms.{arity, symbolFrom, symbolIn, tokenOf, firstTerms, after, afterAll, termsOf, theOnly, readTerm, variables, Substitution, under, allUnder, allVariables}
 use Rattle.theory.specs.Sizes.{structural, flagged, constantOf}
-use Rattle.theory.specs.Packs.{sameKey, declaredAs, claimsOn, Claim, Atom, ruled}
+use Rattle.theory.specs.Packs.{sameKey, declaredAs, claimsOn, Atom, ruled}
 use Rattle.theory.specs.Written.{letterOf, termsFrom, kindFrom, predicateFrom, claimFrom, atomFrom, multipliersFrom, nothing, onLast, add, write, writeAll, packOf}
-use Rattle.theory.specs.Faults.{isGiven, noRule}
+use Rattle.theory.specs.Faults.{noRule}
 use Rattle.theory.specs.Facts.{Meets, weightedSizes}
+use Rattle.theory.specs.Reserve.{Query, Fields, fields, sizeFrom, queryFrom, queryOf, sizeAt, HasKnownSizes, reserveOf}
 use Rattle.theory.specs.Derivations.{GivenFact, Derivable, byRule, atomUnder}
+use Rattle.theory.specs.Witnesses.{joining, giving, shipping, empty, single, three, zero, next, joins, isK, trails, Reached, LineJudged, Witnessed}
+use Rattle.theory.proofs.Examples.{Answer, checked, reserved, sized, filed, printed, reserve, answerTo}
+use Rattle.theory.proofs.Shipped.{trail-derived, absent-meets, absent-underivable}
 
-abbrev join : Bytes
-join = bytes "P,join,3,R\nC,join,0,1,1,-1\nC,join,0,-1,-1,1\nH,join,nil/0,Y,Y\nM\nM\nH,join,cons/2 X Xs,Y,cons/2 X Zs\nB,join,Xs,Y,Zs\nM,1,0\nM,0,1\nE\n"
-
-abbrev empty : Term
-empty = symbol (bytes "nil") nil
-
-abbrev single : Term
-single = symbol (bytes "cons") (cons empty (cons empty nil))
-
-abbrev joins : Term → Term → Term → Atom
-joins a b c = record { name = bytes "join"; terms = cons a (cons b (cons c nil)) }
+-- ---- facts of the pack that joins lists
 
 -- every variable is the empty list
 unfoldable allEmpty : Substitution
 unfolding bytes variables
 allEmpty = record { for = λ x. empty; ground = λ x. refl }
 
-pub empty-joined : Derivable (packOf join) (GivenFact (packOf join)) (joins empty empty empty)
+pub empty-joined : Derivable (packOf (bytes joining)) (GivenFact (packOf (bytes joining))) (joins empty empty empty)
 unfolding bytes same every partsAt linesOf isNameByte isWord valueAfter isDecimal natural negated integer arity symbolFrom symbolIn tokenOf firstTerms after afterAll termsOf theOnly readTerm constantOf variables sameKey declaredAs claimsOn letterOf termsFrom kindFrom predicateFrom claimFrom atomFrom multipliersFrom nothing onLast add write writeAll packOf noRule flatMap under allUnder allVariables allEmpty
-empty-joined = byRule (getD (packOf join .rules) 0 noRule) (List·Memᴰ·head refl) allEmpty (λ a none. absurd (List·Memᴰ·not-nil none))
+empty-joined = byRule (getD (packOf (bytes joining) .rules) 0 noRule) (List·Memᴰ·head refl) allEmpty (λ a none. absurd (List·Memᴰ·not-nil none))
 
 -- one step further, by the second rule
-pub single-joined : Derivable (packOf join) (GivenFact (packOf join)) (joins single empty single)
+pub single-joined : Derivable (packOf (bytes joining)) (GivenFact (packOf (bytes joining))) (joins single empty single)
 unfolding bytes same every partsAt linesOf isNameByte isWord valueAfter isDecimal natural negated integer arity symbolFrom symbolIn tokenOf firstTerms after afterAll termsOf theOnly readTerm constantOf variables sameKey declaredAs claimsOn letterOf termsFrom kindFrom predicateFrom claimFrom atomFrom multipliersFrom nothing onLast add write writeAll packOf noRule flatMap under allUnder allVariables allEmpty
-single-joined = byRule (getD (packOf join .rules) 1 noRule) (List·Memᴰ·tail (List·Memᴰ·head refl)) allEmpty (all-cons (λ (a : Atom). Derivable (packOf join) (GivenFact (packOf join)) (atomUnder allEmpty a)) empty-joined (λ a none. absurd (List·Memᴰ·not-nil none)))
+single-joined = byRule (getD (packOf (bytes joining) .rules) 1 noRule) (List·Memᴰ·tail (List·Memᴰ·head refl)) allEmpty (all-cons (λ (a : Atom). Derivable (packOf (bytes joining)) (GivenFact (packOf (bytes joining))) (atomUnder allEmpty a)) empty-joined (λ a none. absurd (List·Memᴰ·not-nil none)))
 
 -- ---- a given fact
 
-abbrev given : Bytes
-given = bytes "P,k,1,G\nC,k,7,-2\nE\n"
-
--- its size is 0, and 7 - 2 times 0 is at least 0
-pub given-derived : Derivable (packOf given) (GivenFact (packOf given)) (record { name = bytes "k"; terms = cons empty nil })
+-- its size is 3, and 7 - 2 times 3 is at least 0
+pub given-derived : Derivable (packOf (bytes giving)) (GivenFact (packOf (bytes giving))) (isK three)
 unfolding bytes same every partsAt linesOf isNameByte isWord valueAfter isDecimal natural negated integer arity symbolFrom symbolIn tokenOf firstTerms after afterAll termsOf theOnly readTerm constantOf variables sameKey declaredAs claimsOn letterOf termsFrom kindFrom predicateFrom claimFrom atomFrom multipliersFrom nothing onLast add write writeAll packOf noRule flatMap under allUnder allVariables allEmpty structural flagged total flatten weightedSizes
 given-derived = Derivable.isGiven (record {
-  fact = record { predicate = getD (packOf given .predicates) 0 (record { name = []; arguments = 0; kind = ruled }); declared = refl; ground = refl };
+  fact = record { predicate = getD (packOf (bytes giving) .predicates) 0 (record { name = []; arguments = 0; kind = ruled }); declared = refl; ground = refl };
   isGiven = refl;
-  meets = record { meets = all-cons (λ (c : Claim). Meets structural (record { name = bytes "k"; terms = cons empty nil }) c) (record { holds = nonneg-pos 7 }) (λ c none. absurd (List·Memᴰ·not-nil none)) };
+  meets = record { meets = all-cons (Meets structural (isK three)) (record { holds = nonneg-pos 1 }) (λ c none. absurd (List·Memᴰ·not-nil none)) };
 })
+
+-- ---- queries
+
+-- what a row of the table's kind says of reserve
+answer-is : (pack query : String) (x : Fields) → answerTo (reserve pack query) ≡ reserved x → reserveOf (bytes pack) (bytes query) ≡ x
+unfolding answerTo
+answer-is pack query x e = ap of e
+  where
+    of : Answer → Fields
+    of (checked c) = x
+    of (reserved y) = y
+    of (sized m) = x
+    of (filed page) = x
+    of (printed text) = x
+
+-- each size that is known is the one at its place, as a test
+unfoldable agree : List (Option ℕ) → List ℕ → Bool
+agree [] sizes = true
+agree (o ∷ known) [] = false
+agree (none ∷ known) (s ∷ sizes) = agree known sizes
+agree (some t ∷ known) (s ∷ sizes) = eqb s t && agree known sizes
+
+agrees : (known : List (Option ℕ)) (sizes : List ℕ) → agree known sizes ≡ true → (i s : ℕ) → getD known i none ≡ some s → getD sizes i 0 ≡ s
+unfolding agree
+agrees [] sizes e i s h = absurd (Option·none-ne-some s h)
+agrees (o ∷ known) [] e i s h = never-both e refl
+agrees (none ∷ known) (t ∷ sizes) e N.zero s h = absurd (Option·none-ne-some s h)
+agrees (none ∷ known) (t ∷ sizes) e (suc i) s h = agrees known sizes e i s h
+agrees (some u ∷ known) (t ∷ sizes) e N.zero s h = eqb-equal t u (and-left (eqb t u) _ e) ∙ Option·some-injective u s h
+agrees (some u ∷ known) (t ∷ sizes) e (suc i) s h = agrees known sizes (and-right (eqb t u) _ e) i s h
+
+-- ---- with the known sizes of queries
+
+abbrev asks : Bytes → ℕ → List (Option ℕ) → Query
+asks name asked sizes = record { name = name; asked = asked; sizes = sizes }
+
+third-asked : queryOf (bytes "join,3,2,0,-") ≡ asks (bytes "join") 2 (some 2 ∷ some 0 ∷ none ∷ [])
+unfolding bytes same every partsAt isDecimal valueAfter natural sizeFrom queryFrom queryOf
+third-asked = refl
+
+first-asked : queryOf (bytes "join,1,-,0,0") ≡ asks (bytes "join") 0 (none ∷ some 0 ∷ some 0 ∷ [])
+unfolding bytes same every partsAt isDecimal valueAfter natural sizeFrom queryFrom queryOf
+first-asked = refl
+
+only-asked : queryOf (bytes "k,1,-") ≡ asks (bytes "k") 0 (none ∷ [])
+unfolding bytes same every partsAt isDecimal valueAfter natural sizeFrom queryFrom queryOf
+only-asked = refl
+
+second-asked : queryOf (bytes "trail,2,2,-") ≡ asks (bytes "trail") 1 (some 2 ∷ none ∷ [])
+unfolding bytes same every partsAt isDecimal valueAfter natural sizeFrom queryFrom queryOf
+second-asked = refl
+
+-- a fact has the sizes, and its asked size is the bound
+record Has (q : Query) (f : Atom) (bound : ℕ) : Type 0 where
+  known : HasKnownSizes structural q f
+  reached : sizeAt structural (q .asked) f ≡ bound
+
+single-has : Has (asks (bytes "join") 2 (some 2 ∷ some 0 ∷ none ∷ [])) (joins single empty single) 2
+unfolding agree bytes arity constantOf structural flagged total flatten
+single-has = record { known = record { ofPredicate = refl; known = agrees (some 2 ∷ some 0 ∷ none ∷ []) (2 ∷ 0 ∷ 2 ∷ []) refl }; reached = refl }
+
+empty-has : Has (asks (bytes "join") 0 (none ∷ some 0 ∷ some 0 ∷ [])) (joins empty empty empty) 0
+unfolding agree bytes arity constantOf structural flagged total flatten
+empty-has = record { known = record { ofPredicate = refl; known = agrees (none ∷ some 0 ∷ some 0 ∷ []) (0 ∷ 0 ∷ 0 ∷ []) refl }; reached = refl }
+
+three-has : Has (asks (bytes "k") 0 (none ∷ [])) (isK three) 3
+unfolding agree bytes arity constantOf structural flagged total flatten
+three-has = record { known = record { ofPredicate = refl; known = agrees (none ∷ []) (3 ∷ []) refl }; reached = refl }
+
+trail-has : Has (asks (bytes "trail") 1 (some 2 ∷ none ∷ [])) (trails (next (next zero)) (next zero)) 1
+unfolding agree bytes arity constantOf structural flagged total flatten
+trail-has = record { known = record { ofPredicate = refl; known = agrees (some 2 ∷ none ∷ []) (2 ∷ 1 ∷ []) refl }; reached = refl }
+
+reaches : {text query : Bytes} {Given : Atom → Type 0} {bound claim : ℕ} {f : Atom} {q : Query} → queryOf query ≡ q → reserveOf text query ≡ fields (code "B") bound claim → Derivable (packOf text) Given f → Has q f bound
+    → Reached text Given query bound claim f
+reaches {q = q} is answer derived has = record { answer = answer; derived = derived; known = rw is (has .known); reached = rw is (has .reached) }
+
+-- ---- lines of multipliers that are judged
+
+fine-line : LineJudged (bytes "P,k,1,R\nC,k,0,1\nH,k,nil/0\nM\nE\n") 0
+unfolding answerTo
+fine-line = record { before = bytes "P,k,1,R" ∷ bytes "C,k,0,1" ∷ bytes "H,k,nil/0" ∷ []; multipliers = bytes "M"; after = bytes "E" ∷ []; are = refl; fine = (refl, (refl, (refl, tt))); letter = refl; has = refl }
+
+unjustified-line : LineJudged (bytes "P,k,1,R\nC,k,-1,1\nH,k,nil/0\nM\nE\n") 13
+unfolding answerTo
+unjustified-line = record { before = bytes "P,k,1,R" ∷ bytes "C,k,-1,1" ∷ bytes "H,k,nil/0" ∷ []; multipliers = bytes "M"; after = bytes "E" ∷ []; are = refl; fine = (refl, (refl, (refl, tt))); letter = refl; has = refl }
+
+-- ---- all together
+
+pub witnessed : Witnessed
+unfolding answerTo
+witnessed = record {
+  ruled = reaches third-asked (answer-is joining "join,3,2,0,-" _ refl) single-joined single-has;
+  impossible = answer-is joining "join,1,-,1,0" _ refl;
+  oneApart = reaches first-asked (answer-is joining "join,1,-,0,0" _ refl) empty-joined empty-has;
+  given = reaches only-asked (answer-is giving "k,1,-" _ refl) given-derived three-has;
+  shipped = reaches second-asked (answer-is shipping "trail,2,2,-" _ refl) trail-derived trail-has;
+  absent = absent-meets;
+  underivable = absent-underivable;
+  fineLine = fine-line;
+  unjustifiedLine = unjustified-line;
+}

@@ -24,6 +24,7 @@ use Rattle.theory.specs.Measure.{Measured, measured, measureTerm, measur
 use Rattle.theory.specs.Pages.{Paged, paged, afterVerdict}
 use Rattle.theory.specs.Sheet.{spaces, rightAligned, leftAligned, columns, sheetLine, sheetLines, sheet, sheetOf}
 use Rattle.theory.specs.Program.{wholeLines, throughEnd, afterEnd, packPart, queries, printedNumbers, printedFields, reply}
+use Rattle.theory.specs.Witnesses.{joining, shipping}
 use Rattle.theory.specs.Derivations.{GivenFact, Derivable, byRule, atomUnder}
 use Rattle.theory.proofs.Judging.Keys.{declared-member}
 use Rattle.theory.specs.Reserve.{Fields, fields, sizeFrom, queryFrom, queryOf, queryFault, unknownsAtMostZero, knownPart, isUsable, numerator, boundBy, usableFrom, impossibles, smallest, bounded, impossibleOr, reservation, refusal, answerOf, reserveOf}
@@ -86,10 +87,6 @@ _gives_ e a = record { call = e; answer = a; besides = Unit {0} }
 abbrev contradicted : String
 contradicted = "P,k,1,R\nC,k,-1,0\nH,k,X\nB,k,X\nM,1\nE\n"
 
--- lists joined
-abbrev pub joining : String
-joining = "P,join,3,R\nC,join,0,1,1,-1\nC,join,0,-1,-1,1\nH,join,nil/0,Y,Y\nM\nM\nH,join,cons/2 X Xs,Y,cons/2 X Zs\nB,join,Xs,Y,Zs\nM,1,0\nM,0,1\nE\n"
-
 abbrev pub starred : List Row
 starred =
     (check joining before gives unchanged 0 11 2 4)
@@ -141,9 +138,6 @@ unfolding answerTo
 starred-are-met = record { answers = refl; besides = (tt, (tt, (tt, (tt, (tt, (tt, (tt, (nothing-derivable, (tt, (tt, (tt, tt))))))))))) }
 
 -- ---- 02, 1/14: facts that come with the pack
-
-abbrev pub shipping : String
-shipping = "P,next,2,G\nP,trail,2,R\nC,next,-1,1,-1\nC,trail,-1,1,-1\nG,next,s/1 s/1 o/0,s/1 o/0\nH,trail,X,Y\nB,next,X,Y\nM,1\nE\n"
 
 -- accepted; a ruled predicate, before the variable; a variable, before the claim; a claim that the second fact fails
 abbrev pub withFacts : List Row

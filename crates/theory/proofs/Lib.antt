@@ -28,6 +28,8 @@ pub mod DemandTwo
 pub mod Words
 pub mod DemandThree
 pub mod RightCase
+-- what reserve returns
+pub mod ReserveTold
 -- what the sheet tells
 pub mod SheetKept
 -- what import promises
@@ -36,7 +38,7 @@ pub mod ImportKept
 pub mod Examples
 pub mod Limits
 pub mod Answering
-pub mod Derived
 pub mod Shipped
+pub mod Derived
 -- all of it
 pub mod Promised

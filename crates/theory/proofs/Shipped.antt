@@ -13,27 +13,15 @@ use Rattle.groundwork.proofs.Order.{nonneg-pos}
 use Rattle.groundwork.proofs.Truth.{by-truth}
 use Rattle.theory.specs.Lists.{total, every}
 use Rattle.theory.specs.Text.{Bytes, bytes, same, partsAt, linesOf, isNameByte, isWord, valueAfter, isDecimal, natural, negated, integer}
-use Rattle.theory.specs.Terms.{Term, variable, symbol, nil, cons, arity, symbolFrom, symbolIn, tokenOf, firstTerms, after, afterAll, termsOf, theOnly, readTerm, variables, allVariables, Substitution, under, allUnder}
+use Rattle.theory.specs.Terms.{Term, variable, arity, symbolFrom, symbolIn, tokenOf, firstTerms, after, afterAll, termsOf, theOnly, readTerm, variables, allVariables, Substitution, under, allUnder}
 use Rattle.theory.specs.Sizes.{structural, flagged, constantOf, argumentSizes}
 use Rattle.theory.specs.Packs.{given, ruled, Claim, Atom, Rule, Pack, sameKey, declaredAs, claimsOn}
 use Rattle.theory.specs.Written.{letterOf, termsFrom, kindFrom, predicateFrom, claimFrom, atomFrom, multipliersFrom, nothing, onLast, add, write, writeAll, packOf}
 use Rattle.theory.specs.Facts.{Meets, weightedSizes}
 use Rattle.theory.specs.Derivations.{GivenFact, ShippedFact, Derivable, byRule, atomUnder}
-use Rattle.theory.proofs.Examples.{shipping}
+use Rattle.theory.specs.Witnesses.{shipping, zero, next, nexts, trails}
 
 -- ---- what the lines write
-
-abbrev zero : Term
-zero = symbol (bytes "o") nil
-
-abbrev next : Term → Term
-next t = symbol (bytes "s") (cons t nil)
-
-abbrev nexts : Term → Term → Atom
-nexts t u = record { name = bytes "next"; terms = cons t (cons u nil) }
-
-abbrev trails : Term → Term → Atom
-trails t u = record { name = bytes "trail"; terms = cons t (cons u nil) }
 
 abbrev X : Term
 X = variable (bytes "X")

@@ -29,6 +29,8 @@ pub mod LineWords
 pub mod Derivations
 pub mod Outcomes
 pub mod SmallestBound
+pub mod Queries
 pub mod Ranges
+pub mod Witnesses
 pub mod Promises
 pub mod Promised

@@ -1,17 +1,18 @@
 -- The three things that `reservation` may say of a pack and a query, in words. Exactly one of them holds, and it says that one.
-use mathlib.Core.Path.{_≡_, refl, sym, _∙_, ap, subst, subst₂}
+use mathlib.Core.Path.{_≡_, refl, sym, ap, subst, subst₂}
 use mathlib.Core.Logic.{_↔_}
 use mathlib.Core.List.{List, [], _∷_, List·Memᴰ·head, List·Memᴰ·not-nil}
 use Prim.Native.Nat.{ℕ}
 use Prim.Native.Char.{code}
 use native.Mathlib.Omega.{arith}
-use lib.IntN.{pos}
-use lib.Signed.{_≤ℤ_, ltZ-yes, ltZ-no, clashℤ}
+use lib.IntN.{ℤ, pos}
+use lib.Signed.{_≤ℤ_, _<ℤ_, ltZ-yes, ltZ-no, clashℤ}
 use Rattle.groundwork.proofs.Truth.{true-from, holds-from, fails-from, by-truth}
 use Rattle.theory.specs.Lists.{_∈_}
 use Rattle.theory.specs.Packs.{Claim, Pack, claimsOn}
 use Rattle.theory.specs.Reserve.{Query, queryKey, numerator, Fields, fields, Usable, usableFrom, impossibles, smallest, bounded, impossibleOr, reservation}
-use Rattle.theory.specs.SmallestBound.{UsableClaim, BoundGiven, ImpossibleBy, NoneUsable}
+use Rattle.theory.specs.SmallestBound.{numeratorOf, IsBound, UsableClaim, BoundGiven, ImpossibleBy, NoneUsable}
+use Rattle.theory.proofs.Reserving.ClaimWords.{usable-told, usable-passes, numerator-told, bound-told, bound-only}
 use Rattle.theory.proofs.Reserving.UsableClaims.{entry, usable-listed, listed-usable, isImpossible, Ascending, ascending-rest, ascending-first, usable-ascending, impossible-listed, listed-impossible, impossible-ascending, smallest-is}
 
 -- which of the three some fields say
@@ -32,13 +33,13 @@ usables : (p : Pack) (q : Query) → Lists p q (usableFrom 1 q (claimsOn (queryK
 usables p q =
     let cs = claimsOn (queryKey q) (p .claims) in
     record {
-      usable = λ u m. let found = listed-usable q 1 cs u m in record { numbered = found .0; passes = found .1 };
-      listed = λ n c h. usable-listed q 1 cs n c (h .numbered) (h .passes);
+      usable = λ u m. let found = listed-usable q 1 cs u m in record { numbered = found .0; isUsable = usable-told q (u .claim) (found .1) };
+      listed = λ n c h. usable-listed q 1 cs n c (h .numbered) (usable-passes q c (h .isUsable));
       ascending = usable-ascending q 1 cs;
     }
 
 module _ (p : Pack) (q : Query) where
-  says-bound : (us : List Usable) → Lists p q us → ((m : ℕ) (c : Claim) → UsableClaim p q m c → pos 0 ≤ℤ numerator q c) → Says p q (bounded q us)
+  says-bound : (us : List Usable) → Lists p q us → ((m : ℕ) (c : Claim) → UsableClaim p q m c → pos 0 ≤ℤ numeratorOf q c) → Says p q (bounded q us)
   unfolding bounded
   says-bound [] l possible = noBound (record { none = λ m c h. List·Memᴰ·not-nil (l .listed m c h) })
   says-bound (u ∷ us) l possible =
@@ -47,10 +48,10 @@ module _ (p : Pack) (q : Query) where
       bound (record {
         claim = best .claim;
         usable = l .usable best (is .member);
-        isBound = refl;
+        isBound = bound-told q (best .claim) (l .usable best (is .member) .isUsable) (possible (best .number) (best .claim) (l .usable best (is .member)));
         possible = possible;
-        least = λ m c h. is .precedes (entry m c) (l .listed m c h) .least;
-        lowest = λ m c h. is .precedes (entry m c) (l .listed m c h) .lowest;
+        least = λ m c h b given. omega (arith, is .precedes (entry m c) (l .listed m c h) .least, bound-only q c (h .isUsable) b given);
+        lowest = λ m c h given. is .precedes (entry m c) (l .listed m c h) .lowest (bound-only q c (h .isUsable) _ given);
       })
 
   says-listed : (us : List Usable) → Lists p q us → Says p q (impossibleOr (bounded q us) (impossibles q us))
@@ -60,17 +61,17 @@ module _ (p : Pack) (q : Query) where
       go : (found : List Usable) → impossibles q us ≡ found → Says p q (impossibleOr (bounded q us) found)
       go [] e =
           says-bound us l (λ m c h.
-          by-truth (λ _. pos 0 ≤ℤ numerator q c) (isImpossible q c)
+          subst (λ (z : ℤ). pos 0 ≤ℤ z) (numerator-told q c) (by-truth (λ _. pos 0 ≤ℤ numerator q c) (isImpossible q c)
           (λ i. absurd (List·Memᴰ·not-nil (subst (λ found. entry m c ∈ found) e (impossible-listed q (entry m c) (l .listed m c h) i))))
-          (λ i. ltZ-no (fails-from _ i)))
+          (λ i. ltZ-no (fails-from _ i))))
       go (u ∷ rest) e =
           let member = listed-impossible q us u (subst (λ found. u ∈ found) (sym e) (List·Memᴰ·head refl)) in
           let ascending = subst (Ascending 1) e (impossible-ascending q (l .ascending)) in
           impossible (record {
             claim = u .claim;
             usable = l .usable u (member .0);
-            negative = ltZ-yes (holds-from _ (member .1));
-            lowest = λ m c h i. ascending-first ascending (subst (λ found. entry m c ∈ found) e (impossible-listed q (entry m c) (l .listed m c h) (true-from _ (i .lt))));
+            negative = subst (λ (z : ℤ). z <ℤ pos 0) (numerator-told q (u .claim)) (ltZ-yes (holds-from _ (member .1)));
+            lowest = λ m c h i. ascending-first ascending (subst (λ found. entry m c ∈ found) e (impossible-listed q (entry m c) (l .listed m c h) (rw (numerator-told q c) (true-from _ (i .lt)))));
           })
 
   pub reservation-says : Says p q (reservation p q)
@@ -81,8 +82,8 @@ module _ (p : Pack) (q : Query) where
 
   bound-alone : {b n c m : ℕ} → BoundGiven p q b n → BoundGiven p q c m → fields (code "B") b n ≡ fields (code "B") c m
   bound-alone {b} {n} {c} {m} h k =
-      let same : b ≡ c = omega (arith, h .least m (k .claim) (k .usable), k .least n (h .claim) (h .usable), h .isBound, k .isBound) in
-      let number : n ≡ m = omega (arith, h .lowest m (k .claim) (k .usable) (k .isBound ∙ sym same), k .lowest n (h .claim) (h .usable) (h .isBound ∙ same)) in
+      let same : b ≡ c = omega (arith, h .least m (k .claim) (k .usable) c (k .isBound), k .least n (h .claim) (h .usable) b (h .isBound)) in
+      let number : n ≡ m = omega (arith, h .lowest m (k .claim) (k .usable) (subst (IsBound q (k .claim)) (sym same) (k .isBound)), k .lowest n (h .claim) (h .usable) (subst (IsBound q (h .claim)) same (h .isBound))) in
       cc
 
   impossible-alone : {n m : ℕ} → ImpossibleBy p q n → ImpossibleBy p q m → n ≡ m

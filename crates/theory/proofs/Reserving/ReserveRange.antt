@@ -25,6 +25,7 @@ use Rattle.theory.proofs.Judging.Acceptance.{accepted-pack}
 use Rattle.theory.proofs.Judging.FaultNumbers.{first-below}
 use Rattle.theory.proofs.Reserving.QuerySizes.{AllSmall, query-small}
 use Rattle.theory.proofs.Reserving.Reservations.{Says, bound, impossible, noBound, reservation-says}
+use Rattle.theory.proofs.Reserving.ClaimWords.{bound-only}
 use Rattle.theory.proofs.Reserving.UsableClaims.{numbered-member}
 
 -- ---- a bound
@@ -66,7 +67,7 @@ module _ (p : Pack) (fits : Fits p) (q : Query) (small : AllSmall (q .sizes)) wh
   unfolding boundBy
   bound-small b n given =
       let c = given .claim in
-      omega (arith, given .isBound, div-le-self (natAbs (numerator q c)) (natAbs (askedNumber q c)), numerator-small c (claimed (given .usable)))
+      omega (arith, bound-only q c (given .usable .isUsable) b (given .isBound), div-le-self (natAbs (numerator q c)) (natAbs (askedNumber q c)), numerator-small c (claimed (given .usable)))
 
   -- claims are numbered up to 16
   number-small : (n : ℕ) (c : Claim) → UsableClaim p q n c → n < 2 ^ 8

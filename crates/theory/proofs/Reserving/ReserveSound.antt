@@ -1,6 +1,5 @@
 -- What a bound and "impossible" mean for facts: whenever every fact of some kind meets the claims on its predicate.
 use mathlib.Core.Path.{sym, ap, subst}
-use mathlib.Core.Option.{some}
 use Prim.Native.Nat.{ℕ, _≤_}
 use native.Mathlib.Omega.{arith}
 use lib.Signed.{clashℤ}
@@ -12,6 +11,7 @@ use Rattle.theory.specs.Facts.{MeetsAll}
 use Rattle.theory.specs.Sizes.{structural}
 use Rattle.theory.proofs.Reserving.Bounds.{Bounding, numerator-nonneg, asked-bounded}
 use Rattle.theory.proofs.Judging.Keys.{on-member}
+use Rattle.theory.proofs.Reserving.ClaimWords.{usable-passes, numerator-told, bound-only}
 use Rattle.theory.proofs.Reserving.UsableClaims.{numbered-member}
 use Rattle.theory.proofs.Reserving.ReserveAnswers.{Asks}
 
@@ -24,7 +24,7 @@ module _ (p : Pack) (Holds : Atom → Type 0)
         let member = numbered-member (usable .numbered) in
         let claimed = on-member (queryKey q) (p .claims) c member .1 in
         record {
-          usable = usable .passes;
+          usable = usable-passes q c (usable .isUsable);
           coefficients = ap (λ (k : Key). k .arity) (sym claimed);
           terms = ap (λ (k : Key). k .arity) (known .ofPredicate);
           unknown = asks .unknown;
@@ -33,7 +33,7 @@ module _ (p : Pack) (Holds : Atom → Type 0)
         }
 
     pub bound-kept : (bound n : ℕ) → BoundGiven p q bound n → (f : Atom) → Holds f → HasKnownSizes structural q f → sizeAt structural (q .asked) f ≤ bound
-    bound-kept bound n b f holds known = omega (arith, asked-bounded structural q (b .claim) f (bounding n (b .claim) f (b .usable) holds known), b .isBound)
+    bound-kept bound n b f holds known = omega (arith, asked-bounded structural q (b .claim) f (bounding n (b .claim) f (b .usable) holds known), bound-only q (b .claim) (b .usable .isUsable) bound (b .isBound))
 
     pub none-such : (n : ℕ) → ImpossibleBy p q n → (f : Atom) → Holds f → HasKnownSizes structural q f → ⊥
-    none-such n i f holds known = clashℤ (i .negative) (numerator-nonneg structural q (i .claim) f (bounding n (i .claim) f (i .usable) holds known))
+    none-such n i f holds known = clashℤ (i .negative) (rw (numerator-told q (i .claim)) at (numerator-nonneg structural q (i .claim) f (bounding n (i .claim) f (i .usable) holds known)))
