@@ -15,7 +15,11 @@ use Rattle.theory.proofs.DemandOne.{demand-one}
 use Rattle.theory.proofs.DemandTwo.{demand-two, but-for-heads}
 use Rattle.theory.proofs.DemandThree.{demand-three}
 use Rattle.theory.proofs.RightCase.{right-case}
-use Rattle.theory.proofs.Words.{words-tell}
+use Rattle.theory.proofs.Words.{words-tell, word-factors}
+use Rattle.theory.proofs.ReserveTold.{queries-told, reserve-told}
+use Rattle.theory.proofs.MeasureTold.{measure-told}
+use Rattle.theory.proofs.ReplyTold.{reply-told}
+use Rattle.theory.proofs.Derived.{witnessed}
 
 sizes-promised : SizesPromised
 sizes-promised = record {
@@ -37,12 +41,18 @@ pub promised : Promised
 promised = record {
   check = demand-one;
   lines = lines-promised;
+  queries = queries-told;
+  reserve = reserve-told;
+  measure = measure-told;
+  program = reply-told;
   sizes = sizes-promised;
   accepted = demand-two;
   butForHeads = but-for-heads;
   names = share-nothing;
   ranges = forms-fit;
   derivations = demand-three;
+  witnesses = witnessed;
   rightCase = right-case;
   words = words-tell;
+  factors = word-factors;
 }

@@ -15,9 +15,14 @@ use Rattle.theory.specs.Faults.{whole}
 use Rattle.theory.specs.Check.{refusalOf}
 use Rattle.theory.specs.ResidualWords.{ClaimTold, ResidualTold, VariablesTold, NumbersTold}
 use Rattle.theory.specs.LineWords.{applying, LineTold, LetterTold}
+use Rattle.theory.specs.MeasureTold.{MeasureTold}
+use Rattle.theory.specs.ReplyTold.{ReplyTold}
+use Rattle.theory.specs.Words.{WordFactors}
 use Rattle.theory.specs.Answers.{passedOn}
 use Rattle.theory.specs.Outcomes.{AllFine}
+use Rattle.theory.specs.Queries.{QueriesTold, ReserveTold}
 use Rattle.theory.specs.Ranges.{FormsFit}
+use Rattle.theory.specs.Witnesses.{Witnessed}
 use Rattle.theory.specs.Promises.{SectionForm, SizeUnder, ShareNothing, DemandOne, DemandTwo, ButForHeads, DemandThree, RightCase, WordsTell}
 use Rattle.theory.specs.declared.Reservation.{Reservation}
 
@@ -40,6 +45,10 @@ pub record Promised : Type 1 where
   -- demand 1
   pub check : (text : Bytes) (area : List ℤ) → DemandOne text area
   pub lines : LinesPromised
+  pub queries : (text query : Bytes) → QueriesTold text query
+  pub reserve : (text query : Bytes) → ReserveTold text query
+  pub measure : MeasureTold
+  pub program : ReplyTold
   -- demand 2
   pub sizes : SizesPromised
   pub accepted : (text : Bytes) → DemandTwo text
@@ -48,6 +57,8 @@ pub record Promised : Type 1 where
   pub ranges : (text : Bytes) → FormsFit text
   -- demand 3
   pub derivations : (text : Bytes) → DemandThree text
+  pub witnesses : Witnessed
   -- reserve's own answer, by the second promise of its contract; the words
   pub rightCase : (text : Bytes) (answer : Reservation) → passedOn answer ≡ refusalOf text → RightCase text answer
   pub words : (text : Bytes) (area : List ℤ) (query term : Bytes) → WordsTell text area query term
+  pub factors : WordFactors
