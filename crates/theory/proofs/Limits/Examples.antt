@@ -1,18 +1,18 @@
 -- Document 01's limits at their edges, as one table: what passes, and one more.
 use mathlib.Core.Path.{_≡_, refl}
-use mathlib.Core.List.{List, [], _∷_, _++_, map, flatMap, flatten}
+use mathlib.Core.List.{List, [], _∷_, _++_, flatMap, flatten}
 use mathlib.Core.Bool.{false}
 use Prim.Native.Nat.{ℕ, _≤_, _<_}
 use Prim.Native.Char.{code}
 use Prim.Native.String.{String}
-use lib.IntN.{ℤ, pos}
+use lib.IntN.{pos}
 use lib.ListN.{length, replicate}
 use Rattle.groundwork.proofs.Truth.{lt-ltb, ge-ltb}
 use Rattle.theory.specs.Text.{Bytes, bytes}
 use Rattle.theory.specs.Packs.{textLimit}
 use Rattle.theory.specs.Check.{numbers, isFinished, judgementOf, verdictOf}
 use Rattle.theory.specs.Measure.{measured}
-use Rattle.theory.proofs.Examples.{Example, check, checkOn, measureOn, Answer, checked, sized, answerTo, before, unchanged, Row, _gives_, AnswersMet}
+use Rattle.theory.proofs.Examples.{Example, check, checkOn, measureOn, checked, sized, answerTo, before, unchanged, Row, _gives_, AnswersMet}
 
 -- a quoted text so many times
 abbrev times : ℕ → String → Bytes
