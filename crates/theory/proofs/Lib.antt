@@ -1,5 +1,5 @@
 -- What is proved of the definitions. The promises of specs/Promises.antt are proved in the files of this folder;
--- what they lean on is in six rooms.
+-- what they lean on is in seven rooms.
 
 -- what bytes spell: reading is the inverse of writing
 pub mod Reading
@@ -13,7 +13,7 @@ pub mod Reserving
 pub mod Sheets
 -- clauses as the makers write them
 pub mod Importing
--- the program's input
+-- the program's input and reply
 pub mod Replying
 -- measure and the program, in words
 pub mod MeasureTold
@@ -36,9 +36,10 @@ pub mod SheetKept
 pub mod ImportKept
 -- document 01's starred examples, and those of later requests; facts with derivations, and a fact without
 pub mod Examples
-pub mod Limits
-pub mod Answering
 pub mod Shipped
 pub mod Derived
--- all of it
+-- the limits at their edges; the numbers of each case of the calls' answers
+pub mod Limits
+pub mod Answering
+-- all that is promised
 pub mod Promised

@@ -3,17 +3,17 @@ use mathlib.Core.Path.{_≡_, refl, sym, _∙_, ap}
 use mathlib.Core.Bool.{Bool, true, false, cond}
 use mathlib.Core.List.{List, [], _∷_, List·Memᴰ·head}
 use mathlib.Core.Option.{Option, some, none, Option·none-ne-some}
-use Prim.Native.Nat.{ℕ, _≤_}
+use Prim.Native.Nat.{_≤_}
 use lib.ListN.{length}
 use Rattle.groundwork.proofs.Truth.{by-truth, and-left, never-both}
 use Rattle.groundwork.proofs.Lists.{member-unempty}
 use Rattle.theory.specs.Lists.{every, isEmpty, _∈_}
 use Rattle.theory.specs.Text.{Bytes, between}
 use Rattle.theory.specs.Terms.{Term, WrittenAs, readTerm, variables, IsGround}
-use Rattle.theory.specs.Sizes.{structural, sumOfArities, size}
+use Rattle.theory.specs.Sizes.{structural, size}
 use Rattle.theory.specs.Packs.{lineLimit}
 use Rattle.theory.specs.Faults.{isUnfit}
-use Rattle.theory.specs.LineWords.{Fit}
+use Rattle.theory.specs.LinesTold.{Fit}
 use Rattle.theory.specs.Measure.{Measured, measured, measureTerm, measureOf}
 use Rattle.theory.specs.MeasureTold.{MeasureOutcome, sized, unfit, notTerm, hasVariable, MeasureTold}
 use Rattle.theory.proofs.Reading.Bytes.{isFieldByte, between-low, between-high}

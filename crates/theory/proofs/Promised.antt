@@ -20,6 +20,7 @@ use Rattle.theory.proofs.ReserveTold.{queries-told, reserve-told}
 use Rattle.theory.proofs.MeasureTold.{measure-told}
 use Rattle.theory.proofs.ReplyTold.{reply-told}
 use Rattle.theory.proofs.Derived.{witnessed}
+use Rattle.theory.proofs.Limits.Examples.{text-length-told}
 
 sizes-promised : SizesPromised
 sizes-promised = record {
@@ -40,6 +41,7 @@ lines-promised = record {
 pub promised : Promised
 promised = record {
   check = demand-one;
+  textLength = text-length-told;
   lines = lines-promised;
   queries = queries-told;
   reserve = reserve-told;

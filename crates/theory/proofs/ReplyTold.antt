@@ -1,14 +1,12 @@
 -- The program in words: which bytes are the pack and which are queries, and what is printed. Proves ReplyTold of specs/ReplyTold.
-use mathlib.Core.Path.{_≡_, refl, sym, _∙_, ap, ap₂}
+use mathlib.Core.Path.{_≡_, refl, _∙_, ap}
 use mathlib.Core.List.{List, [], _∷_, _++_, map, flatMap, append-assoc}
-use Prim.Native.Nat.{ℕ, _≤_, _<_}
-use Prim.Native.Char.{code}
-use lib.Dec.{ltb}
+use Prim.Native.Nat.{_≤_, _<_}
 use lib.ListN.{length}
 use Rattle.groundwork.proofs.Truth.{lt-ltb, ge-ltb}
 use Rattle.theory.specs.Text.{Bytes, bytes, joined, decimal, lastDigits}
 use Rattle.theory.specs.Packs.{textOf}
-use Rattle.theory.specs.Check.{Numbers, numbers, verdictOf}
+use Rattle.theory.specs.Check.{Numbers, verdictOf}
 use Rattle.theory.specs.Reserve.{Fields, reserveOf}
 use Rattle.theory.specs.Program.{packPart, queries, printedNumbers, printedFields, inputLimit, reply}
 use Rattle.theory.specs.ReplyTold.{Divided, verdictLine, answerLine, ReplyTold}
@@ -43,4 +41,4 @@ prints input pack asked h d =
     rw (packs, lines, ge-ltb inputLimit (length input) h) (numbers-line _ _ ∙ ap (λ (rest : Bytes). verdictLine (verdictOf (packPart input) .returned) ++ rest) (answers (packPart input) (queries input)))
 
 pub reply-told : ReplyTold
-reply-told = record { divides = λ input. (packPart input, queries input, division input); long = long; prints = prints }
+reply-told = record { divides = λ input. (packPart input, queries input, division input); only = λ input first second. one-division first second; long = long; prints = prints }

@@ -8,7 +8,7 @@ pub mod Packs
 pub mod Written
 pub mod Residuals
 pub mod Facts
-pub mod ResidualWords
+pub mod ResidualsTold
 pub mod Faults
 pub mod Check
 pub mod Measure
@@ -25,7 +25,7 @@ pub mod Import
 pub mod Imported
 pub mod Answers
 pub mod Limits
-pub mod LineWords
+pub mod LinesTold
 pub mod Derivations
 pub mod Outcomes
 pub mod SmallestBound

@@ -7,7 +7,7 @@ use Rattle.theory.specs.Text.{Bytes}
 use Rattle.theory.specs.Terms.{Term, WrittenAs, variables, IsGround}
 use Rattle.theory.specs.Sizes.{sumOfArities}
 use Rattle.theory.specs.Packs.{lineLimit}
-use Rattle.theory.specs.LineWords.{Fit, Unfit}
+use Rattle.theory.specs.LinesTold.{Fit, Unfit}
 use Rattle.theory.specs.Measure.{Measured, measured, measureOf}
 
 -- 0 with the sum of the arities, where the bytes write a ground term and are not too many. Else 4; 11 where they write no

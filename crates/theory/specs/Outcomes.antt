@@ -13,7 +13,7 @@ use Rattle.theory.specs.Packs.{Rule, Pack, textLimit, noClaim, atomKey, 
 use Rattle.theory.specs.Written.{Written, nothing, write, writeAll, packOf}
 use Rattle.theory.specs.Residuals.{areaNeeded, residual, ruleVariables, residualNumbers}
 use Rattle.theory.specs.Faults.{Manner, whole, fault, lastRule}
-use Rattle.theory.specs.Check.{numbers, multiplierLines, isFinished, Checked, checked}
+use Rattle.theory.specs.Check.{numbers, multiplierLines, isFinished, verdictOf, Checked, checked}
 use Rattle.theory.specs.Limits.{MultipliersFit}
 
 -- no line of these has a fault, judged in some manner after lines that write w
@@ -26,6 +26,11 @@ pub record Judged (text : Bytes) (area : List ℤ) : Type 0 where
   pub room : areaNeeded ≤ length area
   pub short : length text ≤ textLimit
   pub finished : isFinished text ≡ true
+
+-- The limit on the text as a plain number: up to there its last byte is asked for, and past it nothing else.
+pub record TextLengthTold : Type 0 where
+  pub short : (text : Bytes) → length text ≤ 32768 → isFinished text ≡ false → verdictOf text .returned ≡ numbers 3 0 0 0
+  pub long : (text : Bytes) → 32768 < length text → verdictOf text .returned ≡ numbers 2 0 0 0
 
 -- The first faulty line, counted from 1, with the number of its fault.
 pub record FirstFault (text : Bytes) (number line : ℕ) : Type 0 where

@@ -13,13 +13,13 @@ use Rattle.theory.specs.Packs.{Claim, Atom}
 use Rattle.theory.specs.Written.{nothing, writeAll}
 use Rattle.theory.specs.Faults.{whole}
 use Rattle.theory.specs.Check.{refusalOf}
-use Rattle.theory.specs.ResidualWords.{ClaimTold, ResidualTold, VariablesTold, NumbersTold}
-use Rattle.theory.specs.LineWords.{applying, LineTold, LetterTold}
+use Rattle.theory.specs.ResidualsTold.{ClaimTold, ResidualTold, VariablesTold, NumbersTold}
+use Rattle.theory.specs.LinesTold.{applying, LineTold, LetterTold}
 use Rattle.theory.specs.MeasureTold.{MeasureTold}
 use Rattle.theory.specs.ReplyTold.{ReplyTold}
 use Rattle.theory.specs.Words.{WordFactors}
 use Rattle.theory.specs.Answers.{passedOn}
-use Rattle.theory.specs.Outcomes.{AllFine}
+use Rattle.theory.specs.Outcomes.{AllFine, TextLengthTold}
 use Rattle.theory.specs.Queries.{QueriesTold, ReserveTold}
 use Rattle.theory.specs.Ranges.{FormsFit}
 use Rattle.theory.specs.Witnesses.{Witnessed}
@@ -44,6 +44,7 @@ pub record LinesPromised : Type 0 where
 pub record Promised : Type 1 where
   -- demand 1
   pub check : (text : Bytes) (area : List ℤ) → DemandOne text area
+  pub textLength : TextLengthTold
   pub lines : LinesPromised
   pub queries : (text query : Bytes) → QueriesTold text query
   pub reserve : (text query : Bytes) → ReserveTold text query

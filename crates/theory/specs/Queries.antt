@@ -10,7 +10,7 @@ use Rattle.theory.specs.Lists.{_∈_}
 use Rattle.theory.specs.Text.{Bytes, bytes, decimal, fieldsOf}
 use Rattle.theory.specs.Packs.{Predicate, Pack, lineLimit, line}
 use Rattle.theory.specs.Written.{field, packOf}
-use Rattle.theory.specs.LineWords.{Fit, Unfit}
+use Rattle.theory.specs.LinesTold.{Fit, Unfit}
 use Rattle.theory.specs.Check.{verdictOf}
 use Rattle.theory.specs.Reserve.{Query, sizeGiven, queryOf, queryFault, Fields, fields, reserveOf}
 use Rattle.theory.specs.SmallestBound.{BoundGiven, ImpossibleBy, NoneUsable}

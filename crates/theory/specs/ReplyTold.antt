@@ -51,6 +51,7 @@ answerLine f = f .letter ∷ bytes "," ++ decimal (f .middle) ++ bytes "," ++ de
 -- a line for the pack and one for each query.
 pub record ReplyTold : Type 0 where
   pub divides : (input : Bytes) → (pack : Bytes) × (queries : List Bytes) × Divided input pack queries
+  pub only : (input : Bytes) {pack other : Bytes} {queries others : List Bytes} → Divided input pack queries → Divided input other others → (pack ≡ other) × (queries ≡ others)
   pub long : (input : Bytes) → 65536 < length input → reply input ≡ bytes "2,0,0,0\n"
   pub prints : (input pack : Bytes) (queries : List Bytes) → length input ≤ 65536 → Divided input pack queries
       → reply input ≡ verdictLine (verdictOf pack .returned) ++ flatMap (λ (q : Bytes). answerLine (reserveOf pack q)) queries

@@ -1,21 +1,18 @@
 -- The numbers and values of each case of the code's answers, as one table beside documents 01 and 02.
 use mathlib.Core.Path.{_≡_, refl}
-use mathlib.Core.List.{List, [], _∷_, map}
-use mathlib.Core.Option.{Option, some, none}
-use Prim.Native.Nat.{ℕ}
+use mathlib.Core.List.{[], _∷_, map}
+use mathlib.Core.Option.{some, none}
 use Prim.Native.Char.{code}
 use Rattle.theory.specs.declared.Counts.{Counts}
 use Rattle.theory.specs.declared.Bound.{Bound}
-use Rattle.theory.specs.declared.Refusal.{Refusal}
 use Rattle.theory.specs.declared.Refusal.the-variants.{ShortArea, LongText, UnfinishedText, UnfitLine, Letter, NoEnd, Name, Declaration, FieldCount, Number, NoTerm, CountLimit, Unjustified, RuledFact, NotGround, UnmetClaim, Headless}
 use Rattle.theory.specs.declared.Verdict.the-variants.{Accepted, Refused}
 use Rattle.theory.specs.declared.QueryRefusal.the-variants.{UnfitQuery, QueryName, AskedArgument, SizeField, AskedIsKnown}
-use Rattle.theory.specs.declared.Reservation.{Reservation}
 use Rattle.theory.specs.declared.Reservation.the-variants.{Bounded, NoBound, Impossible, PackRefused, QueryRefused}
 use Rattle.theory.specs.declared.Filing.the-variants.{Filed, ShortPage, NotAccepted}
 use Rattle.theory.specs.declared.Importation.the-variants.{Imported, NoClauses, OverLimit, ShortBuffer}
 use Rattle.theory.specs.declared.Measurement.the-variants.{Size, UnfitTerm, NotTerm, HasVariable}
-use Rattle.theory.specs.Check.{Numbers, numbers}
+use Rattle.theory.specs.Check.{numbers}
 use Rattle.theory.specs.Measure.{measured}
 use Rattle.theory.specs.Reserve.{fields}
 use Rattle.theory.specs.Answers.{refusalNumbers, numbersOf, reservedFields, passedOn, filingNumbers, importNumbers, measuredOf}

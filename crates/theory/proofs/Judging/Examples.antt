@@ -16,7 +16,7 @@ use Rattle.theory.specs.Residuals.{weighted, claimForm, subgoalForms, co
 use Rattle.theory.specs.Facts.{weightedSizes, isMet}
 use Rattle.theory.specs.Faults.{firstOf, isUnfit, less, lineArity, declaredFor, isGiven, givenIn, ruledIn, noRule, lastOf, mayStand, residualDue, predicateTests, claimTests, atomTests, factTests, headTests, subgoalTests, multiplierTests, endTests, tests, fault}
 use Rattle.theory.specs.Check.{refused, judge, isFinished, judgementOf, verdictOf}
-use Rattle.theory.specs.LineWords.{found, applying}
+use Rattle.theory.specs.LinesTold.{found, applying}
 
 -- a line with the numbers that apply to it, where it stands
 pub record Row : Type 0 where

@@ -11,7 +11,7 @@ use Rattle.theory.specs.Lists.{_∈_, every}
 use Rattle.theory.specs.Text.{Bytes, between}
 use Rattle.theory.specs.Packs.{lineLimit}
 use Rattle.theory.specs.Faults.{isUnfit}
-use Rattle.theory.specs.LineWords.{Fit, Unfit, long, outside}
+use Rattle.theory.specs.LinesTold.{Fit, Unfit, long, outside}
 use Rattle.theory.proofs.Reading.Every.{every-member, some-failing}
 
 -- ---- one byte

@@ -1,4 +1,4 @@
--- What 8, 12, 21, 22 and 24 say of a line, by its letter. Proves LetterTold of specs/LineWords.
+-- What 8, 12, 21, 22 and 24 say of a line, by its letter. Proves LetterTold of specs/LinesTold.
 use mathlib.Core.Path.{_≡_, refl, sym, _∙_, ap, subst}
 use mathlib.Core.Bool.{Bool, true, false, cond, not, _&&_, _||_, or-false}
 use mathlib.Core.Logic.{_⊎_, inl, inr, ⊎-elim, _↔_}
@@ -24,7 +24,7 @@ use Rattle.theory.specs.Written.{lineLetter, field, Written, claimFrom, 
 use Rattle.theory.specs.Residuals.{ruleVariables}
 use Rattle.theory.specs.Facts.{claimAt, isMet, meetsEvery}
 use Rattle.theory.specs.Faults.{lineArity, meantBy, givenIn, lastRule, manyVariables, owesRule, headsRule, isHeadless, isGiven, mayStand, whole, predicateTests, claimTests, atomTests, factTests, headTests, subgoalTests, endTests, tests, lineTests}
-use Rattle.theory.specs.LineWords.{applying, Gives, Meant, AsksDeclared, onClaim, onFact, onSubgoal, Headless, LetterTold}
+use Rattle.theory.specs.LinesTold.{applying, Gives, Meant, AsksDeclared, onClaim, onFact, onSubgoal, Headless, LetterTold}
 use Rattle.theory.proofs.Reading.Every.{any-found, any-member, some-failing, every-member}
 use Rattle.theory.proofs.Reading.Presence.{is-some, some-is, is-none, none-is, is-empty, empty-is}
 use Rattle.theory.proofs.Reading.Spelling.{natural-of-decimal, decimal-of-natural}

@@ -1,4 +1,4 @@
--- Which numbers apply to a line, in words. Proves LineTold and LetterTold of specs/LineWords.
+-- Which numbers apply to a line, in words. Proves LineTold and LetterTold of specs/LinesTold.
 use mathlib.Core.Path.{_≡_, refl, sym, _∙_, ap, subst}
 use mathlib.Core.Bool.{Bool, true, false, cond, not, _&&_, _||_, or-false}
 use mathlib.Core.Logic.{_⊎_, inl, inr, ⊎-elim, _↔_}
@@ -18,7 +18,7 @@ use Rattle.theory.specs.declared.Letter.{Letter}
 use Rattle.theory.specs.declared.Letter.the-variants.{P, C, G, H, B, M, E, NoLetter}
 use Rattle.theory.specs.Written.{lineLetter, Written}
 use Rattle.theory.specs.Faults.{Test, test, firstOf, isUnfit, mayStand, whole, predicateTests, claimTests, atomTests, factTests, headTests, subgoalTests, multiplierTests, endTests, tests, lineTests, fault}
-use Rattle.theory.specs.LineWords.{Fit, Unfit, found, applying, LineTold}
+use Rattle.theory.specs.LinesTold.{Fit, Unfit, found, applying, LineTold}
 use Rattle.theory.proofs.Judging.Fitness.{unfit-exactly}
 use Rattle.theory.proofs.Judging.LineReading.{tests-numbered}
 use Rattle.theory.proofs.Judging.Tests.{_then_, Numbered}

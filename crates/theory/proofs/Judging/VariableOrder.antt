@@ -1,5 +1,5 @@
 -- A rule's variables in words: each once, those that occur, and each where it first occurs. Proves VariablesTold of
--- specs/ResidualWords.
+-- specs/ResidualsTold.
 use mathlib.Core.Path.{_≡_, refl, sym, _∙_, ap, subst}
 use mathlib.Core.Bool.{Bool, cond}
 use mathlib.Core.Logic.{⊎-elim}
@@ -11,7 +11,7 @@ use Rattle.theory.specs.Lists.{_∈_}
 use Rattle.theory.specs.Text.{Bytes, same, among}
 use Rattle.theory.specs.Packs.{Atom}
 use Rattle.theory.specs.Residuals.{numbered, atomsVariables, ruleVariables}
-use Rattle.theory.specs.ResidualWords.{VariablesTold}
+use Rattle.theory.specs.ResidualsTold.{VariablesTold}
 use Rattle.theory.proofs.Reading.Bytes.{same-equal, same-unequal}
 use Rattle.theory.proofs.Judging.Variables.{among-member, not-among, member-numbered, rule-variables-once}
 

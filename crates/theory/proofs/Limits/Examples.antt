@@ -1,18 +1,17 @@
 -- Document 01's limits at their edges, as one table: what passes, and one more.
-use mathlib.Core.Path.{_≡_, refl}
-use mathlib.Core.List.{List, [], _∷_, _++_, map, flatMap, flatten}
-use mathlib.Core.Bool.{false}
-use Prim.Native.Nat.{ℕ, _≤_, _<_}
-use Prim.Native.Char.{code}
+use mathlib.Core.Path.{refl}
+use mathlib.Core.List.{List, [], _∷_, _++_, flatten}
+use Prim.Native.Nat.{ℕ}
 use Prim.Native.String.{String}
-use lib.IntN.{ℤ, pos}
+use lib.IntN.{pos}
 use lib.ListN.{length, replicate}
 use Rattle.groundwork.proofs.Truth.{lt-ltb, ge-ltb}
 use Rattle.theory.specs.Text.{Bytes, bytes}
 use Rattle.theory.specs.Packs.{textLimit}
-use Rattle.theory.specs.Check.{numbers, isFinished, judgementOf, verdictOf}
+use Rattle.theory.specs.Check.{numbers, judgementOf}
+use Rattle.theory.specs.Outcomes.{TextLengthTold}
 use Rattle.theory.specs.Measure.{measured}
-use Rattle.theory.proofs.Examples.{Example, check, checkOn, measureOn, Answer, checked, sized, answerTo, before, unchanged, Row, _gives_, AnswersMet}
+use Rattle.theory.proofs.Examples.{Example, check, checkOn, measureOn, checked, sized, answerTo, before, unchanged, Row, _gives_, AnswersMet}
 
 -- a quoted text so many times
 abbrev times : ℕ → String → Bytes
@@ -22,26 +21,16 @@ times n s = flatten (replicate n (bytes s))
 abbrev around : String → ℕ → String → String → Example
 around front n s back = checkOn (bytes front ++ times n s ++ bytes back) before
 
--- 32 predicates: four names, each with arities 0 to 7
-abbrev predicates : Bytes
-predicates = flatMap (λ (name : ℕ). flatMap (λ (arity : ℕ). bytes "P," ++ name ∷ code "," ∷ arity ∷ bytes ",G\n") (bytes "01234567")) (bytes "abcd")
-
 -- a term of so many symbols f/1 before a constant
 abbrev nested : ℕ → String → Bytes
 nested n constant = times n "f/1 " ++ bytes constant
 
--- Counts: the line of the 12 is that of the 33rd predicate, the 17th claim, the 65th rule, the 9th subgoal and the 17th variable,
--- so all before it pass. Then lines of 1,024 and 1,025 bytes; claim numbers and multipliers up to 9999; names, variables and symbols
--- of 16 and 17 bytes; 8 and 9 arguments of a predicate, 9 and 10 of a symbol; areas of 17 and 16 numbers; terms of 1,024 and 1,025 bytes.
+-- Lines of 1,024 and 1,025 bytes; claim numbers and multipliers up to 9999; names, variables and symbols of 16 and 17 bytes; 8 and 9
+-- arguments of a predicate, 9 and 10 of a symbol; areas of 17 and 16 numbers; terms of 1,024 and 1,025 bytes. (The counts of
+-- predicates, claims, rules, subgoals and variables at their edges are rows of the table of lines, in Judging/Examples.)
 abbrev pub limits : List Row
 limits =
-    (checkOn (predicates ++ bytes "P,e,0,G\nE\n") before gives unchanged 12 33 0 0)
-    ∷ (around "P,k,0,G\n" 17 "C,k,0\n" "E\n" gives unchanged 12 18 0 0)
-    ∷ (around "P,k,0,R\n" 65 "H,k\n" "E\n" gives unchanged 12 66 0 0)
-    ∷ (around "P,k,0,R\nH,k\n" 9 "B,k\n" "E\n" gives unchanged 12 11 0 0)
-    ∷ (check "P,k,1,R\nH,k,f/8 A B C D E F G H\nB,k,f/8 I J K L M N O P\nB,k,Q\nE\n" before gives unchanged 12 4 0 0)
-    ∷ (check "P,k,1,R\nH,k,f/9 A B C D E F G H f/9 I J K L M N O P Q\nE\n" before gives unchanged 12 2 0 0)
-    ∷ (checkOn (bytes "P,kk,1,R\nH,kk," ++ nested 254 "a/0\nE\n") before gives unchanged 0 3 1 0)
+    (checkOn (bytes "P,kk,1,R\nH,kk," ++ nested 254 "a/0\nE\n") before gives unchanged 0 3 1 0)
     ∷ (checkOn (bytes "P,kk,1,R\nH,kk," ++ nested 254 "ab/0\nE\n") before gives unchanged 4 2 0 0)
     ∷ (check "P,k,0,G\nC,k,9999\nC,k,-9999\nE\n" before gives unchanged 0 4 0 0)
     ∷ (check "P,k,0,G\nC,k,10000\nE\n" before gives unchanged 10 2 0 0)
@@ -65,14 +54,10 @@ limits =
     ∷ []
 
 pub limits-are-met : AnswersMet limits
-unfolding answerTo bytes flatMap flatten
+unfolding answerTo bytes flatten
 limits-are-met = refl
 
--- A text's length, for every text (one of 32,768 bytes takes long to compute): up to there its last byte is asked for.
-pub record TextLimitMet : Type 0 where
-  pub short : (text : Bytes) → length text ≤ 32768 → isFinished text ≡ false → verdictOf text .returned ≡ numbers 3 0 0 0
-  pub long : (text : Bytes) → 32768 < length text → verdictOf text .returned ≡ numbers 2 0 0 0
-
-pub text-limit-is-met : TextLimitMet
+-- A text's length needs no row: what is said of it is said for every text.
+pub text-length-told : TextLengthTold
 unfolding judgementOf
-text-limit-is-met = record { short = λ text h e. rw (ge-ltb textLimit (length text) h, e); long = λ text h. rw (lt-ltb textLimit (length text) h) }
+text-length-told = record { short = λ text h e. rw (ge-ltb textLimit (length text) h, e); long = λ text h. rw (lt-ltb textLimit (length text) h) }

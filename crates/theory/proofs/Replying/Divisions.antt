@@ -1,20 +1,19 @@
 -- Where the pack ends in the input: at the first line that is exactly `E` and its byte 10, and nowhere else.
 use mathlib.Core.Path.{_≡_, refl, sym, _∙_, ap, ap₂, subst}
-use mathlib.Core.Bool.{Bool, true, false, cond}
+use mathlib.Core.Bool.{Bool, true, false}
 use mathlib.Core.List.{List, [], _∷_, _++_, append-nil, append-assoc, append-cancel-right, head-eq-of-cons-eq, tail-eq-of-cons-eq, List·Memᴰ·head, List·Memᴰ·tail, List·Memᴰ·eq-of-singleton, Memᴰ·append-left, Memᴰ·append-right}
-use mathlib.Core.Logic.{_⊎_, inl, inr}
-use Prim.Native.Nat.{ℕ, _+_, _≤_}
+use Prim.Native.Nat.{ℕ, _+_}
 use native.Mathlib.Omega.{arith}
 use lib.Dec.{eqb}
 use lib.ListN.{length, length-append}
-use Rattle.groundwork.proofs.Truth.{by-truth, never-both, eqb-equal, eqb-same, and-both, not-false, not-true}
+use Rattle.groundwork.proofs.Truth.{by-truth, never-both, eqb-equal, eqb-same, not-true}
 use Rattle.theory.specs.Lists.{every, _∈_}
-use Rattle.theory.specs.Text.{Bytes, bytes, same, linesOf}
+use Rattle.theory.specs.Text.{Bytes, bytes, linesOf}
 use Rattle.theory.specs.Program.{packPart, queries}
-use Rattle.theory.specs.ReplyTold.{LineBegins, atStart, afterLine, EndLine, HasLines, Divided, atEnd, noEnd}
+use Rattle.theory.specs.ReplyTold.{LineBegins, atStart, afterLine, EndLine, Divided, atEnd, noEnd}
 use Rattle.theory.proofs.Reading.Bytes.{same-equal, same-refl}
-use Rattle.theory.proofs.Reading.Every.{every-member, every-first, every-rest, every-cons}
-use Rattle.theory.proofs.Reading.Separators.{isFree, free-first}
+use Rattle.theory.proofs.Reading.Every.{every-member, every-rest}
+use Rattle.theory.proofs.Reading.Separators.{isFree}
 use Rattle.theory.proofs.Replying.PackLines.{isEnd, pack-end, queries-end, pack-line, queries-line, pack-last, queries-last}
 use Rattle.theory.proofs.Replying.LinesTold.{lines-told, lines-only}
 

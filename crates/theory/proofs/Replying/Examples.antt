@@ -1,5 +1,5 @@
 -- The program's reply (document 01, "The program"), as one table: the definitions compute every byte.
-use mathlib.Core.Path.{_≡_, refl}
+use mathlib.Core.Path.{refl}
 use mathlib.Core.List.{List, [], _∷_}
 use Prim.Native.String.{String}
 use Rattle.theory.specs.Text.{bytes}

@@ -1,12 +1,12 @@
 -- The lines of some bytes, in words: what stands between bytes 10.
 use mathlib.Core.Path.{_≡_, refl, sym, _∙_, ap, subst}
-use mathlib.Core.Bool.{Bool, true, false, cond, not}
+use mathlib.Core.Bool.{Bool, true, cond, not}
 use mathlib.Core.List.{List, [], _∷_, _++_, append-assoc, List·Memᴰ·head, List·Memᴰ·tail, List·Memᴰ·cases-cons, List·Memᴰ·not-nil}
 use mathlib.Core.Logic.{_⊎_, inl, inr}
 use Prim.Native.Nat.{ℕ}
 use lib.Dec.{eqb}
 use Rattle.groundwork.proofs.Truth.{by-truth, eqb-equal, eqb-unequal, eqb-different}
-use Rattle.theory.specs.Lists.{every, _∈_, ending}
+use Rattle.theory.specs.Lists.{_∈_, ending}
 use Rattle.theory.specs.Text.{Bytes, onFirst, linesOf}
 use Rattle.theory.specs.Packs.{textOf}
 use Rattle.theory.specs.ReplyTold.{NoLineEnds, HasLines, ended, unended}

@@ -13,7 +13,7 @@ use Rattle.theory.specs.Text.{Bytes, bytes, isName, decimal, fieldsOf}
 use Rattle.theory.specs.Packs.{Predicate, Pack, line}
 use Rattle.theory.specs.Written.{field}
 use Rattle.theory.specs.Faults.{isUnfit}
-use Rattle.theory.specs.LineWords.{Fit}
+use Rattle.theory.specs.LinesTold.{Fit}
 use Rattle.theory.specs.Limits.{PredicateFits}
 use Rattle.theory.specs.Reserve.{Query, sizeFrom, queryFrom, queryOf, sizeGiven, queryFault}
 use Rattle.theory.specs.Queries.{writtenSize, queryFields, writtenQuery, Named, Asked, SizeField, Sized, LeavesOpen, QueryFits, QueryWritten, QueryTold, unfit, unnamed, unasked, unsized, askedKnown, faultless}

@@ -1,5 +1,5 @@
 -- What a claim, a residual and its numbers are, in words: by the places of arguments and multipliers, at all sizes of the variables.
--- Proves the records of specs/ResidualWords.
+-- Proves the records of specs/ResidualsTold.
 use mathlib.Core.Path.{_≡_, refl, sym, _∙_, ap, ap₂, subst}
 use mathlib.Core.List.{List, [], _∷_, _++_, map, flatMap, map-append, map-map, Memᴰ·of-map, List·Memᴰ·head, List·Memᴰ·tail, List·Memᴰ·not-nil}
 use Prim.Native.Nat.{ℕ, zero, suc, _+_, _-_, _≤_}
@@ -17,7 +17,7 @@ use Rattle.theory.specs.Forms.{Form, Once, times, valueAt}
 use Rattle.theory.specs.Packs.{Claim, Atom, noClaim, atomKey, claimsOn, variableLimit}
 use Rattle.theory.specs.Residuals.{claimForm, subgoalForms, combined, residual, ruleVariables, areaNeeded, residualNumbers}
 use Rattle.theory.specs.Facts.{weightedSizes}
-use Rattle.theory.specs.ResidualWords.{valueOf, ClaimTold, Owed, owed, owedBy, noneOwed, ResidualTold, NumbersTold}
+use Rattle.theory.specs.ResidualsTold.{valueOf, ClaimTold, Owed, owed, owedBy, noneOwed, ResidualTold, NumbersTold}
 use Rattle.theory.proofs.Judging.Variables.{rule-variables-once, head-variable, subgoal-variable}
 use Rattle.theory.proofs.Soundness.FormValues.{value-plus, value-times, value-minus, value-zero}
 use Rattle.theory.proofs.Soundness.Sizes.{claim-where}
