@@ -1,22 +1,21 @@
 -- Demand 1, for check: every text and every area has one of the outcomes, and the area changes only for 13.
 use mathlib.Core.Path.{_≡_, refl, subst, sym, ap, _∙_}
 use mathlib.Core.Bool.{Bool, true, false, cond}
-use mathlib.Core.List.{List, _∷_, _++_, map}
-use Prim.Native.Nat.{ℕ, _+_, _-_, _<_, _≤_}
+use mathlib.Core.List.{List, _∷_, _++_}
+use Prim.Native.Nat.{ℕ, _+_, _-_, _≤_}
 use native.Mathlib.Omega.{arith}
 use native.Mathlib.Nat.{zero-add}
 use lib.Dec.{eqb, ltb}
-use lib.IntN.{ℤ, pos}
-use lib.ListN.{length, drop, replicate, length-append, length-map, length-replicate}
-use lib.Seq.{length-take-le, drop-at}
-use Rattle.groundwork.proofs.Truth.{eqb-unequal, not-true, eqb-equal, ltb-lt, ltb-ge}
+use lib.IntN.{ℤ}
+use lib.ListN.{length, drop}
+use lib.Seq.{drop-at}
+use Rattle.groundwork.proofs.Truth.{eqb-unequal, eqb-equal, ltb-lt, ltb-ge}
 use Rattle.theory.specs.Lists.{over}
 use Rattle.theory.specs.Text.{Bytes, linesOf, fieldsOf}
-use Rattle.theory.specs.Forms.{Form}
-use Rattle.theory.specs.Packs.{Pack, variableLimit, textLimit}
-use Rattle.theory.specs.Written.{lineLetter, Written, nothing, writeAll, packOf, multipliersFrom}
-use Rattle.theory.specs.Residuals.{areaNeeded, residualNumbers}
-use Rattle.theory.specs.Faults.{whole, fault, lastRule, headClaims, mayStand, residualDue}
+use Rattle.theory.specs.Packs.{Pack, textLimit}
+use Rattle.theory.specs.Written.{Written, nothing, writeAll, packOf, multipliersFrom}
+use Rattle.theory.specs.Residuals.{areaNeeded}
+use Rattle.theory.specs.Faults.{whole, fault, lastRule, residualDue}
 use Rattle.theory.specs.Check.{Judgement, plain, numbers, multiplierLines, refused, checked, checkOf, Checked, judgementOf, verdictOf, isFinished, judge}
 use Rattle.theory.specs.Outcomes.{AllFine, Judged, FirstFault, residualFor, Unjustified, Outcome, faulty, accepted, unjustified, noEnd, shortArea, longText, unfinished}
 use Rattle.theory.specs.Promises.{DemandOne}

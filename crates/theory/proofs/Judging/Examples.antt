@@ -4,7 +4,7 @@ use mathlib.Core.Path.{_≡_, refl}
 use mathlib.Core.List.{List, [], _∷_, _++_, map, flatMap, flatten}
 use Prim.Native.Nat.{ℕ, zero, suc}
 use Prim.Native.String.{String}
-use lib.ListN.{getD, replicate}
+use lib.ListN.{getD}
 use Rattle.theory.specs.Lists.{every, any, isSome, isEmpty, total}
 use Rattle.theory.specs.Text.{Bytes, bytes, same, among, partsAt, linesOf, isNameByte, isWord, valueAfter, isDecimal, natural, negated, integer, lastDigits, decimal}
 use Rattle.theory.specs.Terms.{arity, symbolFrom, symbolIn, tokenOf, firstTerms, after, afterAll, termsOf, theOnly, readTerm, variables}

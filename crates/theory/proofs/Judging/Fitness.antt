@@ -7,7 +7,7 @@ use native.Mathlib.Omega.{arith}
 use lib.Dec.{leb, ltb}
 use lib.ListN.{length}
 use Rattle.groundwork.proofs.Truth.{by-truth, not-true, not-false, leb-le, leb-gt, ltb-lt, ltb-ge, and-left, and-right, or-not-left, or-not-right}
-use Rattle.theory.specs.Lists.{_∈_, every}
+use Rattle.theory.specs.Lists.{every}
 use Rattle.theory.specs.Text.{Bytes, between}
 use Rattle.theory.specs.Packs.{lineLimit}
 use Rattle.theory.specs.Faults.{isUnfit}

@@ -1,36 +1,34 @@
 -- What 8, 12, 21, 22 and 24 say of a line, by its letter. Proves LetterTold of specs/LinesTold.
-use mathlib.Core.Path.{_≡_, refl, sym, _∙_, ap, subst}
-use mathlib.Core.Bool.{Bool, true, false, cond, not, _&&_, _||_, or-false}
+use mathlib.Core.Path.{_≡_, refl, sym, _∙_, ap}
+use mathlib.Core.Bool.{Bool, true, false, cond, not, _||_, or-false}
 use mathlib.Core.Logic.{_⊎_, inl, inr, ⊎-elim, _↔_}
 use mathlib.Core.List.{List, [], _∷_, _++_, List·Memᴰ·head, List·Memᴰ·not-nil}
-use mathlib.Core.Option.{Option, some, none, Option·none-ne-some, Option·some-ne-none, Option·some-injective}
+use mathlib.Core.Option.{Option, some, none, Option·none-ne-some, Option·some-ne-none}
 use Prim.Native.Nat.{ℕ, _≤_, _<_}
-use native.Mathlib.Omega.{arith}
 use lib.Dec.{eqb, leb, ltb}
 use lib.IntN.{pos}
 use lib.ListN.{length}
-use lib.Signed.{nonNeg, _<ℤ_, clashℤ}
-use Rattle.groundwork.proofs.Truth.{by-truth, never-both, not-true, not-false, and-left, and-right, and-both, or-left, or-right, leb-le, le-leb, ltb-lt, lt-ltb}
+use lib.Signed.{_<ℤ_, clashℤ}
+use Rattle.groundwork.proofs.Truth.{by-truth, never-both, not-true, and-left, and-right, and-both, leb-le, le-leb, ltb-lt, lt-ltb}
 use Rattle.groundwork.proofs.Lists.{member-split}
 use Rattle.groundwork.proofs.Order.{nonneg-test, below-zero}
-use Rattle.theory.specs.Lists.{_∈_, any, every, isSome, isEmpty, ending}
-use Rattle.theory.specs.Text.{Bytes, fieldsOf, natural}
+use Rattle.theory.specs.Lists.{_∈_, any, isSome, isEmpty}
+use Rattle.theory.specs.Text.{Bytes, fieldsOf}
 use Rattle.theory.specs.Terms.{allVariables}
 use Rattle.theory.specs.Sizes.{structural}
 use Rattle.theory.specs.Packs.{given, Predicate, Claim, Atom, Pack, Key, key, sameKey, keyOf, claimKey, atomKey, declaredAs, claimsOn, predicateLimit, claimLimit, ruleLimit, subgoalLimit, variableLimit}
 use Rattle.theory.specs.declared.Letter.{Letter}
 use Rattle.theory.specs.declared.Letter.the-variants.{P, C, G, H, B, M, E, NoLetter}
-use Rattle.theory.specs.Written.{lineLetter, field, Written, claimFrom, atomFrom}
-use Rattle.theory.specs.Residuals.{ruleVariables}
+use Rattle.theory.specs.Written.{lineLetter, field, Written, atomFrom}
 use Rattle.theory.specs.Facts.{claimAt, isMet, meetsEvery}
-use Rattle.theory.specs.Faults.{lineArity, meantBy, givenIn, lastRule, manyVariables, owesRule, headsRule, isHeadless, isGiven, mayStand, whole, predicateTests, claimTests, atomTests, factTests, headTests, subgoalTests, endTests, tests, lineTests}
+use Rattle.theory.specs.Faults.{lineArity, meantBy, givenIn, owesRule, headsRule, isHeadless, isGiven, whole, predicateTests, claimTests, atomTests, factTests, headTests, subgoalTests, endTests, tests, lineTests}
 use Rattle.theory.specs.LinesTold.{applying, Gives, Meant, AsksDeclared, onClaim, onFact, onSubgoal, Headless, LetterTold}
 use Rattle.theory.proofs.Reading.Every.{any-found, any-member, some-failing, every-member}
-use Rattle.theory.proofs.Reading.Presence.{is-some, some-is, is-none, none-is, is-empty, empty-is}
+use Rattle.theory.proofs.Reading.Presence.{is-some, some-is}
 use Rattle.theory.proofs.Reading.Spelling.{natural-of-decimal, decimal-of-natural}
 use Rattle.theory.proofs.Judging.Heads.{onClaim as claimOn, heads-from-test, test-from-heads, owes-from-claim}
 use Rattle.theory.proofs.Judging.Keys.{sameKey-equal, sameKey-here, declared-member}
-use Rattle.theory.proofs.Judging.Kinds.{given-kind, ruled-kind, given-in}
+use Rattle.theory.proofs.Judging.Kinds.{given-kind, ruled-kind}
 use Rattle.theory.proofs.Judging.LineKeys.{less-is, less-plus, declared-with, found-arity, claim-key}
 use Rattle.theory.proofs.Judging.LinesTold.{isFound, told}
 use Rattle.theory.proofs.Judging.Reached.{Distinct, Reached}

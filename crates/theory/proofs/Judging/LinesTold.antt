@@ -1,24 +1,22 @@
 -- Which numbers apply to a line, in words. Proves LineTold and LetterTold of specs/LinesTold.
-use mathlib.Core.Path.{_≡_, refl, sym, _∙_, ap, subst}
-use mathlib.Core.Bool.{Bool, true, false, cond, not, _&&_, _||_, or-false}
-use mathlib.Core.Logic.{_⊎_, inl, inr, ⊎-elim, _↔_}
+use mathlib.Core.Path.{_≡_, refl, sym, _∙_, ap}
+use mathlib.Core.Bool.{Bool, true, false, cond, _&&_, _||_, or-false}
+use mathlib.Core.Logic.{⊎-elim, _↔_}
 use mathlib.Core.List.{List, [], _∷_, nil≢cons, List·Memᴰ·head, List·Memᴰ·tail, List·Memᴰ·not-nil, List·Memᴰ·cases-cons}
-use mathlib.Core.Option.{Option, some, none}
-use Prim.Native.Nat.{ℕ, _+_, _≤_, _<_}
+use mathlib.Core.Option.{none}
+use Prim.Native.Nat.{ℕ}
 use native.Mathlib.Omega.{arith}
-use lib.Dec.{eqb, leb, ltb}
-use lib.IntN.{ℤ, pos}
-use lib.ListN.{length, getD}
-use lib.Signed.{_<ℤ_}
-use Rattle.groundwork.proofs.Truth.{by-truth, never-both, not-true, not-false, and-left, and-right, and-both, or-left, or-right, eqb-equal, equal-eqb, leb-le, le-leb, ltb-lt, lt-ltb}
-use Rattle.theory.specs.Lists.{_∈_, any, every, isSome, isEmpty, ending}
+use lib.Dec.{eqb}
+use lib.ListN.{getD}
+use Rattle.groundwork.proofs.Truth.{by-truth, never-both, and-both, or-left, or-right, eqb-equal, equal-eqb}
+use Rattle.theory.specs.Lists.{_∈_, every}
 use Rattle.theory.specs.Text.{Bytes, fieldsOf}
 use Rattle.theory.specs.Packs.{Pack}
 use Rattle.theory.specs.declared.Letter.{Letter}
 use Rattle.theory.specs.declared.Letter.the-variants.{P, C, G, H, B, M, E, NoLetter}
 use Rattle.theory.specs.Written.{lineLetter, Written}
-use Rattle.theory.specs.Faults.{Test, test, firstOf, isUnfit, mayStand, whole, predicateTests, claimTests, atomTests, factTests, headTests, subgoalTests, multiplierTests, endTests, tests, lineTests, fault}
-use Rattle.theory.specs.LinesTold.{Fit, Unfit, found, applying, LineTold}
+use Rattle.theory.specs.Faults.{Test, test, firstOf, isUnfit, whole, predicateTests, claimTests, atomTests, factTests, headTests, subgoalTests, multiplierTests, endTests, tests, lineTests, fault}
+use Rattle.theory.specs.LinesTold.{found, applying, LineTold}
 use Rattle.theory.proofs.Judging.Fitness.{unfit-exactly}
 use Rattle.theory.proofs.Judging.LineReading.{tests-numbered}
 use Rattle.theory.proofs.Judging.Tests.{_then_, Numbered}

@@ -1,21 +1,19 @@
 -- What a 13 says of its line: it is a line of multipliers that is due, they fit, and a number of the residual is below 0.
 use mathlib.Core.Path.{_≡_, sym, _∙_, ap}
-use mathlib.Core.Bool.{true, false, not}
-use mathlib.Core.List.{List}
 use Prim.Native.Nat.{ℕ, _+_, _<_}
 use native.Mathlib.Omega.{arith}
 use lib.IntN.{ℤ, pos}
-use lib.ListN.{length, drop}
+use lib.ListN.{length}
 use lib.Signed.{nonNeg, _<ℤ_}
 use Rattle.groundwork.proofs.Order.{below-zero}
 use Rattle.groundwork.proofs.Truth.{not-true, not-false, eqb-equal}
-use Rattle.theory.specs.Lists.{_∈_, every}
+use Rattle.theory.specs.Lists.{_∈_}
 use Rattle.theory.specs.Text.{Bytes, fieldsOf}
 use Rattle.theory.specs.Packs.{claimsOnAll, multiplierLine, line}
-use Rattle.theory.specs.declared.Letter.the-variants.{M, NoLetter}
+use Rattle.theory.specs.declared.Letter.the-variants.{M}
 use Rattle.theory.specs.Written.{lineLetter, field, Written, multipliersFrom}
 use Rattle.theory.specs.Residuals.{isJustified}
-use Rattle.theory.specs.Faults.{Manner, whole, firstOf, isMultiplier, lastRule, headClaims, mayStand, residualDue, multiplierTests, tests, fault}
+use Rattle.theory.specs.Faults.{whole, lastRule, headClaims, mayStand, residualDue, multiplierTests, tests, fault}
 use Rattle.theory.specs.Limits.{MultipliersFit}
 use Rattle.theory.proofs.Reading.Every.{some-failing}
 use Rattle.theory.proofs.Reading.Letters.{letterField, field-of-letter}

@@ -1,6 +1,6 @@
 -- A rule's variables in words: each once, those that occur, and each where it first occurs. Proves VariablesTold of
 -- specs/ResidualsTold.
-use mathlib.Core.Path.{_≡_, refl, sym, _∙_, ap, subst}
+use mathlib.Core.Path.{_≡_, refl, sym, _∙_, ap}
 use mathlib.Core.Bool.{Bool, cond}
 use mathlib.Core.Logic.{⊎-elim}
 use mathlib.Core.List.{List, [], _∷_, _++_, append-assoc, append-nil, List·Memᴰ·head, List·Memᴰ·tail, List·Memᴰ·not-nil, List·Memᴰ·cases-cons, Memᴰ·append-right, Memᴰ·cast}
@@ -13,7 +13,7 @@ use Rattle.theory.specs.Packs.{Atom}
 use Rattle.theory.specs.Residuals.{numbered, atomsVariables, ruleVariables}
 use Rattle.theory.specs.ResidualsTold.{VariablesTold}
 use Rattle.theory.proofs.Reading.Bytes.{same-equal, same-unequal}
-use Rattle.theory.proofs.Judging.Variables.{among-member, not-among, member-numbered, rule-variables-once}
+use Rattle.theory.proofs.Judging.Variables.{among-member, member-numbered, rule-variables-once}
 
 -- what was seen stays in front
 numbered-front : (seen xs : List Bytes) → (rest : List Bytes) × (numbered seen xs ≡ seen ++ rest)

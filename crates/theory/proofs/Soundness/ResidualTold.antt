@@ -33,9 +33,6 @@ summed-none (suc n) number none = rw (none 0, summed-none n (λ i. number (suc i
 times-none : (z : ℤ) → z *ℤ pos 0 ≡ pos 0
 times-none = by-diff _ λ p n. simp to-diff (diff-eq _ _ _ _ (omega arith))
 
-none-times : (z : ℤ) → pos 0 *ℤ z ≡ pos 0
-none-times = by-diff _ λ p n. simp to-diff (diff-eq _ _ _ _ (omega arith))
-
 weighted-by-place : (cs : List ℤ) (sizes : List ℕ) → weightedSizes cs sizes ≡ summed (length cs) (λ i. getD cs i (pos 0) *ℤ pos (getD sizes i 0))
 unfolding weightedSizes summed
 weighted-by-place [] sizes = refl
