@@ -22,7 +22,13 @@ row pack query answer = record { pack = pack; query = query; answer = answer }
 abbrev refuses : String → ℕ → Row
 refuses query n = row "P,k,2,G\nE\n" query (fields (code "R") n 0)
 
--- The samples. Then: a byte outside, in the name, in the asked argument and in a size beside a known one that is asked for (4, with 14,
+-- two claims on a predicate of two arguments, one of them with numbers of either sign
+abbrev weighed : String
+weighed = "P,k,2,G\nC,k,100,-7,-3\nC,k,-5,2,-3\nE\n"
+
+-- The samples. Bounds by claims whose numbers are not 1: the second claim's, which is smaller; the first one's, since the second has a
+-- positive number for an unknown argument; of the other argument; the lower of two claims that give the same; and "impossible" by the
+-- second, though the first gives a bound. Then: a byte outside, in the name, in the asked argument and in a size beside a known one that is asked for (4, with 14,
 -- 16, 17 and 18); no name, a malformed one, one that is not declared, a field too few (14), and one not declared with a malformed
 -- argument, size, and an asked size that is known (with 16, 17, 18); argument 0, one too many, a leading zero (16), also with a malformed
 -- size (17) and with known ones; a size too large, a leading zero, an empty one (17), also with an asked size that is known, and as that
@@ -33,6 +39,11 @@ queries =
     ∷ row joining "join,1,-,20,6" (fields (code "I") 0 2)
     ∷ row joining "join,3,20,-,-" (fields (code "N") 0 0)
     ∷ row joining "join,3,20,6,5" (fields (code "R") 18 0)
+    ∷ row weighed "k,2,4,-" (fields (code "B") 1 2)
+    ∷ row weighed "k,2,-,-" (fields (code "B") 33 1)
+    ∷ row weighed "k,1,-,30" (fields (code "B") 1 1)
+    ∷ row "P,k,1,G\nC,k,7,-2\nC,k,6,-2\nE\n" "k,1,-" (fields (code "B") 3 1)
+    ∷ row weighed "k,2,0,-" (fields (code "I") 0 2)
     ∷ refuses "k\t,1,-,-" 4
     ∷ refuses "k,\t,-,-" 4
     ∷ refuses "k,1,5,\t" 4
