@@ -1,6 +1,7 @@
 -- Document 02, 6/14: what is promised of import, by how a text is cut (Cutting) and by the grammar (Clauses), without the reader.
--- Which texts it takes and how it refuses the others; 01's limits; what its lines say of a clause, and what stands in them for
--- each `_`. All of it is `ImportPromised`, at the end, proved in proofs/ImportKept.antt.
+-- Which texts it takes and how it refuses the others; and of a clause in words what Import computes: the limits (`clauseFits`), what
+-- stands for each `_` (`filled`), what its lines say (`clauseLines`). All of it is `ImportPromised`, at the end, proved in
+-- proofs/ImportKept.antt.
 use mathlib.Core.Path.{_≡_}
 use mathlib.Core.Logic.{_⊎_, _↔_}
 use mathlib.Core.Bool.{Bool, true, false, _||_}
@@ -14,7 +15,6 @@ use Rattle.theory.specs.Terms as T
 use Rattle.theory.specs.Packs.{Atom, textOf, lineLimit, subgoalLimit, variableLimit}
 use Rattle.theory.specs.declared.Letter.the-variants.{H, B}
 use Rattle.theory.specs.Written.{lineLetter, atomFrom}
-use Rattle.theory.specs.Residuals.{ruleVariables}
 use Rattle.theory.specs.Check.{numbers}
 use Rattle.theory.specs.Pages.{Paged, paged}
 use Rattle.theory.specs.ClauseTokens.{Mark, name, variable, opens, closes, comma, neck, stop, stray, Token, tokensOf}
@@ -70,10 +70,22 @@ pub record AtomWithin (a : Atom) : Type 0 where
 abbrev pub AtomsWithin : Clause → Type 0
 AtomsWithin c = (a : Atom) → a ∈ (c .head ∷ c .subgoals) → AtomWithin a
 
+-- a variable stands in the clause, in its head or in a subgoal
+pub record StandsIn (c : Clause) (x : Bytes) : Type 0 where
+  pub atom : Atom
+  pub isIn : atom ∈ (c .head ∷ c .subgoals)
+  pub has : x ∈ allVariables (atom .terms)
+
+-- at most 16 variables: each that stands in the clause is one of so many
+pub record FewVariables (c : Clause) : Type 0 where
+  pub variables : List Bytes
+  pub few : length variables ≤ variableLimit
+  pub all : (x : Bytes) → StandsIn c x → x ∈ variables
+
 pub record ClauseWithin (c : Clause) : Type 0 where
   pub atoms : AtomsWithin c
   pub subgoals : length (c .subgoals) ≤ subgoalLimit
-  pub variables : length (ruleVariables (c .head) (c .subgoals)) ≤ variableLimit
+  pub variables : FewVariables c
   pub lines : (l : Bytes) → l ∈ clauseLines c → length l ≤ lineLimit
 
 -- What is tested of a clause before its lines are taken.
@@ -136,12 +148,6 @@ pub data FillsAtoms : List Bytes → List Atom → List Atom → Type 0 where
   noAtoms : FillsAtoms [] [] []
   anAtom : {f : Bytes} {vs ws : List Bytes} {ts us : Terms} {rest filling : List Atom} → FillsAll vs ts us → FillsAtoms ws rest filling
       → FillsAtoms (vs ++ ws) (record { name = f; terms = ts } ∷ rest) (record { name = f; terms = us } ∷ filling)
-
--- a variable stands in the clause, in its head or in a subgoal
-pub record StandsIn (c : Clause) (x : Bytes) : Type 0 where
-  pub atom : Atom
-  pub isIn : atom ∈ (c .head ∷ c .subgoals)
-  pub has : x ∈ allVariables (atom .terms)
 
 -- A fresh variable: `V` and the lowest number from 1 that makes it another than those that stand in the clause and those that
 -- were made before it.

@@ -14,7 +14,7 @@ use Rattle.theory.specs.Clauses.{Clause}
 use Rattle.theory.specs.Import.{clauseVariables, lones, numberedVariable, lowestFrom, freshVariable, freshVariables, freshOf}
 use Rattle.theory.specs.Imported.{StandsIn, Fresh}
 use Rattle.theory.proofs.Importing.FreshVariables.{lowest-above, lowest-low, fresh-free}
-use Rattle.theory.proofs.Judging.Variables.{among-member, not-among}
+use Rattle.theory.proofs.Judging.Variables.{among-member, not-among, variable-of-atom}
 
 -- v has the lowest number that makes it another than those that are taken
 pub record Lowest (taken : List Bytes) (v : Bytes) : Type 0 where
@@ -65,7 +65,7 @@ fresh-each (suc k) taken (x ∷ made) later v is =
 
 -- ---- in a clause
 
-stands-from : (c : Clause) (x : Bytes) → x ∈ clauseVariables c → StandsIn c x
+pub stands-from : (c : Clause) (x : Bytes) → x ∈ clauseVariables c → StandsIn c x
 unfolding atomsVariables
 stands-from c x m = at (c .head ∷ c .subgoals) m (λ a n. n)
   where
@@ -73,13 +73,8 @@ stands-from c x m = at (c .head ∷ c .subgoals) m (λ a n. n)
     at [] m all = absurd (List·Memᴰ·not-nil m)
     at (a ∷ atoms) m all = ⊎-elim (λ n. record { atom = a; isIn = all a (List·Memᴰ·head refl); has = n }) (λ n. at atoms n (λ b k. all b (List·Memᴰ·tail k))) (List·Memᴰ·append-cases (allVariables (a .terms)) m)
 
-from-stands : (c : Clause) (x : Bytes) → StandsIn c x → x ∈ clauseVariables c
-unfolding atomsVariables
-from-stands c x s = at (s .isIn)
-  where
-    at : {atoms : List Atom} → s .atom ∈ atoms → x ∈ atomsVariables atoms
-    at (List·Memᴰ·head {xs = rest} e) = Memᴰ·append-left (atomsVariables rest) (subst (λ (a : Atom). x ∈ allVariables (a .terms)) e (s .has))
-    at (List·Memᴰ·tail {x = a} m) = Memᴰ·append-right (allVariables (a .terms)) (at m)
+pub from-stands : (c : Clause) (x : Bytes) → StandsIn c x → x ∈ clauseVariables c
+from-stands c x s = variable-of-atom (c .head ∷ c .subgoals) (s .isIn) (s .has)
 
 pub fresh-in : (c : Clause) (made later : List Bytes) (v : Bytes) → freshOf c ≡ made ++ v ∷ later → Fresh c made v
 unfolding numberedVariable bytes

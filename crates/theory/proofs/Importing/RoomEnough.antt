@@ -21,7 +21,7 @@ use Rattle.theory.specs.Residuals.{numbered}
 use Rattle.theory.specs.Import.{clauseVariables, isLone, lones, numberedVariable, nth, freshOf, filledTerm, filledTerms, filledAtom, filledAtoms, filled, clauseLines, clauseFits}
 use Rattle.theory.specs.Imported.{marks, AtomWithin, linesFor}
 use Rattle.theory.proofs.Importing.FilledVariables.{named, filled-count}
-use Rattle.theory.proofs.Importing.ClauseLimits.{limits-kept}
+use Rattle.theory.proofs.Importing.ClauseLimits.{variables-few, limits-kept}
 use Rattle.theory.proofs.Importing.FreshNumbering.{among-numbered-named}
 use Rattle.theory.proofs.Importing.FreshVariables.{numbers-few, fresh-length}
 use Rattle.theory.proofs.Importing.Freshness.{fresh-each}
@@ -158,7 +158,7 @@ module _ (c : Clause) (fits : clauseFits (filled c) ≡ true) where
           let v = fresh-each (lones (clauseVariables c)) (clauseVariables c) made (drop (suc i) (freshOf c)) (nth (freshOf c) i) (split-at (freshOf c) i [] inside) in
           let few = numbers-few 1 (v .number) (made ++ names) (λ m from below. taken-there m (v .lowest m from below)) in
           let low : v .number < 100 =
-          omega (arith, few, length-append made names, length-take-le i (freshOf c) (omega arith), fresh-length (lones (clauseVariables c)) (clauseVariables c), filled-count c, limits-kept (filled c) .fits .0 fits .variables) in
+          omega (arith, few, length-append made names, length-take-le i (freshOf c) (omega arith), fresh-length (lones (clauseVariables c)) (clauseVariables c), filled-count c, variables-few (filled c) (limits-kept (filled c) .fits .0 fits .variables)) in
           omega (arith, ap length (v .is), digits-few 1 (v .number) low)
 
   -- ---- a clause
