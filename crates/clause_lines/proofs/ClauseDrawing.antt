@@ -129,7 +129,7 @@ module _ {names : List ℕ} {known alone number r : ℕ} (c : Clause) (others : 
   filled-token (seen-sign sign-comma) after counts = as-written (shows-sign sign-comma) refl (sign-not-lone sign-comma) refl refl after counts
   filled-token (seen-sign sign-neck) after counts = as-written (shows-sign sign-neck) refl (sign-not-lone sign-neck) refl refl after counts
   filled-token (seen-sign sign-stop) after counts = as-written (shows-sign sign-stop) refl (sign-not-lone sign-stop) refl refl after counts
-  filled-token (seen-sign sign-stray) after counts = as-written (shows-sign sign-stray) refl (sign-not-lone sign-stray) refl refl after counts
+  filled-token (seen-sign (sign-stray {s = s})) after counts = as-written (shows-sign sign-stray) refl (sign-not-lone (sign-stray {s = s})) refl refl after counts
 
 -- ---- the loop
 

@@ -165,7 +165,7 @@ run-of (b ∷ s) (suc k) h fine ended =
     rw (and-left (isNameByte b) (every isNameByte (take k s)) fine)
     (ap (λ rest. b ∷ rest) (run-of s k (omega arith) (and-right (isNameByte b) (every isNameByte (take k s)) fine) (λ i. ended (omega arith))))
 
-sign-of-name : (apart : Bool) (b : ℕ) (bs : Bytes) → isNameByte b ≡ true → signOf apart b bs ≡ stray
+sign-of-name : (apart : Bool) (b : ℕ) (bs : Bytes) → isNameByte b ≡ true → signOf apart b bs ≡ stray (b ∷ take (bytesAfter b bs) bs)
 unfolding signOf isNameByte
 sign-of-name apart b bs named =
     let other : (k : ℕ) → isNameByte k ≡ false → eqb b k ≡ false = λ k none. by-truth (λ c. c ≡ false) (eqb b k) (λ e. never-both named (ap isNameByte (eqb-equal b k e) ∙ none)) (λ e. refl) in

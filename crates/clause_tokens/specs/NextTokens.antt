@@ -38,7 +38,7 @@ pub data Sign : Mark → T.Mark → Type 0 where
   sign-comma : Sign Comma comma
   sign-neck : Sign Neck neck
   sign-stop : Sign Stop stop
-  sign-stray : Sign Stray stray
+  sign-stray : {s : Bytes} → Sign Stray (stray s)
 
 unfoldable pub signMore : ℕ → Bytes → ℕ
 signMore b bs = cond (isNeck b bs) 1 0

@@ -38,7 +38,7 @@ marks-append (closes ∷ ms) ns = marks-append ms ns
 marks-append (comma ∷ ms) ns = marks-append ms ns
 marks-append (neck ∷ ms) ns = marks-append ms ns
 marks-append (stop ∷ ms) ns = marks-append ms ns
-marks-append (stray ∷ ms) ns = marks-append ms ns
+marks-append (stray s ∷ ms) ns = marks-append ms ns
 
 -- some marks are left of a clause that is being read
 some-left : {s : State} {left : List T.Mark} {c : Clause} (after : List T.Mark) → Runs s left c → [] ≡ left ++ after → ⊥

@@ -21,7 +21,7 @@ isStopToken closes = false
 isStopToken comma = false
 isStopToken neck = false
 isStopToken stop = true
-isStopToken stray = false
+isStopToken (stray s) = false
 
 pub stop-seen : {x : Bytes} {k : Mark} {m : T.Mark} → Seen x k m → isStopMark k ≡ isStopToken m
 unfolding isStopMark isStopToken
@@ -56,7 +56,7 @@ due-by before opened closes = tt
 due-by before opened comma = tt
 due-by before opened neck = tt
 due-by before opened stop = tt
-due-by before opened stray = tt
+due-by before opened (stray s) = tt
 
 atom-by : (before : Option Clause) (t : Term) (m : T.Mark) → EndsByStop m (stepAtom before t m)
 unfolding stepAtom isStopToken isSome
@@ -69,7 +69,7 @@ atom-by (some c) t comma = refl
 atom-by none t neck = refl
 atom-by (some c) t neck = tt
 atom-by before t stop = refl
-atom-by before t stray = tt
+atom-by before t (stray s) = tt
 
 argument-by : (before : Option Clause) (o : Open) (opened : List Open) (t : Term) (m : T.Mark) → EndsByStop m (stepArgument before o opened t m)
 unfolding stepArgument isStopToken
@@ -80,7 +80,7 @@ argument-by before o opened t closes = refl
 argument-by before o opened t comma = refl
 argument-by before o opened t neck = tt
 argument-by before o opened t stop = tt
-argument-by before o opened t stray = tt
+argument-by before o opened t (stray s) = tt
 
 pub step-by : (s : State) (m : T.Mark) → EndsByStop m (step s m)
 unfolding step stepAfter stepRead

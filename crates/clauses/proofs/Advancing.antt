@@ -138,11 +138,11 @@ module _ (r : Standing) where
   stop-ends before [] (read t) e four = step-ends four
   stop-ends before (o ∷ opened) (read t) e four = never-both refl e
 
-  stray-refuses : (before : Option Clause) (opened : List Open) (l : Last) → r .last ≡ 3 → StepIs (stepAfter before opened l stray) r
+  stray-refuses : (s : Bytes) (before : Option Clause) (opened : List Open) (l : Last) → r .last ≡ 3 → StepIs (stepAfter before opened l (stray s)) r
   unfolding stepAfter stepDue stepRead stepAtom stepArgument
-  stray-refuses before opened due three = step-refuses three
-  stray-refuses before [] (read t) three = step-refuses three
-  stray-refuses before (o ∷ opened) (read t) three = step-refuses three
+  stray-refuses s before opened due three = step-refuses three
+  stray-refuses s before [] (read t) three = step-refuses three
+  stray-refuses s before (o ∷ opened) (read t) three = step-refuses three
 
 -- ---- what a kind of token is to the grammar
 
@@ -175,7 +175,7 @@ by-neck P (seen-sign sign-neck) p = p
 by-stop : (P : T.Mark → Type 0) {x : Bytes} {m : T.Mark} → Seen x Stop m → P stop → P m
 by-stop P (seen-sign sign-stop) p = p
 
-by-stray : (P : T.Mark → Type 0) {x : Bytes} {k : Mark} {m : T.Mark} → OneOf (8 ∷ 9 ∷ []) (tagOf the-type k) → Seen x k m → P stray → P m
+by-stray : (P : T.Mark → Type 0) {x : Bytes} {k : Mark} {m : T.Mark} → OneOf (8 ∷ 9 ∷ []) (tagOf the-type k) → Seen x k m → ((s : Bytes) → P (stray s)) → P m
 by-stray P way (seen-name w) p = absurd (miss (8 ∷ 9 ∷ []) 0 tt way)
 by-stray P way (seen-variable w l) p = absurd (miss (8 ∷ 9 ∷ []) 1 tt way)
 by-stray P way seen-lone p = absurd (miss (8 ∷ 9 ∷ []) 2 tt way)
@@ -184,7 +184,7 @@ by-stray P way (seen-sign sign-closes) p = absurd (miss (8 ∷ 9 ∷ []) 4 tt wa
 by-stray P way (seen-sign sign-comma) p = absurd (miss (8 ∷ 9 ∷ []) 5 tt way)
 by-stray P way (seen-sign sign-neck) p = absurd (miss (8 ∷ 9 ∷ []) 6 tt way)
 by-stray P way (seen-sign sign-stop) p = absurd (miss (8 ∷ 9 ∷ []) 7 tt way)
-by-stray P way (seen-sign sign-stray) p = p
+by-stray P way (seen-sign sign-stray) p = p _
 
 -- ---- what `advance` cites
 
@@ -299,7 +299,7 @@ module _ {last depth : ℕ} {body : Bool} {mark : Mark} where
 
   pub stray-not : {r : Standing} → OneOf (8 ∷ 9 ∷ []) (tagOf the-type mark) → r .last ≡ 3 → r .depth ≡ 0 → Advances last depth body mark r
   stray-not {r} way three zero = advance-by r (omega arith) (λ _. three) (λ x m seen before opened l li d b.
-      by-stray (λ k. StepIs (stepAfter before opened l k) r) way seen (stray-refuses r before opened l three))
+      by-stray (λ k. StepIs (stepAfter before opened l k) r) way seen (λ s. stray-refuses r s before opened l three))
 
 pub closes-deep : (last depth : ℕ) → (eqb last 0 || eqb depth 0) ≡ false → 1 ≤ depth
 closes-deep last depth h = omega (arith, eqb-unequal depth 0 (or-not-right (eqb last 0) (eqb depth 0) h))

@@ -33,7 +33,7 @@ due-moves before opened closes = tt
 due-moves before opened comma = tt
 due-moves before opened neck = tt
 due-moves before opened stop = tt
-due-moves before opened stray = tt
+due-moves before opened (stray s) = tt
 
 atom-moves : (before : Option Clause) (t : Term) (m : Mark) → MovesTo (state before [] (read t)) m (stepAtom before t m)
 unfolding stepAtom isSome
@@ -46,7 +46,7 @@ atom-moves (some c) t comma = ends-line by-comma
 atom-moves none t neck = ends-line by-neck
 atom-moves (some c) t neck = tt
 atom-moves before t stop = ends-line by-stop
-atom-moves before t stray = tt
+atom-moves before t (stray s) = tt
 
 argument-moves : (before : Option Clause) (o : Open) (opened : List Open) (t : Term) (m : Mark) → MovesTo (state before (o ∷ opened) (read t)) m (stepArgument before o opened t m)
 unfolding stepArgument
@@ -58,7 +58,7 @@ argument-moves before o [] t comma = next-argument
 argument-moves before o (p ∷ opened) t comma = next-term
 argument-moves before o opened t neck = tt
 argument-moves before o opened t stop = tt
-argument-moves before o opened t stray = tt
+argument-moves before o opened t (stray s) = tt
 
 step-moves : (s : State) (m : Mark) → MovesTo s m (step s m)
 unfolding step stepAfter stepRead

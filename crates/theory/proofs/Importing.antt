@@ -4,8 +4,8 @@
 pub mod Running
 pub mod Leading
 -- the tokens of a text
+pub mod Cutting
 pub mod SpelledTokens
-pub mod Arrangements
 pub mod PlainTexts
 pub mod RoomEnough
 -- fresh variables, and a clause filled with them

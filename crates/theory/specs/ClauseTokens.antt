@@ -1,11 +1,11 @@
 -- Document 02, 6/14: the tokens of a clause text. A token is a run of letters, digits and underscores, or `:-`, or else one byte;
--- spaces and line ends, the layout, stand around tokens.
+-- spaces and line ends, the layout, stand around tokens. Cutting says the same in the request's words, and of every text.
 use mathlib.Core.Bool.{Bool, true, false, cond, not, _&&_, _||_}
 use mathlib.Core.List.{List, [], _∷_}
 use Prim.Native.Nat.{ℕ, zero, suc}
 use Prim.Native.Char.{code}
 use lib.Dec.{eqb}
-use lib.ListN.{length}
+use lib.ListN.{length, take}
 use Rattle.theory.specs.Lists.{isEmpty}
 use Rattle.theory.specs.Text.{Bytes, isLower, isUpper, isNameByte}
 
@@ -21,8 +21,8 @@ pub data Mark : Type 0 where
   closes comma neck : Mark
   -- `.` before a space, a line end or the end of the text
   stop : Mark
-  -- any other token: it stands in no clause
-  stray : Mark
+  -- any other token, with its bytes: it stands in no clause
+  stray : Bytes → Mark
 
 -- a token: what it is, and the place of its first byte, from 0
 pub record Token : Type 0 where
@@ -61,7 +61,7 @@ signOf apart b bs =
     (cond (eqb b (code ")")) closes
     (cond (eqb b (code ",")) comma
     (cond (isNeck b bs) neck
-    (cond (isStop b bs) stop stray))))
+    (cond (isStop b bs) stop (stray (b ∷ take (bytesAfter b bs) bs))))))
 
 -- What the token is that begins with byte b, where bs comes after it; the first value tells whether layout stands before it.
 unfoldable pub markOf : Bool → ℕ → Bytes → Mark

@@ -1,15 +1,14 @@
 -- Document 02, 6/14: facts and rules as the makers write them. Clauses are made of 01's terms, in which a lone `_` is the
 -- variable `_`; the grammar tells how they are written, and the reader goes through the tokens from the first on.
-use mathlib.Core.Path.{_≡_}
 use mathlib.Core.Bool.{Bool, true, false, cond, not, _&&_}
-use mathlib.Core.List.{List, [], _∷_, _++_, map, flatMap}
+use mathlib.Core.List.{List, [], _∷_, _++_}
 use mathlib.Core.Option.{Option, some, none}
 use Rattle.theory.specs.Lists.{isEmpty, isSome, ending}
 use Rattle.theory.specs.Text.{Bytes}
 use Rattle.theory.specs.Terms.{Term, Terms, symbol, nil, cons}
 use Rattle.theory.specs.Terms as T
 use Rattle.theory.specs.Packs.{Atom}
-use Rattle.theory.specs.ClauseTokens.{Mark, name, variable, opens, closes, comma, neck, stop, stray, tokensOf}
+use Rattle.theory.specs.ClauseTokens.{Mark, name, variable, opens, closes, comma, neck, stop, stray}
 
 -- A fact, which has no subgoals, or a rule without its multipliers.
 pub record Clause : Type 0 where
@@ -43,10 +42,6 @@ bodyMarks before (a ∷ atoms) = before ∷ (atomMarks a ++ bodyMarks comma atom
 
 unfoldable pub clauseMarks : Clause → List Mark
 clauseMarks c = atomMarks (c .head) ++ bodyMarks neck (c .subgoals)
-
--- The text writes these clauses, one after another and nothing else.
-abbrev pub Writes : Bytes → List Clause → Type 0
-Writes text clauses = map (λ t. t .mark) (tokensOf text) ≡ flatMap clauseMarks clauses
 
 -- ## The reader
 
@@ -110,7 +105,7 @@ stepDue before opened closes = refuses
 stepDue before opened comma = refuses
 stepDue before opened neck = refuses
 stepDue before opened stop = refuses
-stepDue before opened stray = refuses
+stepDue before opened (stray s) = refuses
 
 -- `(` after a term: only right after a name
 unfoldable pub stepOpens : Option Clause → List Open → Term → Step
@@ -127,7 +122,7 @@ stepAtom before t closes = refuses
 stepAtom before t comma = cond (isSome before) (goes (state (some (added before (atomOf t))) [] due)) refuses
 stepAtom before t neck = cond (isSome before) refuses (goes (state (some (added before (atomOf t))) [] due))
 stepAtom before t stop = ends (added before (atomOf t))
-stepAtom before t stray = refuses
+stepAtom before t (stray s) = refuses
 
 -- after an argument of the innermost open compound
 unfoldable pub stepArgument : Option Clause → Open → List Open → Term → Mark → Step
@@ -138,7 +133,7 @@ stepArgument before o opened t closes = goes (state before opened (read (symbol 
 stepArgument before o opened t comma = goes (state before (record { name = o .name; before = endingTerm t (o .before) } ∷ opened) due)
 stepArgument before o opened t neck = refuses
 stepArgument before o opened t stop = refuses
-stepArgument before o opened t stray = refuses
+stepArgument before o opened t (stray s) = refuses
 
 unfoldable pub stepRead : Option Clause → List Open → Term → Mark → Step
 stepRead before [] t m = stepAtom before t m

@@ -1,29 +1,37 @@
--- Document 02, 6/14: what is promised of import, in terms of the grammar alone. Which texts it takes and how it refuses the
--- others; what its lines say of a clause, and what stands in them for each `_`. Proved in proofs/ImportKept.antt.
+-- Document 02, 6/14: what is promised of import, by how a text is cut (Cutting) and by the grammar (Clauses), without the reader.
+-- Which texts it takes and how it refuses the others; and of a clause in words what Import computes: the limits (`clauseFits`), what
+-- stands for each `_` (`filled`), what its lines say (`clauseLines`). All of it is `ImportPromised`, at the end, proved in
+-- proofs/ImportKept.antt.
 use mathlib.Core.Path.{_≡_}
-use mathlib.Core.Logic.{_↔_}
-use mathlib.Core.Bool.{Bool, true, false, not, _&&_, _||_}
+use mathlib.Core.Logic.{_⊎_, _↔_}
+use mathlib.Core.Bool.{Bool, true, false, _||_}
 use mathlib.Core.List.{List, [], _∷_, _++_, map, flatMap}
 use Prim.Native.Nat.{ℕ, _+_, _*_, _≤_, _<_}
 use lib.ListN.{length, take, drop, replicate}
-use Rattle.theory.specs.Lists.{_∈_, every, isEmpty, ending, over}
-use Rattle.theory.specs.Text.{Bytes, bytes, linesOf, fieldsOf, isLower, isUpper, isNameByte, isName}
-use Rattle.theory.specs.Terms.{Term, Terms, symbol, nil, cons, arity, AllWellFormed}
+use Rattle.theory.specs.Lists.{_∈_, ending, over}
+use Rattle.theory.specs.Text.{Bytes, bytes, linesOf, fieldsOf, isLower, isUpper, isName, decimal}
+use Rattle.theory.specs.Terms.{Term, Terms, symbol, nil, cons, arity, allVariables, AllWellFormed}
 use Rattle.theory.specs.Terms as T
 use Rattle.theory.specs.Packs.{Atom, textOf, lineLimit, subgoalLimit, variableLimit}
 use Rattle.theory.specs.declared.Letter.the-variants.{H, B}
 use Rattle.theory.specs.Written.{lineLetter, atomFrom}
-use Rattle.theory.specs.Residuals.{ruleVariables}
 use Rattle.theory.specs.Check.{numbers}
 use Rattle.theory.specs.Pages.{Paged, paged}
-use Rattle.theory.specs.ClauseTokens.{Mark, name, variable, opens, closes, comma, neck, stop, stray, Token, isLayout, tokensOf}
-use Rattle.theory.specs.Clauses.{Clause, clauseMarks, Writes}
-use Rattle.theory.specs.Import.{clauseVariables, isLone, numberedVariable, freshOf, filled, clauseLines, clauseFits, importOf}
+use Rattle.theory.specs.ClauseTokens.{Mark, name, variable, opens, closes, comma, neck, stop, stray, Token, tokensOf}
+use Rattle.theory.specs.Cutting.{isRun, Cut}
+use Rattle.theory.specs.Clauses.{Clause, clauseMarks}
+use Rattle.theory.specs.Import.{isLone, freshOf, filled, clauseLines, clauseFits, importOf}
 
 -- ## Texts
 
 abbrev pub marks : List Token → List Mark
 marks ts = map (λ t. t .mark) ts
+
+-- The text writes these clauses, one after another and nothing else.
+pub record Writes (text : Bytes) (clauses : List Clause) : Type 0 where
+  pub tokens : List Token
+  pub cut : Cut text tokens
+  pub are : marks tokens ≡ flatMap clauseMarks clauses
 
 -- Some text of the subset has these marks at its front.
 pub record Begins (front : List Mark) : Type 0 where
@@ -32,11 +40,6 @@ pub record Begins (front : List Mark) : Type 0 where
   pub writes : Writes text clauses
   pub rest : List Mark
   pub is : front ++ rest ≡ flatMap clauseMarks clauses
-
--- a run of letters, digits and underscores, of any length, with a byte of a kind in front
-unfoldable pub isRun : (ℕ → Bool) → Bytes → Bool
-isRun isFirst [] = false
-isRun isFirst (b ∷ bs) = isFirst b && every isNameByte bs
 
 -- names are lower-case, variables begin with a capital or are `_`
 unfoldable pub isSpelled : Mark → Bool
@@ -47,60 +50,14 @@ isSpelled closes = true
 isSpelled comma = true
 isSpelled neck = true
 isSpelled stop = true
-isSpelled stray = true
+isSpelled (stray s) = true
 
 abbrev pub AllSpelled : List Mark → Type 0
 AllSpelled ms = (m : Mark) → m ∈ ms → isSpelled m ≡ true
 
--- the bytes of a token
-unfoldable pub spelling : Mark → Bytes
-spelling (name f) = f
-spelling (variable x) = x
-spelling opens = bytes "("
-spelling closes = bytes ")"
-spelling comma = bytes ","
-spelling neck = bytes ":-"
-spelling stop = bytes "."
-spelling stray = []
-
-unfoldable pub startsWith : (ℕ → Bool) → Bytes → Bool
-startsWith is [] = false
-startsWith is (b ∷ bs) = is b
-
--- Whether a text may come right after a token: a run goes as far as it can, and a stop has layout or nothing after it.
-unfoldable pub isParted : Mark → Bytes → Bool
-isParted (name f) text = not (startsWith isNameByte text)
-isParted (variable x) text = not (startsWith isNameByte text)
-isParted opens text = true
-isParted closes text = true
-isParted comma text = true
-isParted neck text = true
-isParted stop text = isEmpty text || startsWith isLayout text
-isParted stray text = false
-
--- `(` is the next token
-unfoldable pub isOpening : List Mark → Bool
-isOpening [] = false
-isOpening (name f ∷ ms) = false
-isOpening (variable x ∷ ms) = false
-isOpening (opens ∷ ms) = true
-isOpening (closes ∷ ms) = false
-isOpening (comma ∷ ms) = false
-isOpening (neck ∷ ms) = false
-isOpening (stop ∷ ms) = false
-isOpening (stray ∷ ms) = false
-
--- The text is these tokens in their order, with layout around them, but none before `(`.
-pub data Arranged : List Mark → Bytes → Type 0 where
-  nothing-left : Arranged [] []
-  layout-first : {b : ℕ} {ms : List Mark} {text : Bytes} → isLayout b ≡ true → isOpening ms ≡ false → Arranged ms text → Arranged ms (b ∷ text)
-  token-first : {m : Mark} {ms : List Mark} {text : Bytes} → isParted m text ≡ true → Arranged ms text → Arranged (m ∷ ms) (spelling m ++ text)
-
--- The subset: a text writes these clauses exactly if they are spelled so and it is their tokens, arranged. If they are spelled so,
--- at any nesting, there is such a text.
+-- The subset: some text writes these clauses, at any nesting, exactly if they are spelled so.
 pub record SubsetKept (clauses : List Clause) : Type 0 where
-  pub arranged : (text : Bytes) → Writes text clauses ↔ (AllSpelled (flatMap clauseMarks clauses) × Arranged (flatMap clauseMarks clauses) text)
-  pub writable : AllSpelled (flatMap clauseMarks clauses) → (text : Bytes) × Writes text clauses
+  pub writable : ((text : Bytes) × Writes text clauses) ↔ AllSpelled (flatMap clauseMarks clauses)
 
 -- ## Limits
 
@@ -110,10 +67,25 @@ pub record AtomWithin (a : Atom) : Type 0 where
   pub few : arity (a .terms) ≤ 8
   pub formed : AllWellFormed (a .terms)
 
+abbrev pub AtomsWithin : Clause → Type 0
+AtomsWithin c = (a : Atom) → a ∈ (c .head ∷ c .subgoals) → AtomWithin a
+
+-- a variable stands in the clause, in its head or in a subgoal
+pub record StandsIn (c : Clause) (x : Bytes) : Type 0 where
+  pub atom : Atom
+  pub isIn : atom ∈ (c .head ∷ c .subgoals)
+  pub has : x ∈ allVariables (atom .terms)
+
+-- at most 16 variables: each that stands in the clause is one of so many
+pub record FewVariables (c : Clause) : Type 0 where
+  pub variables : List Bytes
+  pub few : length variables ≤ variableLimit
+  pub all : (x : Bytes) → StandsIn c x → x ∈ variables
+
 pub record ClauseWithin (c : Clause) : Type 0 where
-  pub atoms : (a : Atom) → a ∈ (c .head ∷ c .subgoals) → AtomWithin a
+  pub atoms : AtomsWithin c
   pub subgoals : length (c .subgoals) ≤ subgoalLimit
-  pub variables : length (ruleVariables (c .head) (c .subgoals)) ≤ variableLimit
+  pub variables : FewVariables c
   pub lines : (l : Bytes) → l ∈ clauseLines c → length l ≤ lineLimit
 
 -- What is tested of a clause before its lines are taken.
@@ -146,16 +118,16 @@ pub data ImportOutcome (text buffer : Bytes) : Paged → Type 0 where
   imported : (clauses : List Clause) → Writes text clauses → Taken buffer clauses
       → ImportOutcome text buffer (paged (numbers 0 (length clauses) (length (linesFor clauses)) 0) (over (linesFor clauses) buffer))
   -- 25 at a token: the first that no text of the subset has there
-  unfit : (before after : List Token) (t : Token) → tokensOf text ≡ before ++ t ∷ after
+  unfit : (before after : List Token) (t : Token) → Cut text (before ++ t ∷ after)
       → Begins (marks before) → (Begins (ending (t .mark) (marks before)) → ⊥) → AllTaken buffer (marks before)
       → ImportOutcome text buffer (refusal 25 (t .place) buffer)
   -- 25 with the text's length: it ends too early
-  unended : Begins (marks (tokensOf text)) → ((clauses : List Clause) → Writes text clauses → ⊥) → AllTaken buffer (marks (tokensOf text))
+  unended : (tokens : List Token) → Cut text tokens → Begins (marks tokens) → ((clauses : List Clause) → Writes text clauses → ⊥) → AllTaken buffer (marks tokens)
       → ImportOutcome text buffer (refusal 25 (length text) buffer)
   -- 26 and 27, with the clause's number, from 1: the first clause past 01's limits, or whose lines have no room
-  past : (earlier : List Clause) (c : Clause) (rest : List Mark) → marks (tokensOf text) ≡ flatMap clauseMarks earlier ++ (clauseMarks c ++ rest)
+  past : (tokens : List Token) (earlier : List Clause) (c : Clause) (rest : List Mark) → Cut text tokens → marks tokens ≡ flatMap clauseMarks earlier ++ (clauseMarks c ++ rest)
       → Taken buffer earlier → clauseFits (filled c) ≡ false → ImportOutcome text buffer (refusal 26 (length earlier + 1) buffer)
-  full : (earlier : List Clause) (c : Clause) (rest : List Mark) → marks (tokensOf text) ≡ flatMap clauseMarks earlier ++ (clauseMarks c ++ rest)
+  full : (tokens : List Token) (earlier : List Clause) (c : Clause) (rest : List Mark) → Cut text tokens → marks tokens ≡ flatMap clauseMarks earlier ++ (clauseMarks c ++ rest)
       → Taken buffer earlier → clauseFits (filled c) ≡ true → length buffer < length (linesFor (ending c earlier)) → ImportOutcome text buffer (refusal 27 (length earlier + 1) buffer)
 
 -- ## What stands for `_`
@@ -177,31 +149,33 @@ pub data FillsAtoms : List Bytes → List Atom → List Atom → Type 0 where
   anAtom : {f : Bytes} {vs ws : List Bytes} {ts us : Terms} {rest filling : List Atom} → FillsAll vs ts us → FillsAtoms ws rest filling
       → FillsAtoms (vs ++ ws) (record { name = f; terms = ts } ∷ rest) (record { name = f; terms = us } ∷ filling)
 
--- A fresh variable: `V` and the lowest number from 1 that makes it another than those that are taken.
-pub record Fresh (taken : List Bytes) (v : Bytes) : Type 0 where
+-- A fresh variable: `V` and the lowest number from 1 that makes it another than those that stand in the clause and those that
+-- were made before it.
+pub record Fresh (c : Clause) (made : List Bytes) (v : Bytes) : Type 0 where
   pub number : ℕ
   pub from : 1 ≤ number
-  pub is : v ≡ numberedVariable number
-  pub own : v ∈ taken → ⊥
-  pub lowest : (m : ℕ) → 1 ≤ m → m < number → numberedVariable m ∈ taken
+  pub is : v ≡ bytes "V" ++ decimal number
+  pub own : (v ∈ made) ⊎ StandsIn c v → ⊥
+  pub lowest : (m : ℕ) → 1 ≤ m → m < number → ((bytes "V" ++ decimal m) ∈ made) ⊎ StandsIn c (bytes "V" ++ decimal m)
 
 -- ## The promises
 
--- Of a clause that is within 01's limits once it is filled.
-pub record ClauseKept (c : Clause) : Type 0 where
-  -- an `H` line and then a `B` line for each subgoal, which 01 reads as the atoms of the filled clause
-  pub lines : linesOf (textOf (clauseLines (filled c))) ≡ clauseLines (filled c)
-  pub letters : map lineLetter (clauseLines (filled c)) ≡ H ∷ replicate (length (c .subgoals)) B
-  pub readBack : map (λ l. atomFrom (fieldsOf l)) (clauseLines (filled c)) ≡ filled c .head ∷ filled c .subgoals
-  -- which are those of the clause but for its `_`: for each stands a fresh variable, that none before it is and none of the clause
+-- Of every clause: filled, it is the same but for its `_`, and for each of these stands a fresh variable.
+pub record FillingKept (c : Clause) : Type 0 where
   pub fills : FillsAtoms (freshOf c) (c .head ∷ c .subgoals) (filled c .head ∷ filled c .subgoals)
-  pub fresh : (made later : List Bytes) (v : Bytes) → freshOf c ≡ made ++ v ∷ later → Fresh (made ++ clauseVariables c) v
+  pub fresh : (made later : List Bytes) (v : Bytes) → freshOf c ≡ made ++ v ∷ later → Fresh c made v
+
+-- Of a clause whose atoms are within the limits: an `H` line and then a `B` line for each subgoal, which 01 reads as these atoms.
+pub record LinesKept (c : Clause) : Type 0 where
+  pub lines : linesOf (textOf (clauseLines c)) ≡ clauseLines c
+  pub letters : map lineLetter (clauseLines c) ≡ H ∷ replicate (length (c .subgoals)) B
+  pub readBack : map (λ l. atomFrom (fieldsOf l)) (clauseLines c) ≡ c .head ∷ c .subgoals
 
 -- Of the clauses of a text that was imported.
 pub record ImportTells (text buffer : Bytes) (clauses : List Clause) : Type 0 where
   pub counts : importOf text buffer .returned ≡ numbers 0 (length clauses) (length (linesFor clauses)) 0
   pub lines : linesOf (take (length (linesFor clauses)) (importOf text buffer .page)) ≡ flatMap (λ c. clauseLines (filled c)) clauses
-  pub each : (c : Clause) → c ∈ clauses → ClauseKept c
+  pub each : (c : Clause) → c ∈ clauses → LinesKept (filled c)
 
 -- Of every text and buffer.
 pub record ImportKept (text buffer : Bytes) : Type 0 where
@@ -219,3 +193,13 @@ pub record ImportKept (text buffer : Bytes) : Type 0 where
   pub rest : drop (importOf text buffer .returned .rule) (importOf text buffer .page) ≡ drop (importOf text buffer .returned .rule) buffer
   -- 27 is never given where the buffer has twice as many bytes as the text
   pub enough : 2 * length text ≤ length buffer → importOf text buffer .returned .number ≡ 27 → ⊥
+
+-- All that is promised of import.
+pub record ImportPromised : Type 0 where
+  -- a text has these tokens exactly if it is cut so
+  pub cutting : (text : Bytes) (tokens : List Token) → (tokensOf text ≡ tokens) ↔ Cut text tokens
+  pub subset : (clauses : List Clause) → SubsetKept clauses
+  pub limits : (c : Clause) → LimitsKept c
+  pub filling : (c : Clause) → FillingKept c
+  pub lines : (c : Clause) → AtomsWithin c → LinesKept c
+  pub each : (text buffer : Bytes) → ImportKept text buffer

@@ -20,6 +20,7 @@ pub mod Words
 pub mod Pages
 pub mod Sheet
 pub mod ClauseTokens
+pub mod Cutting
 pub mod Clauses
 pub mod Import
 pub mod Imported

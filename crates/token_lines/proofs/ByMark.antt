@@ -20,7 +20,7 @@ use Rattle.term_lines.specs.Drawings.{Shows, shows-name, shows-variable, shows-
 use Rattle.token_lines.specs.LineEnds.{EndsLine, comma-ends, neck-ends, stop-ends}
 
 -- a stray token leads nowhere
-no-stray : EndsAtom T.stray → ⊥
+no-stray : {s : Bytes} → EndsAtom (T.stray s) → ⊥
 no-stray = elim [ ]
 
 never-shown : {x : Bytes} {i : ℕ} {k : Mark} {s next : State} {m : T.Mark} → Shows x i k m → Moves s m next → OneOf (8 ∷ 9 ∷ []) (tagOf the-type k) → ⊥

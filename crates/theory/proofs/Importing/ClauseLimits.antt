@@ -1,18 +1,25 @@
 -- The test of a clause says what 01's limits are.
 use mathlib.Core.Path.{_≡_, refl}
-use mathlib.Core.Bool.{Bool, true, _&&_}
-use mathlib.Core.List.{_∷_}
+use mathlib.Core.Logic.{_⊎_, inl, inr, ⊎-elim}
+use mathlib.Core.Bool.{Bool, true, cond, _&&_}
+use mathlib.Core.List.{List, [], _∷_, _++_, List·Memᴰ·head, List·Memᴰ·tail, List·Memᴰ·not-nil}
+use Prim.Native.Nat.{_≤_}
+use native.Mathlib.Omega.{arith}
 use lib.Dec.{leb}
 use lib.ListN.{length}
-use Rattle.groundwork.proofs.Truth.{and-left, and-right, and-both, leb-le, le-leb}
-use Rattle.theory.specs.Lists.{every}
-use Rattle.theory.specs.Text.{isName}
+use Rattle.groundwork.proofs.Lists.{end-cases}
+use Rattle.groundwork.proofs.Truth.{by-truth, and-left, and-right, and-both, leb-le, le-leb}
+use Rattle.theory.specs.Lists.{_∈_, every}
+use Rattle.theory.specs.Text.{Bytes, among, isName}
 use Rattle.theory.specs.Terms.{Term, Terms, variable, symbol, nil, cons, arity, WellFormed, AllWellFormed}
 use Rattle.theory.specs.Packs.{Atom, lineLimit, subgoalLimit, variableLimit}
-use Rattle.theory.specs.Residuals.{ruleVariables}
+use Rattle.theory.specs.Residuals.{numbered, ruleVariables}
 use Rattle.theory.specs.Clauses.{Clause}
-use Rattle.theory.specs.Import.{clauseLines, termFits, termsFit, atomFits, lineFits, clauseFits}
-use Rattle.theory.specs.Imported.{AtomWithin, ClauseWithin, LimitsKept}
+use Rattle.theory.specs.Import.{clauseVariables, clauseLines, termFits, termsFit, atomFits, lineFits, clauseFits}
+use Rattle.theory.specs.Imported.{AtomWithin, FewVariables, ClauseWithin, LimitsKept}
+use Rattle.theory.proofs.Importing.Distinct.{once-few}
+use Rattle.theory.proofs.Importing.Freshness.{stands-from, from-stands}
+use Rattle.theory.proofs.Judging.Variables.{member-numbered, rule-variables-once}
 use Rattle.theory.proofs.Reading.Every.{every-member, members-every}
 
 mutual
@@ -57,6 +64,31 @@ module _ (a : Atom) where
   unfolding atomFits front
   within-fits w = and-both front (termsFit (a .terms)) (and-both (isName (a .name)) (leb (arity (a .terms)) 8) (w .named) (le-leb (arity (a .terms)) 8 (w .few))) (all-formed-fit (a .terms) (w .formed))
 
+-- ---- variables
+
+-- what is numbered was seen or is one of them
+numbered-from : (seen ys : List Bytes) {x : Bytes} → x ∈ numbered seen ys → (x ∈ seen) ⊎ (x ∈ ys)
+unfolding numbered
+numbered-from seen [] m = inl m
+numbered-from seen (y ∷ ys) {x} m = ⊎-elim (by-truth (λ b. x ∈ cond b seen (seen ++ (y ∷ [])) → (x ∈ seen) ⊎ (x ∈ (y ∷ ys))) (among y seen) (λ _ n. inl n) (λ _ n. ⊎-elim inl (λ e. inr (List·Memᴰ·head e)) (end-cases seen n)))
+    (λ n. inr (List·Memᴰ·tail n)) (numbered-from (cond (among y seen) seen (seen ++ (y ∷ []))) ys m)
+
+pub variables-few : (c : Clause) → FewVariables c → length (ruleVariables (c .head) (c .subgoals)) ≤ variableLimit
+unfolding ruleVariables
+variables-few c few =
+    omega (
+      arith,
+      few .few,
+      once-few (rule-variables-once (c .head) (c .subgoals)) (few .variables)
+          (λ x m. ⊎-elim (λ none. absurd (List·Memᴰ·not-nil none)) (λ n. few .all x (stands-from c x n)) (numbered-from [] (clauseVariables c) m)),
+    )
+
+few-variables : (c : Clause) → length (ruleVariables (c .head) (c .subgoals)) ≤ variableLimit → FewVariables c
+unfolding ruleVariables
+few-variables c few = record { variables = ruleVariables (c .head) (c .subgoals); few = few; all = λ x s. member-numbered [] (clauseVariables c) (from-stands c x s) }
+
+-- ---- all of it
+
 pub limits-kept : (c : Clause) → LimitsKept c
 unfolding clauseFits
 limits-kept c = record { fits = (from, to) }
@@ -80,7 +112,7 @@ limits-kept c = record { fits = (from, to) }
         record {
           atoms = λ a m. fit-within a (every-member atomFits (and-left atoms subgoals two) m);
           subgoals = leb-le (length (c .subgoals)) subgoalLimit (and-right atoms subgoals two);
-          variables = leb-le (length (ruleVariables (c .head) (c .subgoals))) variableLimit (and-right (atoms && subgoals) variables three);
+          variables = few-variables c (leb-le (length (ruleVariables (c .head) (c .subgoals))) variableLimit (and-right (atoms && subgoals) variables three));
           lines = λ l m. leb-le (length l) lineLimit (every-member lineFits (and-right (atoms && subgoals && variables) lines h) m);
         }
 
@@ -89,5 +121,5 @@ limits-kept c = record { fits = (from, to) }
         and-both (atoms && subgoals && variables) lines
         (and-both (atoms && subgoals) variables
         (and-both atoms subgoals (members-every atomFits (c .head ∷ c .subgoals) (λ a m. within-fits a (w .atoms a m))) (le-leb (length (c .subgoals)) subgoalLimit (w .subgoals)))
-        (le-leb (length (ruleVariables (c .head) (c .subgoals))) variableLimit (w .variables)))
+        (le-leb (length (ruleVariables (c .head) (c .subgoals))) variableLimit (variables-few c (w .variables))))
         (members-every lineFits (clauseLines c) (λ l m. le-leb (length l) lineLimit (w .lines l m)))

@@ -1,4 +1,4 @@
--- The lines of a clause within the limits: 01 reads an `H` line and then `B` lines in them, and the clause's atoms again.
+-- The lines of a clause whose atoms are within the limits: 01 reads an `H` line and then `B` lines in them, and the clause's atoms again.
 use mathlib.Core.Path.{_≡_, refl, sym, _∙_, ap}
 use mathlib.Core.Bool.{true}
 use mathlib.Core.List.{List, [], _∷_, _++_, map, flatMap, append-assoc, cons≢nil, List·Memᴰ·head, List·Memᴰ·tail, List·Memᴰ·not-nil}
@@ -12,7 +12,7 @@ use Rattle.theory.specs.declared.Letter.the-variants.{H, B}
 use Rattle.theory.specs.Written.{letterOf, lineLetter, field, atomFrom}
 use Rattle.theory.specs.Clauses.{Clause}
 use Rattle.theory.specs.Import.{filled, clauseLines, clauseFits}
-use Rattle.theory.specs.Imported.{AtomWithin, linesFor}
+use Rattle.theory.specs.Imported.{AtomWithin, AtomsWithin, LinesKept, linesFor}
 use Rattle.theory.proofs.Importing.ClauseLimits.{limits-kept}
 use Rattle.theory.proofs.Judging.AtomLines.{atomLine, atom-again, atom-plain}
 use Rattle.theory.proofs.Reading.Letters.{letterField, letter-of-field}
@@ -48,25 +48,19 @@ unfolding subgoalLine letterField
 subgoals-read [] within = reads-none
 subgoals-read (a ∷ atoms) within = reads-line B a (within a (List·Memᴰ·head refl)) (subgoals-read atoms (λ b m. within b (List·Memᴰ·tail m)))
 
-clause-reads : (c : Clause) → clauseFits c ≡ true → Reads (H ∷ replicate (length (c .subgoals)) B) (c .head ∷ c .subgoals) (clauseLines c)
+clause-reads : (c : Clause) → AtomsWithin c → Reads (H ∷ replicate (length (c .subgoals)) B) (c .head ∷ c .subgoals) (clauseLines c)
 unfolding clauseLines headLine letterField
-clause-reads c fits =
-    let within = limits-kept c .fits .0 fits .atoms in
+clause-reads c within =
     reads-line H (c .head) (within (c .head) (List·Memᴰ·head refl)) (subgoals-read (c .subgoals) (λ a m. within a (List·Memᴰ·tail m)))
 
-module _ (c : Clause) (fits : clauseFits c ≡ true) where
-  -- no line end stands in them
-  pub clause-free : AllFree 10 (clauseLines c)
-  clause-free = clause-reads c fits .free
+pub lines-kept : (c : Clause) → AtomsWithin c → LinesKept c
+lines-kept c within =
+    let reads = clause-reads c within in
+    record { lines = lines-of-text (clauseLines c) (reads .free); letters = reads .lettered; readBack = reads .read }
 
-  pub clause-lines : linesOf (textOf (clauseLines c)) ≡ clauseLines c
-  clause-lines = lines-of-text (clauseLines c) clause-free
-
-  pub clause-letters : map lineLetter (clauseLines c) ≡ H ∷ replicate (length (c .subgoals)) B
-  clause-letters = clause-reads c fits .lettered
-
-  pub clause-atoms : map (λ l. atomFrom (fieldsOf l)) (clauseLines c) ≡ c .head ∷ c .subgoals
-  clause-atoms = clause-reads c fits .read
+-- of a clause that fits
+pub atoms-within : (c : Clause) → clauseFits c ≡ true → AtomsWithin c
+atoms-within c fits = limits-kept c .fits .0 fits .atoms
 
 -- ---- the lines of clauses
 
@@ -85,7 +79,7 @@ unfolding flatMap
 all-free [] fit = λ l m. absurd (List·Memᴰ·not-nil m)
 all-free (c ∷ clauses) fit =
     all-append (λ l. isFree 10 l ≡ true) (clauseLines (filled c)) (flatMap (λ d. clauseLines (filled d)) clauses)
-    (clause-free (filled c) (fit c (List·Memᴰ·head refl))) (all-free clauses (λ d m. fit d (List·Memᴰ·tail m)))
+    (clause-reads (filled c) (atoms-within (filled c) (fit c (List·Memᴰ·head refl))) .free) (all-free clauses (λ d m. fit d (List·Memᴰ·tail m)))
 
 pub lines-of-clauses : (clauses : List Clause) → ((c : Clause) → c ∈ clauses → clauseFits (filled c) ≡ true) → linesOf (linesFor clauses) ≡ flatMap (λ c. clauseLines (filled c)) clauses
 lines-of-clauses clauses fit = ap linesOf (text-of-clauses clauses) ∙ lines-of-text (flatMap (λ c. clauseLines (filled c)) clauses) (all-free clauses fit)

@@ -45,10 +45,10 @@ lines = bytes "H,app,nil/0,Y,Y\nH,app,cons/2 X Xs,Y,cons/2 X Zs\nB,app,Xs,Y,Zs\n
 
 -- With room to spare, and just enough; layout wherever it may stand, and a stop before a space and at the end; fresh variables
 -- beside a written one that comes later, from 1 again in the next clause; no clauses. Then 25: an atom after an atom, a variable as
--- an atom, a space and a line end before a parenthesis, no arguments in parentheses, a full stop before a name, a tab, a byte 13
--- after a full stop, `:` without `-`, runs that begin with `_` and with a digit, a variable with arguments; the end within a clause,
--- and before its stop. 26: a name of 17 bytes, nine arguments, nine subgoals, and 17 variables, each before 25 in a later clause. 27:
--- one byte short, before 26 in a later clause; and 26 before 27.
+-- an atom, a space and a line end before a parenthesis, no arguments in parentheses, a full stop before a name, with layout later
+-- and with none, a tab, a byte 12, a byte 13 after a full stop, `:` without `-`, runs that begin with `_` and with a digit, a
+-- variable with arguments; the end within a clause, and before its stop. 26: a name of 17 bytes, nine arguments, nine subgoals,
+-- and 17 variables, each before 25 in a later clause. 27: one byte short, before 26 in a later clause; and 26 before 27.
 abbrev pub examples : List Example
 examples =
     row clauses 104 (paged (numbers 0 3 101 0) (lines ++ dots 3))
@@ -62,7 +62,9 @@ examples =
     ∷ refuses "a\n(X).\n" 20 25 2
     ∷ refuses "a().\n" 20 25 2
     ∷ refuses "a.b\n" 20 25 1
+    ∷ refuses "p(a).q(b)." 20 25 4
     ∷ refuses "a(\tX).\n" 20 25 2
+    ∷ refuses "a(\u{c}X).\n" 20 25 2
     ∷ refuses "a.\r\n" 20 25 1
     ∷ refuses "a :b.\n" 20 25 2
     ∷ refuses "a(_X).\n" 20 25 2

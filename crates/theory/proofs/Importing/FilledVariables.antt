@@ -45,7 +45,7 @@ marks-filled fresh i (closes ∷ ms) = marks-filled fresh i ms
 marks-filled fresh i (comma ∷ ms) = marks-filled fresh i ms
 marks-filled fresh i (neck ∷ ms) = marks-filled fresh i ms
 marks-filled fresh i (stop ∷ ms) = marks-filled fresh i ms
-marks-filled fresh i (stray ∷ ms) = marks-filled fresh i ms
+marks-filled fresh i (stray s ∷ ms) = marks-filled fresh i ms
 
 pub filled-variables : (c : Clause) → clauseVariables (filled c) ≡ filledVariables (freshOf c) 0 (clauseVariables c)
 filled-variables c =

@@ -26,7 +26,7 @@ markVariables (closes ∷ ms) = markVariables ms
 markVariables (comma ∷ ms) = markVariables ms
 markVariables (neck ∷ ms) = markVariables ms
 markVariables (stop ∷ ms) = markVariables ms
-markVariables (stray ∷ ms) = markVariables ms
+markVariables (stray s ∷ ms) = markVariables ms
 
 -- an argument and those after it
 arguments-variables : (t : Term) (ts : Terms) (rest : List Mark) → markVariables (termMarks t ++ (laterMarks ts ++ rest)) ≡ variables t ++ markVariables (laterMarks ts ++ rest)
@@ -68,7 +68,7 @@ filledMarks fresh i (closes ∷ ms) = closes ∷ filledMarks fresh i ms
 filledMarks fresh i (comma ∷ ms) = comma ∷ filledMarks fresh i ms
 filledMarks fresh i (neck ∷ ms) = neck ∷ filledMarks fresh i ms
 filledMarks fresh i (stop ∷ ms) = stop ∷ filledMarks fresh i ms
-filledMarks fresh i (stray ∷ ms) = stray ∷ filledMarks fresh i ms
+filledMarks fresh i (stray s ∷ ms) = stray s ∷ filledMarks fresh i ms
 
 pub lones-append : (xs ys : List Bytes) → lones (xs ++ ys) ≡ lones xs + lones ys
 unfolding lones

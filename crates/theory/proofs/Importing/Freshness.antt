@@ -1,18 +1,30 @@
 -- Each fresh variable, made after others, has the lowest number that makes it another than these and those of the clause.
 use mathlib.Core.Path.{_≡_, refl, subst}
-use mathlib.Core.Logic.{⊎-elim}
+use mathlib.Core.Logic.{inl, inr, ⊎-elim}
 use mathlib.Core.List.{List, [], _∷_, _++_, nil≢cons, head-eq-of-cons-eq, tail-eq-of-cons-eq}
-use mathlib.Core.List.{List·Memᴰ·head, List·Memᴰ·tail, List·Memᴰ·append-cases, Memᴰ·append-left, Memᴰ·append-right}
-use Prim.Native.Nat.{ℕ, zero, suc}
+use mathlib.Core.List.{List·Memᴰ·head, List·Memᴰ·tail, List·Memᴰ·not-nil, List·Memᴰ·append-cases, Memᴰ·append-left, Memᴰ·append-right}
+use Prim.Native.Nat.{ℕ, zero, suc, _≤_, _<_}
 use lib.ListN.{length}
 use Rattle.theory.specs.Lists.{_∈_}
-use Rattle.theory.specs.Text.{Bytes}
-use Rattle.theory.specs.Import.{numberedVariable, lowestFrom, freshVariable, freshVariables}
-use Rattle.theory.specs.Imported.{Fresh}
+use Rattle.theory.specs.Text.{Bytes, bytes}
+use Rattle.theory.specs.Terms.{allVariables}
+use Rattle.theory.specs.Packs.{Atom}
+use Rattle.theory.specs.Residuals.{atomsVariables}
+use Rattle.theory.specs.Clauses.{Clause}
+use Rattle.theory.specs.Import.{clauseVariables, lones, numberedVariable, lowestFrom, freshVariable, freshVariables, freshOf}
+use Rattle.theory.specs.Imported.{StandsIn, Fresh}
 use Rattle.theory.proofs.Importing.FreshVariables.{lowest-above, lowest-low, fresh-free}
-use Rattle.theory.proofs.Judging.Variables.{among-member, not-among}
+use Rattle.theory.proofs.Judging.Variables.{among-member, not-among, variable-of-atom}
 
-fresh-first : (taken : List Bytes) → Fresh taken (freshVariable taken)
+-- v has the lowest number that makes it another than those that are taken
+pub record Lowest (taken : List Bytes) (v : Bytes) : Type 0 where
+  pub number : ℕ
+  pub from : 1 ≤ number
+  pub is : v ≡ numberedVariable number
+  pub own : v ∈ taken → ⊥
+  pub lowest : (m : ℕ) → 1 ≤ m → m < number → numberedVariable m ∈ taken
+
+fresh-first : (taken : List Bytes) → Lowest taken (freshVariable taken)
 unfolding freshVariable
 fresh-first taken = record {
   number = lowestFrom (length taken) 1 taken;
@@ -23,7 +35,7 @@ fresh-first taken = record {
 }
 
 -- it is all the same in which order they were taken
-fresh-moved : (x : Bytes) (made taken : List Bytes) (v : Bytes) → Fresh (made ++ (x ∷ taken)) v → Fresh (x ∷ (made ++ taken)) v
+fresh-moved : (x : Bytes) (made taken : List Bytes) (v : Bytes) → Lowest (made ++ (x ∷ taken)) v → Lowest (x ∷ (made ++ taken)) v
 fresh-moved x made taken v f = record {
   number = f .number;
   from = f .from;
@@ -43,10 +55,35 @@ fresh-moved x made taken v f = record {
     outwards : {y : Bytes} → y ∈ (made ++ (x ∷ taken)) → y ∈ (x ∷ (made ++ taken))
     outwards m = ⊎-elim (λ n. List·Memᴰ·tail (Memᴰ·append-left taken n)) last (List·Memᴰ·append-cases made m)
 
-pub fresh-each : (k : ℕ) (taken made later : List Bytes) (v : Bytes) → freshVariables k taken ≡ made ++ v ∷ later → Fresh (made ++ taken) v
+pub fresh-each : (k : ℕ) (taken made later : List Bytes) (v : Bytes) → freshVariables k taken ≡ made ++ v ∷ later → Lowest (made ++ taken) v
 unfolding freshVariables
 fresh-each zero taken [] later v is = absurd (nil≢cons is)
 fresh-each zero taken (x ∷ made) later v is = absurd (nil≢cons is)
-fresh-each (suc k) taken [] later v is = subst (Fresh taken) (head-eq-of-cons-eq is) (fresh-first taken)
+fresh-each (suc k) taken [] later v is = subst (Lowest taken) (head-eq-of-cons-eq is) (fresh-first taken)
 fresh-each (suc k) taken (x ∷ made) later v is =
-    subst (λ (y : Bytes). Fresh (y ∷ (made ++ taken)) v) (head-eq-of-cons-eq is) (fresh-moved (freshVariable taken) made taken v (fresh-each k (freshVariable taken ∷ taken) made later v (tail-eq-of-cons-eq is)))
+    subst (λ (y : Bytes). Lowest (y ∷ (made ++ taken)) v) (head-eq-of-cons-eq is) (fresh-moved (freshVariable taken) made taken v (fresh-each k (freshVariable taken ∷ taken) made later v (tail-eq-of-cons-eq is)))
+
+-- ---- in a clause
+
+pub stands-from : (c : Clause) (x : Bytes) → x ∈ clauseVariables c → StandsIn c x
+unfolding atomsVariables
+stands-from c x m = at (c .head ∷ c .subgoals) m (λ a n. n)
+  where
+    at : (atoms : List Atom) → x ∈ atomsVariables atoms → ((a : Atom) → a ∈ atoms → a ∈ (c .head ∷ c .subgoals)) → StandsIn c x
+    at [] m all = absurd (List·Memᴰ·not-nil m)
+    at (a ∷ atoms) m all = ⊎-elim (λ n. record { atom = a; isIn = all a (List·Memᴰ·head refl); has = n }) (λ n. at atoms n (λ b k. all b (List·Memᴰ·tail k))) (List·Memᴰ·append-cases (allVariables (a .terms)) m)
+
+pub from-stands : (c : Clause) (x : Bytes) → StandsIn c x → x ∈ clauseVariables c
+from-stands c x s = variable-of-atom (c .head ∷ c .subgoals) (s .isIn) (s .has)
+
+pub fresh-in : (c : Clause) (made later : List Bytes) (v : Bytes) → freshOf c ≡ made ++ v ∷ later → Fresh c made v
+unfolding numberedVariable bytes
+fresh-in c made later v is =
+    let l = fresh-each (lones (clauseVariables c)) (clauseVariables c) made later v is in
+    record {
+      number = l .number;
+      from = l .from;
+      is = l .is;
+      own = λ taken. l .own (⊎-elim (Memᴰ·append-left (clauseVariables c)) (λ s. Memᴰ·append-right made (from-stands c v s)) taken);
+      lowest = λ m from below. ⊎-elim inl (λ n. inr (stands-from c (numberedVariable m) n)) (List·Memᴰ·append-cases made (l .lowest m from below));
+    }

@@ -17,14 +17,20 @@ use Rattle.theory.specs.Packs.{textOf}
 use Rattle.theory.specs.Check.{numbers}
 use Rattle.theory.specs.Pages.{Paged, paged}
 use Rattle.theory.specs.ClauseTokens.{Mark, Token, tokensOf}
+use Rattle.theory.specs.Cutting.{Cut}
 use Rattle.theory.specs.Clauses.{Clause, clauseMarks, State, begin, isBegin, Step, refuses, goes, ends, step}
 use Rattle.theory.specs.Import.{filled, clauseLines, clauseFits, Importing, refused, importFrom, importOf}
-use Rattle.theory.specs.Imported.{marks, Begins, isSpelled, AllSpelled, linesFor, Taken, AllTaken, ImportOutcome, imported, unfit, unended, past, full, refusal}
+use Rattle.theory.specs.Imported.{marks, Writes, Begins, isSpelled, AllSpelled, linesFor, Taken, AllTaken, ImportOutcome, imported, unfit, unended, past, full, refusal}
+use Rattle.theory.proofs.Importing.Cutting.{text-cut, cut-exactly}
 use Rattle.theory.proofs.Importing.Leading.{Leads, leads-none, leads-more, leads-runs, none-read, some-read, completed, left-some, left-unrefused, Ways, fewer, further, ways}
 use Rattle.theory.proofs.Importing.PlainTexts.{plain, plain-writes}
 use Rattle.theory.proofs.Importing.Running.{runs-end, runs-sound}
 use Rattle.theory.proofs.Importing.SpelledTokens.{front-spelled}
 use Rattle.theory.proofs.Reading.Every.{every-member}
+
+-- the marks of a text that writes clauses
+pub written-marks : {text : Bytes} {clauses : List Clause} → Writes text clauses → marks (tokensOf text) ≡ flatMap clauseMarks clauses
+written-marks {text} w = ap marks (cut-exactly text (w .tokens) .1 (w .cut)) ∙ w .are
 
 -- ---- clauses that are taken
 
@@ -131,8 +137,8 @@ module _ (text buffer : Bytes) where
   unfolding Ends answer importFrom
   ends-begun earlier s r =
       by-truth (λ b. ImportOutcome text buffer (answer (cond b (record { returned = numbers 0 (length earlier) (length (linesFor earlier)) 0; text = linesFor earlier }) (refused 25 (length text))))) (isBegin s)
-      (λ e. imported earlier (written buffer r e) (r .taken))
-      (λ e. unended (begins buffer r (front-spelled text (marks (tokensOf text)) [] (sym (append-nil (marks (tokensOf text)))))) (not-written buffer r e) (all-taken buffer r))
+      (λ e. imported earlier (record { tokens = tokensOf text; cut = text-cut text; are = written buffer r e }) (r .taken))
+      (λ e. unended (tokensOf text) (text-cut text) (begins buffer r (front-spelled (text-cut text) (marks (tokensOf text)) [] (sym (append-nil (marks (tokensOf text)))))) (λ clauses writes. not-written buffer r e clauses (written-marks writes)) (all-taken buffer r))
 
   -- at a token
   module _ (passed left : List Token) (t : Token) (all : tokensOf text ≡ passed ++ t ∷ left) (s : State) (earlier : List Clause) (r : Reading buffer (marks passed) s earlier) where
@@ -169,8 +175,8 @@ module _ (text buffer : Bytes) where
         subst (λ (i : Importing). ImportOutcome text buffer (answer i))
         (λ i. importFrom (length text) (length buffer) (length-end earlier c i) (lines-more earlier c i) begin left)
         (later begin (ending c earlier) (next-clause buffer r (t .mark) c e taken)))
-        (λ room. numbered 27 (full earlier c (marks left) (stands c e) (r .taken) fits (omega (arith, leb-gt (length (linesWith c)) (length buffer) room, ap length (lines-more earlier c))))))
-        (λ misfit. numbered 26 (past earlier c (marks left) (stands c e) (r .taken) misfit))
+        (λ room. numbered 27 (full (tokensOf text) earlier c (marks left) (text-cut text) (stands c e) (r .taken) fits (omega (arith, leb-gt (length (linesWith c)) (length buffer) room, ap length (lines-more earlier c))))))
+        (λ misfit. numbered 26 (past (tokensOf text) earlier c (marks left) (text-cut text) (stands c e) (r .taken) misfit))
       where
         numbered : (n : ℕ) → ImportOutcome text buffer (refusal n (length earlier + 1) buffer) → ImportOutcome text buffer (refusal n (suc (length earlier)) buffer)
         numbered n = subst (λ (k : ℕ). ImportOutcome text buffer (refusal n k buffer)) (add-one (length earlier))
@@ -181,7 +187,7 @@ module _ (text buffer : Bytes) where
       where
         at : (st : Step) → step s (t .mark) ≡ st
             → ImportOutcome text buffer (answer (elim st [ refuses ↦ refused 25 (t .place) | goes next ↦ importFrom (length text) (length buffer) (length earlier) (linesFor earlier) next left | ends c ↦ withLimits c (clauseFits (filled c)) ]))
-        at refuses e = unfit passed left t all (begins buffer r (front-spelled text (marks passed) (marks (t ∷ left)) (ap marks all ∙ map-append (λ u. u .mark) passed (t ∷ left)))) (not-begins buffer r (t .mark) e) (all-taken buffer r)
+        at refuses e = unfit passed left t (subst (Cut text) all (text-cut text)) (begins buffer r (front-spelled (text-cut text) (marks passed) (marks (t ∷ left)) (ap marks all ∙ map-append (λ u. u .mark) passed (t ∷ left)))) (not-begins buffer r (t .mark) e) (all-taken buffer r)
         at (goes next) e = later next earlier (goes-on buffer r (t .mark) next e)
         at (ends c) e = ends-clause c e later
 

@@ -9,7 +9,8 @@ use Rattle.theory.specs.Text.{bytes}
 use Rattle.theory.specs.Terms.{Term, symbol, nil}
 use Rattle.theory.specs.ClauseTokens.{Mark, name, closes, stop}
 use Rattle.theory.specs.Clauses.{Clause, clauseMarks, Open, endingTerm, Last, due, read, State, state, begin, isDue, isBegin, Step, refuses, goes, ends, stepDue, stepAtom, stepArgument, stepRead, stepAfter, step}
-use Rattle.theory.specs.Imported.{isRun, isSpelled}
+use Rattle.theory.specs.Cutting.{isRun}
+use Rattle.theory.specs.Imported.{isSpelled}
 use Rattle.theory.proofs.Importing.Running.{Runs, runs-end, runs-on, runs-complete, consumed, begin-consumed, Adds, step-adds}
 use Rattle.theory.proofs.Reading.Every.{every-cons}
 

@@ -13,10 +13,12 @@ use Rattle.theory.specs.Text.{Bytes}
 use Rattle.theory.specs.Check.{numbers}
 use Rattle.theory.specs.Pages.{Paged, paged}
 use Rattle.theory.specs.ClauseTokens.{Mark, Token, tokensOf}
-use Rattle.theory.specs.Clauses.{Clause, clauseMarks, Writes, termMarks, begin}
+use Rattle.theory.specs.Cutting.{Cut}
+use Rattle.theory.specs.Clauses.{Clause, clauseMarks, termMarks, begin}
 use Rattle.theory.specs.Import.{filled, clauseFits}
-use Rattle.theory.specs.Imported.{marks, Begins, linesFor, Taken, AllTaken, refusal, ImportOutcome, imported, unfit, unended, past, full}
-use Rattle.theory.proofs.Importing.ImportOutcomes.{taken-front}
+use Rattle.theory.specs.Imported.{marks, Writes, Begins, linesFor, Taken, AllTaken, refusal, ImportOutcome, imported, unfit, unended, past, full}
+use Rattle.theory.proofs.Importing.Cutting.{text-cut, cut-exactly}
+use Rattle.theory.proofs.Importing.ImportOutcomes.{written-marks, taken-front}
 use Rattle.theory.proofs.Importing.PlainTexts.{plain, plain-writes}
 use Rattle.theory.proofs.Importing.SpelledTokens.{front-spelled}
 use Rattle.theory.proofs.Importing.Leading.{leads-none, left-some, Ways, fewer, further, ways}
@@ -102,8 +104,8 @@ module _ (text buffer : Bytes) where
   whole : (clauses : List Clause) → Writes text clauses → Taken buffer clauses → Whole
   unfolding all
   whole clauses writes taken = record {
-    begins = record { text = text; clauses = clauses; writes = writes; rest = []; is = append-nil (marks (tokensOf text)) ∙ writes };
-    taken = λ others rest is. at others (fronts clauses others [] rest (append-nil (flatMap clauseMarks clauses) ∙ sym writes ∙ is));
+    begins = record { text = text; clauses = clauses; writes = writes; rest = []; is = append-nil (marks (tokensOf text)) ∙ written-marks writes };
+    taken = λ others rest is. at others (fronts clauses others [] rest (append-nil (flatMap clauseMarks clauses) ∙ sym (written-marks writes) ∙ is));
   }
     where
       at : (others : List Clause) {rest : List Mark} → Ways clauses [] [] begin others rest → Taken buffer others
@@ -140,7 +142,7 @@ module _ (text buffer : Bytes) where
         (λ found. u .none (record {
           text = plain (flatMap clauseMarks (ending c earlier));
           clauses = ending c earlier;
-          writes = plain-writes (ending c earlier) (front-spelled text (flatMap clauseMarks (ending c earlier)) rest stops-at);
+          writes = plain-writes (ending c earlier) (front-spelled (text-cut text) (flatMap clauseMarks (ending c earlier)) rest stops-at);
           rest = found .0;
           is = append-assoc (marks before) (t .mark ∷ []) (found .0) ∙ sym (found .1);
         }))
@@ -198,18 +200,21 @@ module _ (text buffer : Bytes) where
     at-token : {before after : List Token} {t : Token} → Unfit before after t → Ends (refusal 25 (t .place) buffer)
     at-clause : {earlier : List Clause} {c : Clause} {rest : List Mark} → Stops earlier c rest → Ends (stopping c earlier)
 
+  the-tokens : {tokens : List Token} → Cut text tokens → tokensOf text ≡ tokens
+  the-tokens {tokens} cut = cut-exactly text tokens .1 cut
+
   ends : {a : Paged} → ImportOutcome text buffer a → Ends a
   unfolding importing stopping all
   ends (imported clauses is taken) = written clauses is (whole clauses is taken)
-  ends (unfit before after t is begins none taken) = at-token {before = before} {after = after} {t = t} (record { is = is; begins = begins; none = none; taken = taken })
-  ends (unended begins none taken) = unwritten none (record { begins = begins; taken = taken })
-  ends (past earlier c rest is taken fits) =
-      subst Ends (ap (λ (b : Bool). refusal (cond b 27 26) (length earlier + 1) buffer) fits) (at-clause (stops-past earlier c rest is taken fits))
-  ends (full earlier c rest is taken fits short) =
-      subst Ends (ap (λ (b : Bool). refusal (cond b 27 26) (length earlier + 1) buffer) fits) (at-clause (stops-full earlier c rest is taken short))
+  ends (unfit before after t is begins none taken) = at-token {before = before} {after = after} {t = t} (record { is = the-tokens is; begins = begins; none = none; taken = taken })
+  ends (unended tokens cut begins none taken) = let is = ap marks (sym (the-tokens cut)) in unwritten none (record { begins = subst Begins is begins; taken = subst (AllTaken buffer) is taken })
+  ends (past tokens earlier c rest cut is taken fits) =
+      subst Ends (ap (λ (b : Bool). refusal (cond b 27 26) (length earlier + 1) buffer) fits) (at-clause (stops-past earlier c rest (ap marks (the-tokens cut) ∙ is) taken fits))
+  ends (full tokens earlier c rest cut is taken fits short) =
+      subst Ends (ap (λ (b : Bool). refusal (cond b 27 26) (length earlier + 1) buffer) fits) (at-clause (stops-full earlier c rest (ap marks (the-tokens cut) ∙ is) taken short))
 
   one-end : {a b : Paged} → Ends a → Ends b → a ≡ b
-  one-end (written clauses is w) (written others is' w') = ap importing (only-one clauses others (sym is ∙ is'))
+  one-end (written clauses is w) (written others is' w') = ap importing (only-one clauses others (sym (written-marks is) ∙ written-marks is'))
   one-end (written clauses is w) (unwritten none w') = absurd (none clauses is)
   one-end (written clauses is w) (at-token u) = absurd (whole-unfit u w)
   one-end (written clauses is w) (at-clause s) = absurd (whole-stops s w)

@@ -14,14 +14,14 @@ use Rattle.theory.specs.Text.{Bytes, bytes, among, decimal}
 use Rattle.theory.specs.Terms.{Term, Terms, symbol, nil, cons, arity, symbolToken, tokens, allTokens, WellFormed, AllWellFormed, variables, allVariables}
 use Rattle.theory.specs.Terms as T
 use Rattle.theory.specs.Packs.{Atom, termFields, headLine, subgoalLine, line, textOf}
-use Rattle.theory.specs.ClauseTokens.{Mark, name, variable, comma, neck, isLayout, bytesAfter, markOf, tokensFrom, tokensOf, token}
+use Rattle.theory.specs.ClauseTokens.{Mark, name, variable, opens, closes, comma, neck, stop, stray, Token}
+use Rattle.theory.specs.Cutting.{Known, a-name, a-variable, the-lone, an-opening, a-closing, a-comma, a-neck, a-stop, last-stop, Marked, known, unknown, CutFrom, nothing-left, layout-first, token-first, Cut}
 use Rattle.theory.specs.Clauses.{Clause, termMarks, argumentMarks, laterMarks, atomMarks, bodyMarks, clauseMarks}
 use Rattle.theory.specs.Residuals.{numbered}
 use Rattle.theory.specs.Import.{clauseVariables, isLone, lones, numberedVariable, nth, freshOf, filledTerm, filledTerms, filledAtom, filledAtoms, filled, clauseLines, clauseFits}
-use Rattle.theory.specs.Imported.{marks, spelling, AtomWithin, linesFor}
-use Rattle.theory.proofs.Importing.Arrangements.{bytes-within, token-bytes}
+use Rattle.theory.specs.Imported.{marks, AtomWithin, linesFor}
 use Rattle.theory.proofs.Importing.FilledVariables.{named, filled-count}
-use Rattle.theory.proofs.Importing.ClauseLimits.{limits-kept}
+use Rattle.theory.proofs.Importing.ClauseLimits.{variables-few, limits-kept}
 use Rattle.theory.proofs.Importing.FreshNumbering.{among-numbered-named}
 use Rattle.theory.proofs.Importing.FreshVariables.{numbers-few, fresh-length}
 use Rattle.theory.proofs.Importing.Freshness.{fresh-each}
@@ -33,6 +33,16 @@ use Rattle.theory.proofs.Reading.TermLengths.{lengthsAfter, joined-leng
 
 -- ---- the bytes of tokens
 
+spelling : Mark → Bytes
+spelling (name f) = f
+spelling (variable x) = x
+spelling opens = bytes "("
+spelling closes = bytes ")"
+spelling comma = bytes ","
+spelling neck = bytes ":-"
+spelling stop = bytes "."
+spelling (stray s) = s
+
 byteCount : List Mark → ℕ
 byteCount [] = 0
 byteCount (m ∷ ms) = length (spelling m) + byteCount ms
@@ -42,18 +52,32 @@ unfolding byteCount
 count-append [] ns = omega arith
 count-append (m ∷ ms) ns = omega (arith, count-append ms ns)
 
--- a text has no fewer bytes than its tokens
-count-within : (apart : Bool) (left place : ℕ) (bs : Bytes) → left ≤ length bs → byteCount (marks (tokensFrom apart left place bs)) + left ≤ length bs
-unfolding byteCount tokensFrom
-count-within apart left place [] long = omega arith
-count-within apart (suc left) place (b ∷ bs) long = omega (arith, count-within apart left (suc place) bs (omega arith))
-count-within apart zero place (b ∷ bs) long =
-    by-truth (λ c. byteCount (marks (cond c (tokensFrom true 0 (suc place) bs) (token (markOf apart b bs) place ∷ tokensFrom false (bytesAfter b bs) (suc place) bs))) + 0 ≤ suc (length bs)) (isLayout b)
-    (λ _. omega (arith, count-within true 0 (suc place) bs (omega arith)))
-    (λ _. omega (arith, token-bytes apart b bs, count-within false (bytesAfter b bs) (suc place) bs (bytes-within b bs)))
+known-spelling : {apart : Bool} {s after : Bytes} {m : Mark} → Known apart s after m → s ≡ spelling m
+unfolding spelling
+known-spelling (a-name is) = refl
+known-spelling (a-variable is) = refl
+known-spelling (the-lone is) = refl
+known-spelling (an-opening is tight) = is
+known-spelling (a-closing is) = is
+known-spelling (a-comma is) = is
+known-spelling (a-neck is) = is
+known-spelling (a-stop c rest is follows layout) = is
+known-spelling (last-stop is none) = is
 
-text-count : (text : Bytes) (front rest : List Mark) → marks (tokensOf text) ≡ front ++ rest → byteCount front ≤ length text
-text-count text front rest is = omega (arith, count-within false 0 0 text (omega arith), ap byteCount is, count-append front rest)
+mark-spelling : {apart : Bool} {s after : Bytes} {m : Mark} → Marked apart s after m → s ≡ spelling m
+unfolding spelling
+mark-spelling (known is) = known-spelling is
+mark-spelling (unknown none) = refl
+
+-- a text has no fewer bytes than its tokens
+count-within : {apart : Bool} {place : ℕ} {text : Bytes} {ts : List Token} → CutFrom apart place text ts → byteCount (marks ts) ≤ length text
+unfolding byteCount
+count-within nothing-left = omega arith
+count-within (layout-first layout later) = omega (arith, count-within later)
+count-within (token-first {s = s} {text = text} piece marked later) = omega (arith, ap length (mark-spelling marked), length-append s text, count-within later)
+
+text-count : {text : Bytes} {tokens : List Token} → Cut text tokens → (front rest : List Mark) → marks tokens ≡ front ++ rest → byteCount front ≤ length text
+text-count cut front rest is = omega (arith, count-within cut, ap byteCount is, count-append front rest)
 
 -- ---- terms
 
@@ -134,7 +158,7 @@ module _ (c : Clause) (fits : clauseFits (filled c) ≡ true) where
           let v = fresh-each (lones (clauseVariables c)) (clauseVariables c) made (drop (suc i) (freshOf c)) (nth (freshOf c) i) (split-at (freshOf c) i [] inside) in
           let few = numbers-few 1 (v .number) (made ++ names) (λ m from below. taken-there m (v .lowest m from below)) in
           let low : v .number < 100 =
-          omega (arith, few, length-append made names, length-take-le i (freshOf c) (omega arith), fresh-length (lones (clauseVariables c)) (clauseVariables c), filled-count c, limits-kept (filled c) .fits .0 fits .variables) in
+          omega (arith, few, length-append made names, length-take-le i (freshOf c) (omega arith), fresh-length (lones (clauseVariables c)) (clauseVariables c), filled-count c, variables-few (filled c) (limits-kept (filled c) .fits .0 fits .variables)) in
           omega (arith, ap length (v .is), digits-few 1 (v .number) low)
 
   -- ---- a clause
@@ -168,6 +192,6 @@ lines-room (c ∷ clauses) fit =
       count-append (clauseMarks c) (flatMap clauseMarks clauses),
     )
 
-pub room-enough : (text : Bytes) (clauses : List Clause) (rest : List Mark) → marks (tokensOf text) ≡ flatMap clauseMarks clauses ++ rest → ((c : Clause) → c ∈ clauses → clauseFits (filled c) ≡ true)
+pub room-enough : {text : Bytes} {tokens : List Token} → Cut text tokens → (clauses : List Clause) (rest : List Mark) → marks tokens ≡ flatMap clauseMarks clauses ++ rest → ((c : Clause) → c ∈ clauses → clauseFits (filled c) ≡ true)
     → length (linesFor clauses) ≤ 2 * length text
-room-enough text clauses rest is fit = omega (arith, lines-room clauses fit, text-count text (flatMap clauseMarks clauses) rest is)
+room-enough cut clauses rest is fit = omega (arith, lines-room clauses fit, text-count cut (flatMap clauseMarks clauses) rest is)

@@ -156,7 +156,7 @@ due-adds before opened closes = tt
 due-adds before opened comma = tt
 due-adds before opened neck = tt
 due-adds before opened stop = tt
-due-adds before opened stray = tt
+due-adds before opened (stray s) = tt
 
 -- one subgoal more
 openBody-more : (m : Mark) (atoms : List Atom) (a : Atom) → openBody m (atoms ++ (a ∷ [])) ≡ openBody m atoms ++ (atomMarks a ++ (comma ∷ []))
@@ -181,7 +181,7 @@ atom-adds none t neck = simp (append-assoc, append-nil)
 atom-adds (some c) t neck = tt
 atom-adds none t stop = refl
 atom-adds (some c) t stop = rw (bodyMarks-more neck (c .subgoals) (atomOf t)) (simp append-assoc)
-atom-adds before t stray = tt
+atom-adds before t (stray s) = tt
 
 -- one argument more
 commaMarks-more : (t : Term) (us : Terms) → commaMarks (endingTerm t us) ≡ commaMarks us ++ (termMarks t ++ (comma ∷ []))
@@ -209,7 +209,7 @@ argument-adds before o (p ∷ opened) t closes = rw (argumentMarks-more t (o .be
 argument-adds before o opened t comma = rw (commaMarks-more t (o .before)) (simp (append-assoc, append-nil))
 argument-adds before o opened t neck = tt
 argument-adds before o opened t stop = tt
-argument-adds before o opened t stray = tt
+argument-adds before o opened t (stray s) = tt
 
 pub step-adds : (s : State) (m : Mark) → Adds (consumed s) m (step s m)
 unfolding step stepAfter stepRead

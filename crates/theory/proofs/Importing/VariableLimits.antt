@@ -86,7 +86,7 @@ module _ (fresh : List Bytes) (x : Bytes) (written : isLone x ≡ false) where
   named-stays i (comma ∷ ms) m = named-stays i ms m
   named-stays i (neck ∷ ms) m = named-stays i ms m
   named-stays i (stop ∷ ms) m = named-stays i ms m
-  named-stays i (stray ∷ ms) m = named-stays i ms m
+  named-stays i (stray s ∷ ms) m = named-stays i ms m
 
 pub filled-named : (c : Clause) (x : Bytes) → isLone x ≡ false → x ∈ clauseVariables c → x ∈ clauseVariables (filled c)
 filled-named c x written m =
