@@ -56,8 +56,8 @@ sheet-tells : (text : Bytes) → IsAccepted text → SheetTells text
 sheet-tells text ok = record {
   lines = ap length (sheet-text-lines text ok) ∙ lines-many 1 (rulesOf text);
   stand = λ before after r split.
-      subst (ColumnsStand (length before + 1) (ruleEntry r)) (sym (rule-line text ok before after r split))
-      (columns-stand (length before + 1) (ruleEntry r) (rule-fits-columns (packOf text) (accepted-pack text ok .fits) before after r split));
+      subst (ColumnsStand (length before + 1) r) (sym (rule-line text ok before after r split))
+      (columns-stand (length before + 1) r (rule-fits-columns (packOf text) (accepted-pack text ok .fits) before after r split));
   size = sheet-length text ok;
   determines = λ other fine same. told-entries 1 (rulesOf text) (rulesOf other) (sym (words text ok) ∙ ap (λ (s : Bytes). map wordsIn (linesOf s)) same ∙ words other fine);
 }

@@ -80,15 +80,15 @@ abbrev pub AtLeft : Bytes → Bytes → Type 0
 AtLeft text column = (many : ℕ) × (column ≡ text ++ replicate many (code " "))
 
 -- Where the columns of a rule's line stand, by the places of its bytes, counted from 0.
-pub record ColumnsStand (number : ℕ) (e : Entry) (line : Bytes) : Type 0 where
+pub record ColumnsStand (number : ℕ) (r : Rule) (line : Bytes) : Type 0 where
   pub width : length line ≡ 64
   pub ruleNumber : AtRight (decimal number) (take 4 line)
   pub afterNumber : getD line 4 0 ≡ code " "
-  pub name : AtLeft (e .name) (take 16 (drop 5 line))
+  pub name : AtLeft (r .head .name) (take 16 (drop 5 line))
   pub afterName : getD line 21 0 ≡ code " "
-  pub subgoals : AtRight (decimal (e .subgoals)) (take 2 (drop 22 line))
+  pub subgoals : AtRight (decimal (length (r .subgoals))) (take 2 (drop 22 line))
   pub afterSubgoals : getD line 24 0 ≡ code " "
-  pub multiplierLines : AtRight (decimal (e .multiplierLines)) (take 3 (drop 25 line))
+  pub multiplierLines : AtRight (decimal (length (r .multipliers))) (take 3 (drop 25 line))
   pub rest : AtLeft [] (drop 28 line)
 
 -- The sheet of an accepted text.
@@ -96,7 +96,7 @@ pub record SheetTells (text : Bytes) : Type 0 where
   -- a line for each rule, in their order: each column stands at its place
   pub lines : length (linesOf (sheet (packOf text .rules))) ≡ length (packOf text .rules)
   pub stand : (before after : List Rule) (r : Rule) → packOf text .rules ≡ before ++ r ∷ after
-      → ColumnsStand (length before + 1) (ruleEntry r) (getD (linesOf (sheet (packOf text .rules))) (length before) [])
+      → ColumnsStand (length before + 1) r (getD (linesOf (sheet (packOf text .rules))) (length before) [])
   -- each line ends with byte 10, so 65 bytes a rule
   pub size : length (sheet (packOf text .rules)) ≡ 65 * length (packOf text .rules)
   -- packs with the same sheet have the same names and counts

@@ -39,7 +39,10 @@ module _ (line : Bytes) (at b : ℕ) (rest : Bytes) (here : drop at line ≡ b �
 
 -- ---- a line
 
-module _ (number : ℕ) (e : Entry) (fits : FitsColumns number e) where
+module _ (number : ℕ) (r : Rule) (fits : FitsColumns number (ruleEntry r)) where
+  abbrev e : Entry
+  e = ruleEntry r
+
   first : Bytes
   first = rightAligned 4 (decimal number)
 
@@ -106,7 +109,7 @@ module _ (number : ℕ) (e : Entry) (fits : FitsColumns number e) where
   at-twenty-five : drop 25 l ≡ after-third
   at-twenty-five = byte-after l 24 32 after-third at-twenty-four
 
-  pub columns-stand : ColumnsStand number e (sheetLine number e)
+  pub columns-stand : ColumnsStand number r (sheetLine number (ruleEntry r))
   unfolding l first second third fourth spaces
   columns-stand = record {
     width = line-length number e fits;
