@@ -1,86 +1,136 @@
--- A rule's line as `put_line` writes it: each column is filled right after what stands before it.
-use mathlib.Core.Path.{_≡_, sym, _∙_, ap, ap₂}
+-- A rule's line as `put_line` writes it: each column is laid into the rest of the page, right after what stands before it.
+use mathlib.Core.Path.{_≡_, refl, sym, _∙_, ap, subst}
 use mathlib.Core.List.{[], _∷_, _++_, append-assoc}
-use Prim.Native.Nat.{ℕ, _-_, _≤_}
+use Prim.Native.Nat.{ℕ, _+_, _-_, _≤_, _<_}
 use native.Mathlib.Omega.{arith}
-use borrow.Rule.Slice.PartMut.{midOf, putMid}
-use lib.ListN.{length, set}
-use Rattle.theory.specs.Lists.{over}
+use borrow.Rule.Slice.PartMut.{midOf, putMid, mid-len}
+use lib.ListN.{length}
+use mir.Syntax.{w64}
+use mir.Val.{Fits}
+use Rattle.groundwork.proofs.Lists.{length-end}
 use Rattle.theory.specs.Text.{Bytes, decimal, joined}
-use Rattle.theory.specs.Sheet.{spaces, rightAligned, leftAligned, entry, columns, sheetLine, FitsColumns}
-use Rattle.theory.proofs.Reading.Alignment.{spaces-length, right-length, left-length, columns-length}
+use Rattle.theory.specs.Sheet.{spaces, rightAligned, leftAligned, entry, columns, sheetLine}
+use Rattle.theory.proofs.Reading.Alignment.{FitsColumns, spaces-length, right-length, left-length, columns-length}
 use Rattle.pages.specs.Pages.{Puts}
-use Rattle.pages.proofs.Puts.{puts-same, puts-byte, puts-fill, puts-over}
+use Rattle.pages.proofs.Puts.{puts-size, puts-more, puts-part}
 
--- what the writer of a number leaves of the part that it is lent
-abbrev Right : ℕ → ℕ → ℕ → Bytes → Bytes → Type 0
-Right n start width page part = part ≡ rightAligned (length (midOf start width page)) (decimal n)
+-- a writer that is lent the rest of the page
+module _ {bytes page now : Bytes} {r : ℕ} (puts : Puts bytes page now r) (within : r ≤ length page) where
+  rest-next : {more part : Bytes} {q : ℕ} → Puts more (midOf r (length now - r) now) part q → Puts (bytes ++ more) page (putMid r (length now - r) now part) (r + q)
+  rest-next {more} second = puts-more puts more (puts-part (omega (arith, puts-size puts within)) second)
+
+  rest-size : length (midOf r (length now - r) now) ≡ length page - r
+  rest-size = let same = puts-size puts within in mid-len r (length now) now (omega arith) ∙ ap (λ (n : ℕ). n - r) same
+
+-- a column with the space after it
+abbrev Right : ℕ → ℕ → Bytes
+Right width n = rightAligned width (decimal n) ++ (32 ∷ [])
+
+abbrev Left : ℕ → Bytes → Bytes
+Left width name = leftAligned width name ++ (32 ∷ [])
+
+right-size : (width n : ℕ) → length (decimal n) ≤ width → length (Right width n) ≡ width + 1
+right-size width n fits = omega (arith, length-end (rightAligned width (decimal n)) 32, right-length width (decimal n) fits)
+
+-- four columns, each with its space, or with a space between them
+parted : (a b c d rest : Bytes) → ((((a ++ (32 ∷ [])) ++ (b ++ (32 ∷ []))) ++ (c ++ (32 ∷ []))) ++ (d ++ (32 ∷ []))) ++ rest ≡ (a ++ 32 ∷ (b ++ 32 ∷ (c ++ 32 ∷ d))) ++ 32 ∷ rest
+parted a b c d rest = simp append-assoc
+
+one-more : 32 ∷ spaces 35 ≡ spaces 36
+unfolding spaces
+one-more = refl
 
 module _ {number : ℕ} {name : Bytes} {subgoals multipliers : ℕ} (page : Bytes) (asked : (65 ≤ length page) × FitsColumns number (entry name subgoals multipliers)) where
-  -- the columns, with a space between them
-  abbrev text₁ : Bytes
-  text₁ = rightAligned 4 (decimal number)
+  abbrev fits : FitsColumns number (entry name subgoals multipliers)
+  fits = asked .1
 
-  abbrev text₂ : Bytes
-  text₂ = (text₁ ++ (32 ∷ [])) ++ leftAligned 16 name
-
-  abbrev text₃ : Bytes
-  text₃ = (text₂ ++ (32 ∷ [])) ++ rightAligned 2 (decimal subgoals)
-
-  abbrev text₄ : Bytes
-  text₄ = (text₃ ++ (32 ∷ [])) ++ rightAligned 3 (decimal multipliers)
-
-  columns-text : text₄ ≡ columns number (entry name subgoals multipliers)
-  unfolding columns joined
-  columns-text = simp append-assoc
-
-  line-text : text₄ ++ spaces 36 ≡ sheetLine number (entry name subgoals multipliers)
-  unfolding sheetLine leftAligned
+  line-text : (((Right 4 number ++ Left 16 name) ++ Right 2 subgoals) ++ Right 3 multipliers) ++ (spaces 35 ++ (10 ∷ [])) ≡ sheetLine number (entry name subgoals multipliers) ++ (10 ∷ [])
+  unfolding sheetLine leftAligned columns joined
   line-text =
-      let size = columns-length number (entry name subgoals multipliers) (asked .1) in
-      ap₂ (λ (bs : Bytes) (size : ℕ). bs ++ spaces (64 - size)) columns-text (sym size)
+      let all = columns number (entry name subgoals multipliers) in
+      let left : 64 - length all ≡ 36 = omega (arith, columns-length number (entry name subgoals multipliers) fits) in
+      parted (rightAligned 4 (decimal number)) (leftAligned 16 name) (rightAligned 2 (decimal subgoals)) (rightAligned 3 (decimal multipliers)) (spaces 35 ++ (10 ∷ []))
+      ∙ sym (append-assoc all (32 ∷ spaces 35) (10 ∷ []))
+      ∙ ap (λ (bs : Bytes). (all ++ bs) ++ (10 ∷ [])) (one-more ∙ ap spaces (sym left))
 
-  -- a number right after what is written already
-  number-after : {bytes now part : Bytes} {r : ℕ} (n end : ℕ) → r ≤ end → end ≤ 65 → length (decimal n) ≤ end - r → Puts bytes page now r → Right n r (end - r) now part → Puts (bytes ++ rightAligned (end - r) (decimal n)) page (putMid r (end - r) now part) end
-  number-after {r = r} n end start within fits puts filled =
-      puts-fill puts (λ width. rightAligned width (decimal n)) end start (omega arith) (right-length (end - r) (decimal n) fits) filled
+  module _ {page₁ : Bytes} {r : ℕ} (first : Puts (Right 4 number) page page₁ r) where
+    second-place : r ≡ 5
+    second-place = first .many ∙ right-size 4 number (fits .fourDigits)
 
-  -- Column after column, by what each writer leaves of the part that it is lent.
-  module _ {a : Bytes} (first : Right number 0 4 page a) where
-    abbrev page₁ : Bytes
-    page₁ = putMid 0 4 page a
+    pub second-start : r ≤ length page₁
+    second-start = omega (arith, second-place, puts-size first (omega (arith, second-place)))
 
-    pub number-put : Puts text₁ page page₁ 4
-    number-put = number-after number 4 (omega arith) (omega arith) (asked .1 .fourDigits) (puts-same page 0 (omega arith)) first
+    pub second-lent : (length name ≤ 16) × (16 < length (midOf r (length page₁ - r) page₁))
+    second-lent = (fits .sixteenBytes, omega (arith, second-place, rest-size first (omega (arith, second-place))))
 
-    module _ {b : Bytes} (second : b ≡ leftAligned (length (midOf 5 16 (set page₁ 4 32))) name) where
+    module _ {part₂ : Bytes} {q : ℕ} (second : Puts (Left 16 name) (midOf r (length page₁ - r) page₁) part₂ q) where
       abbrev page₂ : Bytes
-      page₂ = putMid 5 16 (set page₁ 4 32) b
+      page₂ = putMid r (length page₁ - r) page₁ part₂
 
-      pub name-put : Puts text₂ page page₂ 21
-      name-put =
-          puts-fill (puts-byte number-put 32 (omega arith)) (λ width. leftAligned width name) 21 (omega arith) (omega arith) (left-length 16 name (asked .1 .sixteenBytes)) second
+      two : Puts (Right 4 number ++ Left 16 name) page page₂ (r + q)
+      two = rest-next first (omega (arith, second-place)) second
 
-      module _ {c : Bytes} (third : Right subgoals 22 2 (set page₂ 21 32) c) where
+      third-place : r + q ≡ 22
+      third-place = omega (arith, second-place, second .many, length-end (leftAligned 16 name) 32, left-length 16 name (fits .sixteenBytes))
+
+      pub third-fits : Fits w64 (r + q)
+      third-fits = omega (arith, third-place)
+
+      pub third-start : r + q ≤ length page₂
+      third-start = omega (arith, third-place, puts-size two (omega (arith, third-place)))
+
+      pub third-lent : (length (decimal subgoals) ≤ 2) × (2 < length (midOf (r + q) (length page₂ - (r + q)) page₂))
+      third-lent = (fits .twoDigits, omega (arith, third-place, rest-size two (omega (arith, third-place))))
+
+      module _ {part₃ : Bytes} {s : ℕ} (third : Puts (Right 2 subgoals) (midOf (r + q) (length page₂ - (r + q)) page₂) part₃ s) where
         abbrev page₃ : Bytes
-        page₃ = putMid 22 2 (set page₂ 21 32) c
+        page₃ = putMid (r + q) (length page₂ - (r + q)) page₂ part₃
 
-        pub subgoals-put : Puts text₃ page page₃ 24
-        subgoals-put = number-after subgoals 24 (omega arith) (omega arith) (asked .1 .twoDigits) (puts-byte name-put 32 (omega arith)) third
+        three : Puts ((Right 4 number ++ Left 16 name) ++ Right 2 subgoals) page page₃ (r + q + s)
+        three = rest-next two (omega (arith, third-place)) third
 
-        module _ {d : Bytes} (fourth : Right multipliers 25 3 (set page₃ 24 32) d) where
+        fourth-place : r + q + s ≡ 25
+        fourth-place = omega (arith, third-place, third .many, right-size 2 subgoals (fits .twoDigits))
+
+        pub fourth-fits : Fits w64 (r + q + s)
+        fourth-fits = omega (arith, fourth-place)
+
+        pub fourth-start : r + q + s ≤ length page₃
+        fourth-start = omega (arith, fourth-place, puts-size three (omega (arith, fourth-place)))
+
+        pub fourth-lent : (length (decimal multipliers) ≤ 3) × (3 < length (midOf (r + q + s) (length page₃ - (r + q + s)) page₃))
+        fourth-lent = (fits .threeDigits, omega (arith, fourth-place, rest-size three (omega (arith, fourth-place))))
+
+        module _ {part₄ : Bytes} {t : ℕ} (fourth : Puts (Right 3 multipliers) (midOf (r + q + s) (length page₃ - (r + q + s)) page₃) part₄ t) where
           abbrev page₄ : Bytes
-          page₄ = putMid 25 3 (set page₃ 24 32) d
+          page₄ = putMid (r + q + s) (length page₃ - (r + q + s)) page₃ part₄
 
-          pub multipliers-put : Puts text₄ page page₄ 28
-          multipliers-put = number-after multipliers 28 (omega arith) (omega arith) (asked .1 .threeDigits) (puts-byte subgoals-put 32 (omega arith)) fourth
+          four : Puts (((Right 4 number ++ Left 16 name) ++ Right 2 subgoals) ++ Right 3 multipliers) page page₄ (r + q + s + t)
+          four = rest-next three (omega (arith, fourth-place)) fourth
 
-          module _ {e : Bytes} (fifth : e ≡ spaces (length (midOf 28 36 page₄))) where
-            abbrev page₅ : Bytes
-            page₅ = putMid 28 36 page₄ e
+          last-place : r + q + s + t ≡ 29
+          last-place = omega (arith, fourth-place, fourth .many, right-size 3 multipliers (fits .threeDigits))
 
-            pub spaces-put : Puts (text₄ ++ spaces 36) page page₅ 64
-            spaces-put = puts-fill multipliers-put spaces 64 (omega arith) (omega arith) (spaces-length 36) fifth
+          pub last-fits : Fits w64 (r + q + s + t)
+          last-fits = omega (arith, last-place)
 
-            pub line-put : set page₅ 64 10 ≡ over (sheetLine number (entry name subgoals multipliers) ++ (10 ∷ [])) page
-            line-put = puts-over (puts-byte spaces-put 10 (omega arith)) ∙ ap (λ (line : Bytes). over (line ++ (10 ∷ [])) page) line-text
+          pub last-left : r + q + s + t ≤ 64
+          last-left = omega (arith, last-place)
+
+          pub last-start : r + q + s + t ≤ length page₄
+          last-start = omega (arith, last-place, puts-size four (omega (arith, last-place)))
+
+          pub last-lent : 64 - (r + q + s + t) < length (midOf (r + q + s + t) (length page₄ - (r + q + s + t)) page₄)
+          last-lent = omega (arith, last-place, rest-size four (omega (arith, last-place)))
+
+          pub line-fits : {part₅ : Bytes} {u : ℕ} → Puts (spaces (64 - (r + q + s + t)) ++ (10 ∷ [])) (midOf (r + q + s + t) (length page₄ - (r + q + s + t)) page₄) part₅ u → Fits w64 (r + q + s + t + u)
+          line-fits fifth = omega (arith, last-place, fifth .many, length-end (spaces (64 - (r + q + s + t))) 10, spaces-length (64 - (r + q + s + t)))
+
+          pub line-put : {part₅ : Bytes} {u : ℕ} → Puts (spaces (64 - (r + q + s + t)) ++ (10 ∷ [])) (midOf (r + q + s + t) (length page₄ - (r + q + s + t)) page₄) part₅ u
+              → Puts (sheetLine number (entry name subgoals multipliers) ++ (10 ∷ [])) page (putMid (r + q + s + t) (length page₄ - (r + q + s + t)) page₄ part₅) (r + q + s + t + u)
+          line-put {part₅} {u} fifth =
+              let blank : 64 - (r + q + s + t) ≡ 35 = omega (arith, last-place) in
+              let all = rest-next four (omega (arith, last-place)) fifth in
+              subst (λ (bytes : Bytes). Puts bytes page (putMid (r + q + s + t) (length page₄ - (r + q + s + t)) page₄ part₅) (r + q + s + t + u))
+              (ap (λ (n : ℕ). (((Right 4 number ++ Left 16 name) ++ Right 2 subgoals) ++ Right 3 multipliers) ++ (spaces n ++ (10 ∷ []))) blank ∙ line-text)
+              all

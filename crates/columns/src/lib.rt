@@ -1,49 +1,56 @@
-// The columns of the sheet, and a line of it. Each writer is lent the part of the page that it fills.
-ghost use mathlib.Core.Path.{_≡_};
+// The columns of the sheet, and a line of it. Each writer is lent the rest of the page, and gives how many bytes it wrote.
 ghost use mathlib.Core.List.{[], _∷_, _++_};
-ghost use Prim.Native.Nat.{_≤_};
+ghost use Prim.Native.Nat.{_≤_, _<_};
 ghost use lib.ListN.{length};
-ghost use Rattle.theory.specs.Lists.{over};
 ghost use Rattle.theory.specs.Text.{decimal};
-ghost use Rattle.theory.specs.Sheet.{rightAligned, leftAligned, entry, sheetLine, FitsColumns};
+ghost use Rattle.theory.specs.Sheet.{spaces, rightAligned, leftAligned, entry, sheetLine};
+ghost use Rattle.theory.proofs.Reading.Alignment.{FitsColumns};
+ghost use Rattle.pages.specs.Pages.{Puts};
 
-/// A number at the right edge of its column.
-fn put_number(column: &mut [u8], n: usize)
-    requires { ⌜ length (decimal n) ≤ length (now column) ⌝ }
-    ensures { λ r. ⌜ now (column .exit) ≡ rightAligned (length (now (column .entry))) (decimal n) ⌝ }
+/// A number at the right edge of a column, and the space after it.
+fn put_number(page: &mut [u8], width: usize, n: usize) -> usize
+    requires { ⌜ (length (decimal n) ≤ width) × (width < length (now page)) ⌝ }
+    ensures { λ r. ⌜ Puts (rightAligned width (decimal n) ++ (32 ∷ [])) (now (page .entry)) (now (page .exit)) r ⌝ }
 {
-    let at = column.len() - pages::digits(n as u64);
-    pages::put_spaces(&mut column[..at]);
-    pages::put_decimal(&mut column[at..], n as u64);
+    let start = width - pages::digits(n as u64);
+    pages::put_spaces(&mut page[..start]);
+    pages::put_field(page, start, n as u64, b' ')
 }
 
-/// A name at the left edge of its column.
-fn put_name(column: &mut [u8], name: &[u8])
-    requires { ⌜ length (now name) ≤ length (now column) ⌝ }
-    ensures { λ r. ⌜ now (column .exit) ≡ leftAligned (length (now (column .entry))) (now (name .entry)) ⌝ }
+/// A name at the left edge of a column, and the space after it.
+fn put_name(page: &mut [u8], width: usize, name: &[u8]) -> usize
+    requires { ⌜ (length (now name) ≤ width) × (width < length (now page)) ⌝ }
+    ensures { λ r. ⌜ Puts (leftAligned width (now (name .entry)) ++ (32 ∷ [])) (now (page .entry)) (now (page .exit)) r ⌝ }
 {
-    let at = bytes::copy(name, column);
-    pages::put_spaces(&mut column[at..]);
+    let end = bytes::copy(name, page);
+    pages::put_spaces(&mut page[end..width + 1]);
+    width + 1
 }
 
-/// A rule's line, with its byte 10, at the front of a page.
+/// The end of a line: so many spaces, and its byte 10.
+fn put_end(page: &mut [u8], blank: usize) -> usize
+    requires { ⌜ blank < length (now page) ⌝ }
+    ensures { λ r. ⌜ Puts (spaces blank ++ (10 ∷ [])) (now (page .entry)) (now (page .exit)) r ⌝ }
+{
+    pages::put_spaces(&mut page[..blank]);
+    page[blank] = b'\n';
+    blank + 1
+}
+
+/// A rule's line, with its byte 10, at the front of a page. Each column is laid into the rest of the page.
 pub fn put_line(
     page: &mut [u8],
     number: usize,
     name: &[u8],
     subgoals: usize,
     multiplier_lines: usize,
-)
+) -> usize
     requires { ⌜ (65 ≤ length (now page)) × FitsColumns number (entry (now name) subgoals «multiplier_lines») ⌝ }
-    ensures { λ r. ⌜ now (page .exit) ≡ over (sheetLine number (entry (now (name .entry)) subgoals «multiplier_lines») ++ (10 ∷ [])) (now (page .entry)) ⌝ }
+    ensures { λ r. ⌜ Puts (sheetLine number (entry (now (name .entry)) subgoals «multiplier_lines») ++ (10 ∷ [])) (now (page .entry)) (now (page .exit)) r ⌝ }
 {
-    put_number(&mut page[0..4], number);
-    page[4] = b' ';
-    put_name(&mut page[5..21], name);
-    page[21] = b' ';
-    put_number(&mut page[22..24], subgoals);
-    page[24] = b' ';
-    put_number(&mut page[25..28], multiplier_lines);
-    pages::put_spaces(&mut page[28..64]);
-    page[64] = b'\n';
+    let second = put_number(page, 4, number);
+    let third = second + put_name(&mut page[second..], 16, name);
+    let fourth = third + put_number(&mut page[third..], 2, subgoals);
+    let last = fourth + put_number(&mut page[fourth..], 3, multiplier_lines);
+    last + put_end(&mut page[last..], 64 - last)
 }

@@ -109,9 +109,8 @@ fn name_of(line: &[u8], classes: &[u8; 256]) -> Naming
     if line.len() < 2 {
         return Naming::NoName;
     }
-    let ends = words::word_end(line, 2, classes);
-    let stop = reader::field_end(line, ends);
-    let word = words::word_by_end(line, 2, stop, ends, classes);
+    let stop = reader::field_end(line, 2);
+    let word = words::word_of(&line[2..stop], classes);
     match word {
         Word::Name(words) => Naming::Found(Named { words, stop }),
         Word::Variable(_) => Naming::NoName,

@@ -4,11 +4,8 @@ use mathlib.Core.Bool.{false}
 use mathlib.Core.List.{List}
 use Prim.Native.Nat.{ℕ}
 use native.Mathlib.Omega.{arith}
-use lib.ListN.{length}
 use Rattle.groundwork.proofs.Truth.{never-both}
 use Rattle.theory.specs.Text.{Bytes}
-use Rattle.text.specs.Scans.{part}
-use Rattle.text.proofs.Parts.{part-rest}
 use Rattle.words.specs.declared.Word.{Word}
 use Rattle.words.specs.declared.Word.the-variants.{Name, Variable, Neither}
 use Rattle.words.specs.declared.Words.{Words}
@@ -17,10 +14,7 @@ use Rattle.words.proofs.WordKinds.{isNameWord, name-told, read-words}
 use Rattle.tables.specs.Tables.{signature, signatureAt}
 use Rattle.queries.specs.Queries.{Means}
 
-module _ (field : Bytes) (arity : ℕ) (names signatures : List ℕ) (known : ℕ) (word : Word) (between : WordRead (part field 0 (length field)) word) where
-  read : WordRead field word
-  read = rw (part-rest field 0) at between
-
+module _ (field : Bytes) (arity : ℕ) (names signatures : List ℕ) (known : ℕ) (word : Word) (read : WordRead field word) where
   unnamed : isNameWord word ≡ false → Means field arity names signatures known known
   unnamed other = record {
     high = omega arith;

@@ -89,7 +89,7 @@ fn named_by(
     ensures { λ r. ⌜ Means (now (field .entry)) arity (now (names .entry)) (now (signatures .entry)) known r ⌝ }
 {
     let classes = words::class_table();
-    let word = words::word_between(field, 0, field.len(), &classes);
+    let word = words::word_of(field, &classes);
     match word {
         Word::Name(words) => tables::place(names, signatures, known, words, arity),
         Word::Variable(_) => known,

@@ -11,24 +11,25 @@ use theory::Counts;
 use theory::Filing;
 use theory::Verdict;
 
-/// Writes the sheet of an accepted text with so many rules, line by line, each into the rest of the page.
+/// Writes the sheet of an accepted text with so many rules, line by line, each into the rest of the page behind the last one.
 fn put_sheet(text: &[u8], rules: usize, page: &mut [u8])
     requires { ⌜ Ready (now text) rules (now page) ⌝ }
     ensures { λ r. ⌜ now (page .exit) ≡ over (sheetFor (packOf (now (text .entry)) .rules)) (now (page .entry)) ⌝ }
 {
-    let mut at = sections::rules_begin(text);
+    let mut from = sections::rules_begin(text);
+    let mut at: usize = 0;
     let mut number: usize = 0;
     while number < rules {
-        let rule = sections::rule_at(text, at);
+        let rule = sections::rule_at(text, from);
         let name_end = rule.name_end;
-        columns::put_line(
-            &mut page[65 * number..],
+        at += columns::put_line(
+            &mut page[at..],
             number + 1,
-            &text[at + 2..name_end],
+            &text[from + 2..name_end],
             rule.subgoals,
             rule.multiplier_lines,
         );
-        at = rule.after;
+        from = rule.after;
         number += 1;
     }
 }

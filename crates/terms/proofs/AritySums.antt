@@ -1,12 +1,15 @@
--- The loop of `sum_of_arities`: the arities passed are summed.
+-- The loop of `sum_of_arities`: the arities passed are summed. Of a row that was read from a term it is the term's sum.
 use mathlib.Core.Path.{_≡_, refl, sym, _∙_, ap}
 use mathlib.Core.List.{List}
+use mathlib.Core.Option.{some}
 use Prim.Native.Nat.{ℕ, _+_, _*_, _≤_, _<_}
 use native.Mathlib.Omega.{arith}
 use lib.ListN.{getD, take}
 use Rattle.theory.specs.Lists.{total}
+use Rattle.theory.specs.Text.{Bytes}
+use Rattle.theory.specs.Terms.{Term, readTerm}
 use Rattle.theory.specs.Sizes.{sumOfArities}
-use Rattle.tokens.specs.TokenRows.{SmallArities}
+use Rattle.tokens.specs.TokenRows.{SmallArities, SymbolsStand}
 use Rattle.terms.proofs.Totals.{total-more}
 use Rattle.terms.specs.Constants.{AritiesSummed}
 
@@ -34,10 +37,11 @@ module _ (arities : List ℕ) (symbols : ℕ) (digits : SmallArities arities sym
           }
 
     pub summing-all : symbols ≤ i → AritiesSummed arities symbols sum
-    unfolding sumOfArities
     summing-all past =
         let same : i ≡ symbols = omega (arith, summing .high) in
-        record {
-          is = λ field stand t e. summing .is ∙ ap (λ (n : ℕ). total (take n arities)) same ∙ ap total (sym (stand .all t e));
-          small = omega (arith, summing .small, digits .few);
-        }
+        record { is = summing .is ∙ ap (λ (n : ℕ). total (take n arities)) same; small = omega (arith, summing .small, digits .few) }
+
+-- where the arities are those of a term's symbols, their sum is the constant of its form
+pub term-summed : {arities : List ℕ} {symbols r : ℕ} {field : Bytes} → AritiesSummed arities symbols r → SymbolsStand field arities symbols → (t : Term) → readTerm field ≡ some t → r ≡ sumOfArities t
+unfolding sumOfArities
+term-summed summed stand t e = summed .is ∙ ap total (sym (stand .all t e))

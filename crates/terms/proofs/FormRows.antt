@@ -18,6 +18,7 @@ use Rattle.tokens.specs.TokenRows.{SmallArities, PlacesStand, TokensRead}
 use Rattle.terms.specs.Constants.{AritiesSummed}
 use Rattle.terms.specs.Rows.{OccurrencesStand, Counted}
 use Rattle.terms.specs.TermForms.{RowStands, FormTaken}
+use Rattle.terms.proofs.AritySums.{term-summed}
 
 -- both parts of a term's size in a row are its form
 row-of-parts : (rows : List ℕ) (base : ℕ) (xs : List Bytes) (t : Term) → getD rows base 0 ≡ sumOfArities t → OccurrencesStand rows base xs t → RowStands rows base xs t
@@ -65,7 +66,7 @@ module _ (field : Bytes) (read : Tokens) (arities places : List ℕ) (read-is : 
       nameSize = second .nameSize;
       from = λ seen holds number size t e.
           let found = second .from seen holds number size t e in
-          let constant = getD-set-same counts base sum 0 (omega (arith, second .elsewhere .size)) ∙ first .is field (read-is .stand good .0) t e in
+          let constant = getD-set-same counts base sum 0 (omega (arith, second .elsewhere .size)) ∙ term-summed first (read-is .stand good .0) t e in
           record {
             few = found .few;
             many = found .many;

@@ -20,6 +20,7 @@ use Rattle.theory.proofs.Reading.Presence.{is-some, is-none, empty-is, filled-i
 use Rattle.tokens.specs.declared.Tokens.{Tokens}
 use Rattle.tokens.specs.TokenRows.{TokensRead}
 use Rattle.terms.specs.Constants.{AritiesSummed}
+use Rattle.terms.proofs.AritySums.{term-summed}
 
 module _ (s : Bytes) (unfit : Bool) (unfit-is : unfit ≡ isUnfit s) where
   pub measure-unfit : unfit ≡ true → measured 4 0 ≡ measureOf s
@@ -52,7 +53,7 @@ module _ (s : Bytes) (unfit : Bool) (unfit-is : unfit ≡ isUnfit s) where
 
         module _ (sum : ℕ) (sum-is : AritiesSummed arities (read .symbols) sum) where
           summed : sum ≡ size structural term
-          summed = sum-is .is s (read-is .stand good .0) term (found .1) ∙ sym (section-form term .first)
+          summed = term-summed sum-is (read-is .stand good .0) term (found .1) ∙ sym (section-form term .first)
 
           pub measure-size : read .variables ≤ 0 → (m : Measurement) → m ≡ Size sum → measuredOf m ≡ measureOf s
           unfolding measureOf measureTerm

@@ -1,14 +1,11 @@
--- The first step of a term's size (000, section 1.4): the sum of the arities of its symbols, which is the constant of its form.
+-- The first step of a term's size (000, section 1.4): the sum of a row of arities.
 use mathlib.Core.Path.{_≡_}
 use mathlib.Core.List.{List}
-use mathlib.Core.Option.{some}
 use Prim.Native.Nat.{ℕ, _≤_}
-use Rattle.theory.specs.Text.{Bytes}
-use Rattle.theory.specs.Terms.{Term, readTerm}
-use Rattle.theory.specs.Sizes.{sumOfArities}
-use Rattle.tokens.specs.TokenRows.{SymbolsStand}
+use lib.ListN.{take}
+use Rattle.theory.specs.Lists.{total}
 
--- where the arities are those of a term's symbols: their sum
+-- r is the sum of the first numbers in the row, whatever they were read from
 pub record AritiesSummed (arities : List ℕ) (symbols r : ℕ) : Type 0 where
-  pub is : (field : Bytes) → SymbolsStand field arities symbols → (t : Term) → readTerm field ≡ some t → r ≡ sumOfArities t
+  pub is : r ≡ total (take symbols arities)
   pub small : r ≤ 4608

@@ -13,6 +13,8 @@ mod plain;
 
 pub use counts::count;
 pub use eights::eight_bytes;
+pub use eights::four_bytes;
+pub use eights::two_bytes;
 pub use plain::is_plain;
 pub use plain::is_unfit_in;
 

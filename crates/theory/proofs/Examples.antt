@@ -162,7 +162,25 @@ dots n = replicate n (code ".")
 abbrev joinedSheet : Bytes
 joinedSheet = bytes "   1 join              0   2                                    \n   2 join              1   2                                    \n"
 
--- a page that is longer, just long enough, and too short; no rules, and no page; a refused pack, and no page
+-- ten rules, the last with a name of 16 bytes and ten `M` lines, and the first 28 columns of each line
+abbrev tenRules : String
+tenRules = "P,k,0,R\nP,abcdefghijklmn_9,0,R\nC,abcdefghijklmn_9,0\nC,abcdefghijklmn_9,0\nC,abcdefghijklmn_9,0\nC,abcdefghijklmn_9,0\nC,abcdefghijklmn_9,0\nC,abcdefghijklmn_9,0\nC,abcdefghijklmn_9,0\nC,abcdefghijklmn_9,0\nC,abcdefghijklmn_9,0\nC,abcdefghijklmn_9,0\nH,k\nH,k\nH,k\nH,k\nH,k\nH,k\nH,k\nH,k\nH,k\nH,abcdefghijklmn_9\nM\nM\nM\nM\nM\nM\nM\nM\nM\nM\nE\n"
+
+abbrev tenLines : List String
+tenLines =
+    "   1 k                 0   0"
+    ∷ "   2 k                 0   0"
+    ∷ "   3 k                 0   0"
+    ∷ "   4 k                 0   0"
+    ∷ "   5 k                 0   0"
+    ∷ "   6 k                 0   0"
+    ∷ "   7 k                 0   0"
+    ∷ "   8 k                 0   0"
+    ∷ "   9 k                 0   0"
+    ∷ "  10 abcdefghijklmn_9  0  10"
+    ∷ []
+
+-- a page that is longer, just long enough, and too short; no rules, and no page; a refused pack, and no page; wide entries
 abbrev pub withSheets : List Row
 withSheets =
     (sheetOn joining (dots 133) gives filed (paged (numbers 0 11 2 4) (joinedSheet ++ dots 3)))
@@ -170,11 +188,12 @@ withSheets =
     ∷ (sheetOn joining (dots 129) gives filed (paged (numbers 23 0 0 0) (dots 129)))
     ∷ (sheetOn "E\n" [] gives filed (paged (numbers 0 1 0 0) []))
     ∷ (sheetOn "P,k,0,R\nH,k\nH,k,x\nE\n" (dots 5) gives filed (paged (numbers 8 3 0 0) (dots 5)))
+    ∷ (sheetOn tenRules (dots 650) gives filed (paged (numbers 0 33 10 10) (flatMap (λ (s : String). bytes s ++ (replicate 36 (code " ") ++ (10 ∷ []))) tenLines)))
     ∷ []
 
 pub sheets-are-met : TableMet withSheets
 unfolding answerTo
-sheets-are-met = record { answers = refl; besides = (tt, (tt, (tt, (tt, (tt, tt))))) }
+sheets-are-met = record { answers = refl; besides = (tt, (tt, (tt, (tt, (tt, (tt, tt)))))) }
 
 -- ---- 02, 3/14: a misspelt head
 

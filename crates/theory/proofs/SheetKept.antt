@@ -1,11 +1,11 @@
 -- The sheet's promise, of every text and page: when the call succeeds, what it leaves on the page, and what that tells.
-use mathlib.Core.Path.{_≡_, refl, sym, _∙_, ap}
+use mathlib.Core.Path.{_≡_, refl, sym, _∙_, ap, subst}
 use mathlib.Core.Bool.{Bool, true, false, cond}
-use mathlib.Core.List.{List, map}
-use Prim.Native.Nat.{ℕ, _*_, _≤_, _<_}
+use mathlib.Core.List.{List, [], _∷_, _++_, map}
+use Prim.Native.Nat.{ℕ, _+_, _*_, _≤_, _<_}
 use native.Mathlib.Omega.{arith}
 use lib.Dec.{eqb, ltb}
-use lib.ListN.{length, take, drop}
+use lib.ListN.{length, getD, take, drop}
 use lib.Seq.{take-at, drop-at}
 use Rattle.groundwork.proofs.Lists.{split-member}
 use Rattle.groundwork.proofs.Truth.{eqb-equal, eqb-unequal, ltb-lt, ltb-ge}
@@ -15,11 +15,12 @@ use Rattle.theory.specs.Packs.{Rule}
 use Rattle.theory.specs.Written.{packOf}
 use Rattle.theory.specs.Check.{numbers, verdictOf}
 use Rattle.theory.specs.Pages.{Paged, paged, afterVerdict}
-use Rattle.theory.specs.Sheet.{sheetLines, sheet, sheetOf, wordsIn, told, SheetTells, SheetKept}
+use Rattle.theory.specs.Sheet.{ruleEntry, sheetLine, sheetLines, sheet, sheetOf, ColumnsStand, SheetTells, SheetKept, SheetPromised}
 use Rattle.theory.proofs.Judging.Acceptance.{accepted-pack}
 use Rattle.theory.proofs.Sheets.Widths.{rule-fits-columns}
-use Rattle.theory.proofs.Sheets.SheetLines.{AllListed, sheet-columns, sheet-lines, sheet-size}
-use Rattle.theory.proofs.Sheets.SheetWords.{sheet-words, told-entries}
+use Rattle.theory.proofs.Sheets.SheetLines.{AllListed, sheet-lines, sheet-size}
+use Rattle.theory.proofs.Sheets.SheetColumns.{columns-stand, lines-many, line-of-rule}
+use Rattle.theory.proofs.Sheets.SheetWords.{wordsIn, told, sheet-words, told-entries}
 
 -- ---- an accepted text
 
@@ -45,13 +46,19 @@ pub sheet-length : (text : Bytes) → IsAccepted text → length (sheet (rulesOf
 unfolding sheet
 sheet-length text ok = sheet-size 1 (rulesOf text) (all-listed text ok)
 
+-- the line of a rule
+rule-line : (text : Bytes) → IsAccepted text → (before after : List Rule) (r : Rule) → rulesOf text ≡ before ++ r ∷ after
+    → getD (linesOf (sheet (rulesOf text))) (length before) [] ≡ sheetLine (length before + 1) (ruleEntry r)
+rule-line text ok before after r split =
+    ap (λ (ls : List Bytes). getD ls (length before) []) (sheet-text-lines text ok ∙ ap (sheetLines 1) split) ∙ line-of-rule 1 before after r
+
 sheet-tells : (text : Bytes) → IsAccepted text → SheetTells text
 sheet-tells text ok = record {
-  fit = rule-fits-columns (packOf text) (accepted-pack text ok .fits);
-  lines = sheet-text-lines text ok;
-  columns = sheet-columns 1 (rulesOf text) (all-listed text ok);
+  lines = ap length (sheet-text-lines text ok) ∙ lines-many 1 (rulesOf text);
+  stand = λ before after r split.
+      subst (ColumnsStand (length before + 1) r) (sym (rule-line text ok before after r split))
+      (columns-stand (length before + 1) r (rule-fits-columns (packOf text) (accepted-pack text ok .fits) before after r split));
   size = sheet-length text ok;
-  words = words text ok;
   determines = λ other fine same. told-entries 1 (rulesOf text) (rulesOf other) (sym (words text ok) ∙ ap (λ (s : Bytes). map wordsIn (linesOf s)) same ∙ words other fine);
 }
   where
@@ -141,3 +148,6 @@ sheet-kept text page =
       rest = rest text page e;
       tells = λ zero. sheet-tells text (succeeds text page e zero .0);
     }
+
+pub sheet-promised : SheetPromised
+sheet-promised = record { kept = sheet-kept }

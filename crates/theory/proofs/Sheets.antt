@@ -2,3 +2,4 @@
 pub mod Widths
 pub mod SheetLines
 pub mod SheetWords
+pub mod SheetColumns

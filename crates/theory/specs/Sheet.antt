@@ -6,9 +6,9 @@ use mathlib.Core.List.{List, [], _∷_, _++_, map}
 use Prim.Native.Nat.{ℕ, _+_, _-_, _*_, _≤_, _<_}
 use Prim.Native.Char.{code}
 use lib.Dec.{ltb}
-use lib.ListN.{length, take, drop, replicate}
-use Rattle.theory.specs.Lists.{_∈_, isEmpty, over}
-use Rattle.theory.specs.Text.{Bytes, partsAt, joined, linesOf, decimal}
+use lib.ListN.{length, getD, take, drop, replicate}
+use Rattle.theory.specs.Lists.{over}
+use Rattle.theory.specs.Text.{Bytes, joined, linesOf, decimal}
 use Rattle.theory.specs.Packs.{Rule, textOf}
 use Rattle.theory.specs.Written.{packOf}
 use Rattle.theory.specs.Check.{numbers, verdictOf}
@@ -72,40 +72,34 @@ sheetOf text page =
 
 -- ## What is promised of it
 
--- nothing is wider than its columns
-pub record FitsColumns (number : ℕ) (e : Entry) : Type 0 where
-  pub fourDigits : length (decimal number) ≤ 4
-  pub sixteenBytes : length (e .name) ≤ 16
-  pub twoDigits : length (decimal (e .subgoals)) ≤ 2
-  pub threeDigits : length (decimal (e .multiplierLines)) ≤ 3
+-- bytes that are spaces and then a text, and bytes that are a text and then spaces
+abbrev pub AtRight : Bytes → Bytes → Type 0
+AtRight text column = (many : ℕ) × (column ≡ replicate many (code " ") ++ text)
 
--- the parts of a line that are not empty
-unfoldable pub filled : List Bytes → List Bytes
-filled [] = []
-filled (part ∷ parts) = cond (isEmpty part) (filled parts) (part ∷ filled parts)
+abbrev pub AtLeft : Bytes → Bytes → Type 0
+AtLeft text column = (many : ℕ) × (column ≡ text ++ replicate many (code " "))
 
--- the words of a line: what stands between its spaces
-abbrev pub wordsIn : Bytes → List Bytes
-wordsIn l = filled (partsAt (code " ") l)
-
--- the words of a rule's line: its number, its head's name and both counts
-abbrev pub lineWords : ℕ → Entry → List Bytes
-lineWords number e = decimal number ∷ e .name ∷ decimal (e .subgoals) ∷ decimal (e .multiplierLines) ∷ []
-
-unfoldable pub told : ℕ → List Rule → List (List Bytes)
-told number [] = []
-told number (r ∷ rs) = lineWords number (ruleEntry r) ∷ told (number + 1) rs
+-- Where the columns of a rule's line stand, by the places of its bytes, counted from 0.
+pub record ColumnsStand (number : ℕ) (r : Rule) (line : Bytes) : Type 0 where
+  pub width : length line ≡ 64
+  pub ruleNumber : AtRight (decimal number) (take 4 line)
+  pub afterNumber : getD line 4 0 ≡ code " "
+  pub name : AtLeft (r .head .name) (take 16 (drop 5 line))
+  pub afterName : getD line 21 0 ≡ code " "
+  pub subgoals : AtRight (decimal (length (r .subgoals))) (take 2 (drop 22 line))
+  pub afterSubgoals : getD line 24 0 ≡ code " "
+  pub multiplierLines : AtRight (decimal (length (r .multipliers))) (take 3 (drop 25 line))
+  pub rest : AtLeft [] (drop 28 line)
 
 -- The sheet of an accepted text.
 pub record SheetTells (text : Bytes) : Type 0 where
-  pub fit : (before after : List Rule) (r : Rule) → packOf text .rules ≡ before ++ r ∷ after → FitsColumns (length before + 1) (ruleEntry r)
-  -- a line for each rule, of exactly 64 columns before its byte 10; so 65 bytes a rule
-  pub lines : linesOf (sheet (packOf text .rules)) ≡ sheetLines 1 (packOf text .rules)
-  pub columns : (l : Bytes) → l ∈ sheetLines 1 (packOf text .rules) → length l ≡ 64
+  -- a line for each rule, in their order: each column stands at its place
+  pub lines : length (linesOf (sheet (packOf text .rules))) ≡ length (packOf text .rules)
+  pub stand : (before after : List Rule) (r : Rule) → packOf text .rules ≡ before ++ r ∷ after
+      → ColumnsStand (length before + 1) r (getD (linesOf (sheet (packOf text .rules))) (length before) [])
+  -- each line ends with byte 10, so 65 bytes a rule
   pub size : length (sheet (packOf text .rules)) ≡ 65 * length (packOf text .rules)
-  -- nothing is cut off: each line's words are those of its rule
-  pub words : map wordsIn (linesOf (sheet (packOf text .rules))) ≡ told 1 (packOf text .rules)
-  -- so packs with the same sheet have the same names and counts
+  -- packs with the same sheet have the same names and counts
   pub determines : (other : Bytes) → verdictOf other .returned .number ≡ 0 → sheet (packOf text .rules) ≡ sheet (packOf other .rules)
       → map ruleEntry (packOf text .rules) ≡ map ruleEntry (packOf other .rules)
 
@@ -121,3 +115,7 @@ pub record SheetKept (text page : Bytes) : Type 0 where
   pub front : sheetOf text page .returned .number ≡ 0 → take (65 * length (packOf text .rules)) (sheetOf text page .page) ≡ sheet (packOf text .rules)
   pub rest : drop (65 * length (packOf text .rules)) (sheetOf text page .page) ≡ drop (65 * length (packOf text .rules)) page
   pub tells : sheetOf text page .returned .number ≡ 0 → SheetTells text
+
+-- The promise.
+pub record SheetPromised : Type 0 where
+  pub kept : (text page : Bytes) → SheetKept text page

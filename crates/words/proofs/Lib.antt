@@ -5,8 +5,8 @@ pub mod Letters
 -- What the functions' proofs cite.
 pub mod Entries
 pub mod WordEnds
-pub mod ByteSums
+pub mod FewBytes
 pub mod WordBytes
 pub mod WordReading
-pub mod WordsBetween
+pub mod FieldWords
 pub mod Places

@@ -1,5 +1,5 @@
 -- The loop of `word_end`: the bytes passed are those of a name.
-use mathlib.Core.Path.{_≡_, refl, _∙_, ap}
+use mathlib.Core.Path.{_≡_, _∙_}
 use mathlib.Core.Bool.{true, false}
 use Prim.Native.Nat.{ℕ, _+_, _≤_, _<_}
 use native.Mathlib.Omega.{arith}
@@ -7,10 +7,8 @@ use lib.ListN.{length, getD}
 use Rattle.groundwork.proofs.Truth.{equal-eqb, eqb-different}
 use Rattle.theory.specs.Lists.{every}
 use Rattle.theory.specs.Text.{Bytes, isNameByte}
-use Rattle.theory.proofs.Reading.Separators.{isFree, free-from}
-use Rattle.text.specs.Scans.{part, Finds}
-use Rattle.text.proofs.Classes.{every-of-append}
-use Rattle.text.proofs.Parts.{part-join, every-none, every-more}
+use Rattle.text.specs.Scans.{part}
+use Rattle.text.proofs.Parts.{every-none, every-more}
 use Rattle.words.specs.Classes.{Class, EndsWord}
 
 -- the bytes from `from` up to i are all of a name
@@ -36,19 +34,3 @@ module _ (s : Bytes) (from : ℕ) where
 
     pub named-all : length s ≤ i → EndsWord s from i
     named-all h = record { low = n .low; high = n .high; named = n .named; ended = λ k. absurd (omega arith) }
-
--- a field that begins with a word: its end is looked for from the word's end on
-comma-no-name : isNameByte 44 ≡ false
-unfolding isNameByte
-comma-no-name = refl
-
-pub word-then-field : {s : Bytes} {from e stop : ℕ} → EndsWord s from e → Finds s 44 e stop → Finds s 44 from stop
-word-then-field {s} {from} {e} {stop} word field =
-    record {
-      low = omega (arith, word .low, field .low);
-      high = field .high;
-      free =
-          ap (isFree 44) (part-join s from e stop (word .low) (field .low)) ∙ every-of-append _ (part s from e) (part s e stop)
-          ∙ rw (free-from isNameByte 44 comma-no-name (part s from e) (word .named), field .free);
-      found = field .found;
-    }

@@ -2,22 +2,17 @@
 use mathlib.Core.Path.{_≡_, refl, sym, _∙_, ap, ap₂}
 use mathlib.Core.Bool.{true, false, and-false}
 use mathlib.Core.List.{[], _∷_, _++_}
-use Prim.Native.Nat.{ℕ, _+_, _*_, _≤_, _<_}
+use Prim.Native.Nat.{ℕ, _≤_}
 use native.Mathlib.Omega.{arith}
-use lib.ListN.{length, getD, take, drop, take-append-drop}
+use lib.ListN.{take, drop, take-append-drop}
 use Rattle.groundwork.proofs.Truth.{and-left, gt-leb}
 use Rattle.theory.specs.Lists.{every}
 use Rattle.theory.specs.Text.{Bytes, isWord, isName, isVariable}
 use Rattle.theory.proofs.Reading.Bytes.{isTokenByte, between-low, between-high}
 use Rattle.theory.proofs.Reading.Every.{every-first, every-rest}
 use Rattle.text.specs.ByteNumbers.{number}
-use Rattle.text.proofs.Parts.{drop-more}
 use Rattle.text.proofs.Classes.{every-before, every-after}
 use Rattle.words.specs.Words.{wordsOf}
-
-pub number-at : (s : Bytes) (i : ℕ) → i < length s → number (drop i s) ≡ number (drop (i + 1) s) * 256 + getD s i 0
-unfolding number
-number-at s i h = ap number (drop-more s i h) ∙ omega arith
 
 token-low : (b : ℕ) → isTokenByte b ≡ true → 32 ≤ b
 token-low b h = between-low 32 126 b (and-left _ _ (and-left _ _ h))

@@ -7,14 +7,14 @@ mod hints;
 mod table;
 
 pub use few::words_at;
+pub use few::words_of;
 pub use hints::Hints;
 pub use hints::hash;
 pub use hints::place_by;
 pub use table::class_of;
 pub use table::class_table;
-pub use table::word_between;
-pub use table::word_by_end;
 pub use table::word_end;
+pub use table::word_of;
 
 /// A name or a variable as two words of eight bytes.
 pub struct Words {

@@ -1,7 +1,6 @@
 // The classes of bytes as a table, so that the test of a name byte is one look, and what is read by it.
 ghost use Prim.Native.Nat.{_≤_};
 ghost use lib.ListN.{length};
-ghost use Rattle.text.specs.Scans.{part};
 ghost use Rattle.words.specs.Classes.{Class, Classes, EndsWord};
 ghost use Rattle.words.specs.Words.{WordRead};
 use super::Word;
@@ -296,22 +295,23 @@ pub fn word_end(bytes: &[u8], from: usize, classes: &[u8; 256]) -> usize
     i
 }
 
-/// The bytes between two places as a word, where the first place whose byte no name has is known.
-pub fn word_by_end(bytes: &[u8], from: usize, end: usize, ends: usize, classes: &[u8; 256]) -> Word
-    requires { ⌜ (end ≤ length (now bytes)) × EndsWord (now bytes) from ends × Classes (now classes) ⌝ }
-    ensures { λ r. ⌜ WordRead (part (now (bytes .entry)) from end) r ⌝ }
+/// A field as a word: a name, a variable or neither.
+pub fn word_of(field: &[u8], classes: &[u8; 256]) -> Word
+    requires { ⌜ Classes (now classes) ⌝ }
+    ensures { λ r. ⌜ WordRead (now (field .entry)) r ⌝ }
 {
-    if end <= from {
+    let count = field.len();
+    if count == 0 {
         return Word::Neither;
     }
-    if 16 < end - from {
+    if 16 < count {
         return Word::Neither;
     }
-    if ends < end {
+    if word_end(field, 0, classes) < count {
         return Word::Neither;
     }
-    let words = super::words_at(bytes, from, end);
-    let class = class_of(bytes[from], classes);
+    let words = super::words_of(field);
+    let class = class_of(field[0], classes);
     if class == 1 {
         return Word::Name(words);
     }
@@ -319,13 +319,4 @@ pub fn word_by_end(bytes: &[u8], from: usize, end: usize, ends: usize, classes: 
         return Word::Variable(words);
     }
     Word::Neither
-}
-
-/// The bytes between two places as a word: a name, a variable or neither.
-pub fn word_between(bytes: &[u8], from: usize, end: usize, classes: &[u8; 256]) -> Word
-    requires { ⌜ (from ≤ end) × (end ≤ length (now bytes)) × Classes (now classes) ⌝ }
-    ensures { λ r. ⌜ WordRead (part (now (bytes .entry)) from end) r ⌝ }
-{
-    let ends = word_end(bytes, from, classes);
-    word_by_end(bytes, from, end, ends, classes)
 }

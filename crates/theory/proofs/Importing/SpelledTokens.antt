@@ -1,7 +1,7 @@
 -- However a text is cut, its names and variables are spelled as those of the subset.
 use mathlib.Core.Path.{_≡_, refl, sym, subst}
 use mathlib.Core.Bool.{Bool, true}
-use mathlib.Core.List.{List, [], _∷_, _++_, Memᴰ·append-left}
+use mathlib.Core.List.{List, _++_, Memᴰ·append-left}
 use Prim.Native.Nat.{ℕ}
 use Rattle.groundwork.proofs.Truth.{or-left, or-right}
 use Rattle.theory.specs.Lists.{_∈_, every}

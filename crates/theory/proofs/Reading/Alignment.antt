@@ -5,7 +5,14 @@ use Prim.Native.Char.{code}
 use native.Mathlib.Omega.{arith}
 use lib.ListN.{length, length-append, length-replicate}
 use Rattle.theory.specs.Text.{Bytes, decimal, joined}
-use Rattle.theory.specs.Sheet.{spaces, rightAligned, leftAligned, Entry, columns, sheetLine, FitsColumns}
+use Rattle.theory.specs.Sheet.{spaces, rightAligned, leftAligned, Entry, columns, sheetLine}
+
+-- nothing is wider than its columns
+pub record FitsColumns (number : ℕ) (e : Entry) : Type 0 where
+  pub fourDigits : length (decimal number) ≤ 4
+  pub sixteenBytes : length (e .name) ≤ 16
+  pub twoDigits : length (decimal (e .subgoals)) ≤ 2
+  pub threeDigits : length (decimal (e .multiplierLines)) ≤ 3
 
 pub spaces-length : (n : ℕ) → length (spaces n) ≡ n
 unfolding spaces

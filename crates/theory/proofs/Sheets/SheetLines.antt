@@ -10,8 +10,8 @@ use Rattle.groundwork.proofs.Lists.{all-cons}
 use Rattle.theory.specs.Lists.{_∈_, every}
 use Rattle.theory.specs.Text.{Bytes, isName, linesOf, decimal}
 use Rattle.theory.specs.Packs.{Rule, textOf}
-use Rattle.theory.specs.Sheet.{spaces, rightAligned, leftAligned, Entry, ruleEntry, columns, sheetLine, sheetLines, FitsColumns}
-use Rattle.theory.proofs.Reading.Alignment.{line-length}
+use Rattle.theory.specs.Sheet.{spaces, rightAligned, leftAligned, Entry, ruleEntry, columns, sheetLine, sheetLines}
+use Rattle.theory.proofs.Reading.Alignment.{FitsColumns, line-length}
 use Rattle.theory.proofs.Reading.Bytes.{isFieldByte}
 use Rattle.theory.proofs.Reading.Every.{every-append, every-replicate}
 use Rattle.theory.proofs.Reading.PlainFields.{plain-nil, plain-cons, name-plain, decimal-plain}
@@ -64,9 +64,6 @@ module _ (P : Bytes → Type 0) (of : (number : ℕ) (r : Rule) → Listed numbe
   unfolding sheetLines
   each-line number [] all = λ l m. absurd (List·Memᴰ·not-nil m)
   each-line number (r ∷ rules) all = all-cons P (of number r (listed-first number r rules all)) (each-line (number + 1) rules (listed-rest number r rules all))
-
-pub sheet-columns : (number : ℕ) (rules : List Rule) → AllListed number rules → (l : Bytes) → l ∈ sheetLines number rules → length l ≡ 64
-sheet-columns = each-line (λ l. length l ≡ 64) λ number r listed. line-length number (ruleEntry r) (listed .fits)
 
 pub sheet-lines : (number : ℕ) (rules : List Rule) → AllListed number rules → linesOf (textOf (sheetLines number rules)) ≡ sheetLines number rules
 sheet-lines number rules all =

@@ -1,21 +1,41 @@
 -- The words of a sheet's lines: each rule's number, its head's name and both counts. So the sheet determines them.
 use mathlib.Core.Path.{_≡_, refl, _∙_, ap, ap₂}
-use mathlib.Core.Bool.{true, false≢true}
+use mathlib.Core.Bool.{true, false≢true, cond}
 use mathlib.Core.List.{List, [], _∷_, _++_, map, append-assoc, head-eq-of-cons-eq, tail-eq-of-cons-eq}
 use Prim.Native.Nat.{ℕ, zero, suc, _+_, _-_, _≤_}
+use Prim.Native.Char.{code}
 use native.Mathlib.Omega.{arith}
 use lib.ListN.{length, getD}
 use Rattle.theory.specs.Lists.{isEmpty}
 use Rattle.theory.specs.Text.{Bytes, partsAt, joined, isWord, isName, decimal}
 use Rattle.theory.specs.Packs.{Rule}
-use Rattle.theory.specs.Sheet.{spaces, rightAligned, leftAligned, Entry, entry, ruleEntry, columns, sheetLine, sheetLines, FitsColumns, filled, wordsIn, lineWords, told}
-use Rattle.theory.proofs.Reading.Alignment.{columns-length}
+use Rattle.theory.specs.Sheet.{spaces, rightAligned, leftAligned, Entry, entry, ruleEntry, columns, sheetLine, sheetLines}
+use Rattle.theory.proofs.Reading.Alignment.{FitsColumns, columns-length}
 use Rattle.theory.proofs.Reading.Bytes.{isTokenByte}
 use Rattle.theory.proofs.Reading.Decimals.{decimal-same}
 use Rattle.theory.proofs.Reading.Digits.{digits-some}
 use Rattle.theory.proofs.Reading.Separators.{isFree, free-from, parts-cut, cut-off}
 use Rattle.theory.proofs.Reading.Spelling.{name-bytes, decimal-bytes}
 use Rattle.theory.proofs.Sheets.SheetLines.{AllListed, listed-first, listed-rest}
+
+-- ---- words
+
+-- the parts of a line that are not empty
+unfoldable pub filled : List Bytes → List Bytes
+filled [] = []
+filled (part ∷ parts) = cond (isEmpty part) (filled parts) (part ∷ filled parts)
+
+-- the words of a line: what stands between its spaces
+abbrev pub wordsIn : Bytes → List Bytes
+wordsIn l = filled (partsAt (code " ") l)
+
+-- the words of a rule's line: its number, its head's name and both counts
+abbrev pub lineWords : ℕ → Entry → List Bytes
+lineWords number e = decimal number ∷ e .name ∷ decimal (e .subgoals) ∷ decimal (e .multiplierLines) ∷ []
+
+unfoldable pub told : ℕ → List Rule → List (List Bytes)
+told number [] = []
+told number (r ∷ rs) = lineWords number (ruleEntry r) ∷ told (number + 1) rs
 
 -- ---- words and spaces
 

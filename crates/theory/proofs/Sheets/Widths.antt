@@ -7,7 +7,8 @@ use lib.ListN.{length}
 use Rattle.groundwork.proofs.Lists.{split-member, split-shorter}
 use Rattle.theory.specs.Packs.{Rule, Pack, atomKey}
 use Rattle.theory.specs.Limits.{Fits}
-use Rattle.theory.specs.Sheet.{ruleEntry, FitsColumns}
+use Rattle.theory.specs.Sheet.{ruleEntry}
+use Rattle.theory.proofs.Reading.Alignment.{FitsColumns}
 use Rattle.theory.proofs.Reading.Digits.{digits-few}
 use Rattle.theory.proofs.Reading.Spelling.{name-length}
 
