@@ -9,7 +9,7 @@ use lib.Dec.{eqb, ltb}
 use lib.IntN.{ℤ}
 use lib.ListN.{length, drop}
 use lib.Seq.{drop-at}
-use Rattle.groundwork.proofs.Truth.{eqb-unequal, eqb-equal, ltb-lt, ltb-ge}
+use Rattle.groundwork.proofs.Truth.{eqb-unequal, eqb-equal, ltb-lt, ltb-ge, ge-ltb}
 use Rattle.theory.specs.Lists.{over}
 use Rattle.theory.specs.Text.{Bytes, linesOf, fieldsOf}
 use Rattle.theory.specs.Packs.{Pack, textLimit}
@@ -109,6 +109,10 @@ module _ (text : Bytes) (area : List ℤ) where
       room true e = shortArea (ltb-lt (length area) areaNeeded e)
       room false e = long (ltb-ge (length area) areaNeeded e) (ltb textLimit (length text)) refl
 
+  verdict : areaNeeded ≤ length area → checkOf text area .returned ≡ verdictOf text .returned
+  unfolding checkOf
+  verdict room = rw (ge-ltb (length area) areaNeeded room)
+
   -- ---- the area
 
   unchanged : {c : Checked} → Outcome text area c → (c .returned .number ≡ 13 → ⊥) → c .area ≡ area
@@ -130,4 +134,4 @@ module _ (text : Bytes) (area : List ℤ) where
   rest (unjustified {residue = residue} j u) = drop-at residue (drop areaNeeded area) areaNeeded (ap length (u .isResidual) ∙ numbers-told _ _ .count)
 
 pub demand-one : (text : Bytes) (area : List ℤ) → DemandOne text area
-demand-one text area = record { outcome = outcome text area; unchanged = unchanged text area (outcome text area); rest = rest text area (outcome text area) }
+demand-one text area = record { outcome = outcome text area; verdict = verdict text area; unchanged = unchanged text area (outcome text area); rest = rest text area (outcome text area) }

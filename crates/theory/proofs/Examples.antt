@@ -1,4 +1,4 @@
--- The starred examples of document 01 as one table, and those of 02's 1/14, 2/14, 3/14 and 4/14 as others: the definitions
+-- The starred examples of document 01 as one table, and those of 02's 1/14 to 5/14 as others: the definitions
 -- compute every answer.
 use mathlib.Core.Path.{_≡_, refl, sym, ap, subst}
 use mathlib.Core.List.{List, [], _∷_, _++_, map, flatMap, flatten, List·Memᴰ·head, List·Memᴰ·eq-of-singleton}

@@ -32,6 +32,7 @@ pub mod MultiplierLines
 pub mod LineReading
 pub mod LineWriting
 pub mod LinesTold
+pub mod Standing
 pub mod LettersTold
 -- the numbers of faults, and the first faulty line
 pub mod FaultNumbers

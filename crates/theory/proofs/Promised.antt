@@ -19,6 +19,7 @@ use Rattle.theory.proofs.Words.{words-tell, word-factors}
 use Rattle.theory.proofs.ReserveTold.{queries-told, reserve-told}
 use Rattle.theory.proofs.MeasureTold.{measure-told}
 use Rattle.theory.proofs.ReplyTold.{reply-told}
+use Rattle.theory.proofs.SheetKept.{sheet-promised}
 use Rattle.theory.proofs.Derived.{witnessed}
 use Rattle.theory.proofs.Limits.Examples.{text-length-told}
 
@@ -35,7 +36,7 @@ sizes-promised = record {
 lines-promised : LinesPromised
 lines-promised = record {
   every = λ before l. line-told _ l;
-  lettered = λ before l fine unended. letter-told (writeAll nothing before) l (reached-short true before fine unended .reached);
+  lettered = λ before l fine unended. letter-told (writeAll nothing before) l unended (reached-short true before fine unended .reached);
 }
 
 pub promised : Promised
@@ -57,4 +58,5 @@ promised = record {
   rightCase = right-case;
   words = words-tell;
   factors = word-factors;
+  sheets = sheet-promised;
 }

@@ -1,4 +1,5 @@
--- Document 01, the tables of "What check returns" and "Reserving", with 02's 1/14, 2/14 and 3/14: the numbers and values of each case of an answer.
+-- Document 01, "What check returns" and "Reserving", with 02's 1/14, 2/14, 3/14 and 6/14: the numbers and values of each case of the
+-- answers of check, reserve, measure, the sheet and import.
 use mathlib.Core.Option.{Option, some, none}
 use Prim.Native.Nat.{ℕ}
 use Prim.Native.Char.{code}

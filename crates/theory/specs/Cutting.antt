@@ -23,8 +23,7 @@ unfoldable pub isRun : (ℕ → Bool) → Bytes → Bool
 isRun isFirst [] = false
 isRun isFirst (b ∷ bs) = isFirst b && every isNameByte bs
 
--- "A token is a run of letters, digits and `_`, or `:-`, or else one byte": its bytes, and what comes after them. A run goes as far
--- as it can. One byte is a token where neither of the others begins with it, and where it is no layout.
+-- A token by its bytes, and what comes after them: letters, digits and underscores in a row, as far as they go; `:-`; or a single byte. One byte is a token where neither of the others begins with it, and where it is no layout.
 pub data Piece (s after : Bytes) : Type 0 where
   a-run : isRun isNameByte s ≡ true → startsWith isNameByte after ≡ false → Piece s after
   two-bytes : s ≡ bytes ":-" → Piece s after

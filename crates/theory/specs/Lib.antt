@@ -27,6 +27,7 @@ pub mod Imported
 pub mod Answers
 pub mod Limits
 pub mod LinesTold
+pub mod LettersTold
 pub mod Derivations
 pub mod Outcomes
 pub mod SmallestBound

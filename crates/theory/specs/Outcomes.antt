@@ -9,7 +9,7 @@ use lib.Signed.{_<ℤ_}
 use Rattle.theory.specs.Lists.{_∈_}
 use Rattle.theory.specs.Text.{Bytes, linesOf}
 use Rattle.theory.specs.Sizes.{structural}
-use Rattle.theory.specs.Packs.{Rule, Pack, textLimit, noClaim, atomKey, claimsOn, multiplierLine, line as written}
+use Rattle.theory.specs.Packs.{Rule, Pack, textLimit, noClaim, atomKey, claimsOn, multiplierLine, line as lineOf}
 use Rattle.theory.specs.Written.{Written, nothing, write, writeAll, packOf}
 use Rattle.theory.specs.Residuals.{areaNeeded, residual, ruleVariables, residualNumbers}
 use Rattle.theory.specs.Faults.{Manner, whole, fault, lastRule}
@@ -59,7 +59,7 @@ pub record Unjustified (text : Bytes) (line rule claim : ℕ) (residue : List �
   pub isDue : claim ≡ length (lastRule (packBefore first) .multipliers) + 1
   pub high : claim ≤ length (claimsOn (atomKey (lastRule (packBefore first) .head)) (packBefore first .claims))
   pub multipliers : List ℕ
-  pub isLine : first .faulty ≡ written (multiplierLine multipliers)
+  pub isLine : first .faulty ≡ lineOf (multiplierLine multipliers)
   pub fit : MultipliersFit (packBefore first .claims) (lastRule (packBefore first) .subgoals) multipliers
   pub isResidual : residue ≡ residualFor (packBefore first) (lastRule (packBefore first)) claim multipliers
   pub negative : (z : ℤ) × (z ∈ residue) × (z <ℤ pos 0)

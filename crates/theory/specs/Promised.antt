@@ -14,10 +14,12 @@ use Rattle.theory.specs.Written.{nothing, writeAll}
 use Rattle.theory.specs.Faults.{whole}
 use Rattle.theory.specs.Check.{refusalOf}
 use Rattle.theory.specs.ResidualsTold.{ClaimTold, ResidualTold, VariablesTold, NumbersTold}
-use Rattle.theory.specs.LinesTold.{applying, LineTold, LetterTold}
+use Rattle.theory.specs.LinesTold.{applying, LineTold}
+use Rattle.theory.specs.LettersTold.{LetterTold}
 use Rattle.theory.specs.MeasureTold.{MeasureTold}
 use Rattle.theory.specs.ReplyTold.{ReplyTold}
 use Rattle.theory.specs.Words.{WordFactors}
+use Rattle.theory.specs.Sheet.{SheetPromised}
 use Rattle.theory.specs.Answers.{passedOn}
 use Rattle.theory.specs.Outcomes.{AllFine, TextLengthTold}
 use Rattle.theory.specs.Queries.{QueriesTold, ReserveTold}
@@ -63,3 +65,5 @@ pub record Promised : Type 1 where
   pub rightCase : (text : Bytes) (answer : Reservation) → passedOn answer ≡ refusalOf text → RightCase text answer
   pub words : (text : Bytes) (area : List ℤ) (query term : Bytes) → WordsTell text area query term
   pub factors : WordFactors
+  -- 02, 2/14
+  pub sheets : SheetPromised

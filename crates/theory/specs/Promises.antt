@@ -65,6 +65,8 @@ pub record ShareNothing (name : Bytes) (n other : ℕ) : Type 0 where
 -- For every text and area check gives one of its outcomes; the area changes only for 13, and then only its first numbers.
 pub record DemandOne (text : Bytes) (area : List ℤ) : Type 0 where
   pub outcome : Outcome text area (checkOf text area)
+  -- with room in the area it is the verdict on the text, which the other calls pass on
+  pub verdict : areaNeeded ≤ length area → checkOf text area .returned ≡ verdictOf text .returned
   pub unchanged : (checkOf text area .returned .number ≡ 13 → ⊥) → checkOf text area .area ≡ area
   pub rest : drop areaNeeded (checkOf text area .area) ≡ drop areaNeeded area
 

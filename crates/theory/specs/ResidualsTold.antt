@@ -1,6 +1,6 @@
 -- Document 01, "When a claim is justified" and "Forms", in words: what a claim says by the places of its numbers, what head form and
 -- residual are at all sizes of the variables, how a rule's variables are numbered and how the residual's numbers lie in the area.
--- Facts and Residuals have the definitions; that they say this is promised (Promises, `FormsTold`).
+-- Facts and Residuals have the definitions; that they say this is promised (Promised, `SizesPromised`).
 use mathlib.Core.Path.{_≡_}
 use mathlib.Core.Logic.{_↔_}
 use mathlib.Core.List.{List, _∷_, _++_, map, flatMap}

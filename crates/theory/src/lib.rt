@@ -30,7 +30,7 @@ pub enum Refusal {
     UnfinishedText,
     /// 4: the line is over 1,024 bytes, or has a byte outside 32 to 126.
     UnfitLine(u16),
-    /// 5: the first field is no letter allowed at this point.
+    /// 5: the line's letter may not stand there, or is none: also an `M` line too few or too many, and any line after `E`.
     Letter(u16),
     /// 6: the text ends with no `E` line.
     NoEnd,

@@ -1,36 +1,41 @@
--- What 8, 12, 21, 22 and 24 say of a line, by its letter. Proves LetterTold of specs/LinesTold.
+-- What each number says of a line, by its letter. Proves LetterTold of specs/LettersTold.
 use mathlib.Core.Path.{_≡_, refl, sym, _∙_, ap}
-use mathlib.Core.Bool.{Bool, true, false, cond, not, _||_, or-false}
+use mathlib.Core.Bool.{Bool, true, false, cond, not, _&&_, _||_, or-false}
 use mathlib.Core.Logic.{_⊎_, inl, inr, ⊎-elim, _↔_}
 use mathlib.Core.List.{List, [], _∷_, _++_, List·Memᴰ·head, List·Memᴰ·not-nil}
 use mathlib.Core.Option.{Option, some, none, Option·none-ne-some, Option·some-ne-none}
 use Prim.Native.Nat.{ℕ, _≤_, _<_}
 use lib.Dec.{eqb, leb, ltb}
-use lib.IntN.{pos}
-use lib.ListN.{length}
-use lib.Signed.{_<ℤ_, clashℤ}
-use Rattle.groundwork.proofs.Truth.{by-truth, never-both, not-true, and-left, and-right, and-both, leb-le, le-leb, ltb-lt, lt-ltb}
+use lib.IntN.{ℤ, pos}
+use lib.ListN.{length, drop}
+use lib.Signed.{nonNeg, _<ℤ_, clashℤ}
+use Rattle.groundwork.proofs.Truth.{by-truth, never-both, not-true, and-left, and-right, and-both, eqb-equal, equal-eqb, leb-le, le-leb, ltb-lt, lt-ltb}
 use Rattle.groundwork.proofs.Lists.{member-split}
 use Rattle.groundwork.proofs.Order.{nonneg-test, below-zero}
-use Rattle.theory.specs.Lists.{_∈_, any, isSome, isEmpty}
-use Rattle.theory.specs.Text.{Bytes, fieldsOf}
-use Rattle.theory.specs.Terms.{allVariables}
+use Rattle.theory.specs.Lists.{_∈_, any, every, isSome, isEmpty}
+use Rattle.theory.specs.Text.{Bytes, isName, natural, integer, decimal, fieldsOf}
+use Rattle.theory.specs.Terms.{Term, WrittenAs, readTerm, allVariables}
 use Rattle.theory.specs.Sizes.{structural}
-use Rattle.theory.specs.Packs.{given, Predicate, Claim, Atom, Pack, Key, key, sameKey, keyOf, claimKey, atomKey, declaredAs, claimsOn, predicateLimit, claimLimit, ruleLimit, subgoalLimit, variableLimit}
+use Rattle.theory.specs.Packs.{given, ruled, Predicate, Claim, Atom, Pack, Key, sameKey, keyOf, claimKey, atomKey, declaredAs, claimsOn, predicateLimit, claimLimit, ruleLimit, subgoalLimit, variableLimit, numberLimit}
 use Rattle.theory.specs.declared.Letter.{Letter}
 use Rattle.theory.specs.declared.Letter.the-variants.{P, C, G, H, B, M, E, NoLetter}
-use Rattle.theory.specs.Written.{lineLetter, field, Written, atomFrom}
+use Rattle.theory.specs.Written.{lineLetter, field, Written, atomFrom, multipliersFrom, kindFrom}
+use Rattle.theory.specs.Residuals.{isJustified}
 use Rattle.theory.specs.Facts.{claimAt, isMet, meetsEvery}
-use Rattle.theory.specs.Faults.{lineArity, meantBy, givenIn, owesRule, headsRule, isHeadless, isGiven, whole, predicateTests, claimTests, atomTests, factTests, headTests, subgoalTests, endTests, tests, lineTests}
-use Rattle.theory.specs.LinesTold.{applying, Gives, Meant, AsksDeclared, onClaim, onFact, onSubgoal, Headless, LetterTold}
+use Rattle.theory.specs.Faults.{isTerm, isClaimNumber, isMultiplier, isKind, lineArity, meantBy, isGiven, givenIn, ruledIn, owesRule, headsRule, isHeadless, mayStand, residualDue, whole, predicateTests, claimTests, atomTests, factTests, headTests, subgoalTests, multiplierTests, endTests, tests, lineTests}
+use Rattle.theory.specs.LinesTold.{applying}
+use Rattle.theory.specs.LettersTold.{Gives, Meant, AsksDeclared, onClaim, onFact, onSubgoal, NamesOne, byPredicate, byClaim, byFact, byHead, bySubgoal, HasTerms, ofFact, ofHead, ofSubgoal, ArityAndKind, ClaimNumber, Multiplier, SomeNot, Headless, LetterTold}
 use Rattle.theory.proofs.Reading.Every.{any-found, any-member, some-failing, every-member}
 use Rattle.theory.proofs.Reading.Presence.{is-some, some-is}
-use Rattle.theory.proofs.Reading.Spelling.{natural-of-decimal, decimal-of-natural}
+use Rattle.theory.proofs.Reading.Spelling.{natural-of-decimal, decimal-of-natural, natural-within, integer-of-signed, signed-of-integer, integer-within}
 use Rattle.theory.proofs.Judging.Heads.{onClaim as claimOn, heads-from-test, test-from-heads, owes-from-claim}
 use Rattle.theory.proofs.Judging.Keys.{sameKey-equal, sameKey-here, declared-member}
 use Rattle.theory.proofs.Judging.Kinds.{given-kind, ruled-kind}
 use Rattle.theory.proofs.Judging.LineKeys.{less-is, less-plus, declared-with, found-arity, claim-key}
-use Rattle.theory.proofs.Judging.LinesTold.{isFound, told}
+use Rattle.theory.proofs.Judging.LinesTold.{isFound, told, five-is}
+use Rattle.theory.proofs.Judging.Standing.{not-told, stands-told}
+use Rattle.theory.proofs.Reading.FieldValues.{kind-written, written-is-kind}
+use Rattle.theory.proofs.Reading.TermReading.{read-of-written, written-of-read}
 use Rattle.theory.proofs.Judging.Reached.{Distinct, Reached}
 
 -- ---- the predicate that a line names
@@ -105,6 +110,15 @@ module _ (p : Pack) (reached : Reached p) (letter : Letter) (fields : List Bytes
       by-looked all none is = refl
       by-looked all (some x) is = rw (all x (looked-meant x is))
 
+  -- one that is ruled
+  some-ruled : (ruledIn (meantBy letter fields p) ≡ true) ↔ ((x : Predicate) × Meant letter fields p x × (x .kind ≡ ruled))
+  unfolding ruledIn isGiven
+  some-ruled = (λ e. from (meantBy letter fields p) refl e, λ h. rw (meant-looked (h .0) (h .1), h .2))
+    where
+      from : (o : Option Predicate) → meantBy letter fields p ≡ o → ruledIn o ≡ true → (x : Predicate) × Meant letter fields p x × (x .kind ≡ ruled)
+      from none is e = never-both e refl
+      from (some x) is e = (x, looked-meant x is, ruled-kind (x .kind) (not-true _ e))
+
 -- ---- tests and words
 
 limit-told : (limit n : ℕ) → (leb limit n ≡ true) ↔ (limit ≤ n)
@@ -153,9 +167,59 @@ headless-told p = (from, λ h. any-member (isHeadless p) (headless (h .0) (h .1)
         and-both _ _ (owes-from-claim p x (h .isRuled) (h .claim) (h .isClaim) (h .onIt))
         (ap not (by-truth (λ (b : Bool). b ≡ false) (headsRule (p .rules) x) (λ e. absurd (h .headsNone (heads-from-test p x e))) (λ e. refl)))
 
+-- ---- what stands in a field
+
+unequal-told : (n k : ℕ) → (not (eqb n k) ≡ true) ↔ (n ≡ k → ⊥)
+unequal-told n k = not-told (eqb n k) (eqb-equal n k, equal-eqb n k)
+
+-- not of every field what a test says of one
+some-not-told : (test : Bytes → Bool) {Good : Bytes → Type 0} → ((f : Bytes) → (test f ≡ true) ↔ Good f) → (fs : List Bytes) → (not (every test fs) ≡ true) ↔ SomeNot Good fs
+some-not-told test good fs = (
+  λ e. let (f, m, fails) = some-failing test fs (not-true _ e) in (f, m, λ g. never-both (good f .1 g) fails),
+  λ h. ap not (by-truth (λ b. b ≡ false) (every test fs) (λ e. absurd (h .2 (good (h .0) .0 (every-member test e (h .1))))) (λ e. refl)),
+)
+
+natural-told : (limit : ℕ) (f : Bytes) → (isSome (natural limit f) ≡ true) ↔ ((n : ℕ) × (n ≤ limit) × (f ≡ decimal n))
+natural-told limit f = (
+  λ e. let (n, is) = is-some (natural limit f) e in (n, natural-within limit f n is, decimal-of-natural limit f n is),
+  λ h. some-is _ (h .0) (rw (h .2) (natural-of-decimal limit (h .0) (h .1))),
+)
+
+claim-number-told : (f : Bytes) → (isClaimNumber f ≡ true) ↔ ClaimNumber f
+claim-number-told f = (
+  λ e. let (z, is) = is-some (integer numberLimit f) e in record { number = z; small = integer-within numberLimit f z is; is = signed-of-integer numberLimit f z is },
+  λ h. some-is _ (h .number) (rw (h .is) (integer-of-signed numberLimit (h .number) (h .small))),
+)
+
+multiplier-told : (f : Bytes) → (isMultiplier f ≡ true) ↔ Multiplier f
+multiplier-told f =
+    let told = natural-told numberLimit f in
+    (λ e. let (n, small, is) = told .0 e in record { number = n; small = small; is = is }, λ h. told .1 (h .number, h .small, h .is))
+
+term-told : (f : Bytes) → (isTerm f ≡ true) ↔ ((t : Term) × WrittenAs t f)
+term-told f = (
+  λ e. let (t, is) = is-some (readTerm f) e in (t, written-of-read f t is),
+  λ h. some-is _ (h .0) (rw (h .1 .is) (read-of-written (h .0) (h .1 .formed))),
+)
+
+kind-told : (fields : List Bytes) → ((isSome (natural 8 (field 2 fields)) && isKind (field 3 fields)) ≡ true) ↔ ArityAndKind fields
+kind-told fields = (
+  λ e.
+      let (n, few, is) = natural-told 8 (field 2 fields) .0 (and-left _ (isKind (field 3 fields)) e) in
+      record { arity = n; few = few; isArity = is; kind = kindFrom (field 3 fields); isKind = sym (kind-written (field 3 fields) (and-right (isSome (natural 8 (field 2 fields))) _ e)) },
+  λ h. and-both _ _ (natural-told 8 (field 2 fields) .1 (h .arity, h .few, h .isArity)) (rw (h .isKind) (written-is-kind (h .kind))),
+)
+
+negative-told : (numbers : List ℤ) → (not (isJustified numbers) ≡ true) ↔ ((z : ℤ) × (z ∈ numbers) × (z <ℤ pos 0))
+unfolding isJustified
+negative-told numbers = (
+  λ e. let (z, m, fails) = some-failing nonNeg numbers (not-true _ e) in (z, m, below-zero z fails),
+  λ h. ap not (by-truth (λ b. b ≡ false) (every nonNeg numbers) (λ e. absurd (clashℤ (h .2) (nonneg-test _ (every-member nonNeg e (h .1))))) (λ e. refl)),
+)
+
 -- ---- the letters
 
-module _ (w : Written) (l : Bytes) (reached : Reached (w .pack)) where
+module _ (w : Written) (l : Bytes) (unended : w .ended ≡ false) (reached : Reached (w .pack)) where
   abbrev p : Pack
   p = w .pack
 
@@ -166,22 +230,50 @@ module _ (w : Written) (l : Bytes) (reached : Reached (w .pack)) where
   of-letter : (letter : Letter) → lineLetter l ≡ letter → (n : ℕ) → eqb 4 n ≡ false → eqb 5 n ≡ false → isFound n (lineTests whole w l) ≡ isFound n (tests whole letter fields p)
   of-letter letter is n four five = rw (is, four, five)
 
+  name-told : (not (isName (field 1 fields)) ≡ true) ↔ (isName (field 1 fields) ≡ false)
+  name-told = (not-true _, ap not)
+
+  unnamed-for : {letter : Letter} → NamesOne letter → lineLetter l ≡ letter → (7 ∈ applying w l) ↔ (isName (field 1 fields) ≡ false)
+  unfolding tests predicateTests claimTests factTests headTests subgoalTests atomTests
+  unnamed-for byPredicate is = told w l 7 _ (of-letter P is 7 refl refl ∙ or-false _) name-told
+  unnamed-for byClaim is = told w l 7 _ (of-letter C is 7 refl refl ∙ or-false _) name-told
+  unnamed-for byFact is = told w l 7 _ (of-letter G is 7 refl refl ∙ or-false _) name-told
+  unnamed-for byHead is = told w l 7 _ (of-letter H is 7 refl refl ∙ or-false _) name-told
+  unnamed-for bySubgoal is = told w l 7 _ (of-letter B is 7 refl refl ∙ or-false _) name-told
+
   undeclared-for : {letter : Letter} → AsksDeclared letter → lineLetter l ≡ letter → (8 ∈ applying w l) ↔ ((x : Predicate) → Meant letter fields p x → ⊥)
   unfolding tests claimTests factTests subgoalTests atomTests
   undeclared-for onClaim is = told w l 8 _ (of-letter C is 8 refl refl ∙ or-false _) (none-meant p reached C fields)
   undeclared-for onFact is = told w l 8 _ (of-letter G is 8 refl refl ∙ or-false _ ∙ or-false _) (none-meant p reached G fields)
   undeclared-for onSubgoal is = told w l 8 _ (of-letter B is 8 refl refl ∙ or-false _ ∙ or-false _) (none-meant p reached B fields)
 
+  no-term-for : {letter : Letter} → HasTerms letter → lineLetter l ≡ letter → (11 ∈ applying w l) ↔ SomeNot (λ f. (t : Term) × WrittenAs t f) (drop 2 fields)
+  unfolding tests factTests headTests subgoalTests atomTests
+  no-term-for ofFact is = told w l 11 _ (of-letter G is 11 refl refl ∙ or-false _) (some-not-told isTerm term-told (drop 2 fields))
+  no-term-for ofHead is = told w l 11 _ (of-letter H is 11 refl refl ∙ or-false _) (some-not-told isTerm term-told (drop 2 fields))
+  no-term-for ofSubgoal is = told w l 11 _ (of-letter B is 11 refl refl ∙ or-false _) (some-not-told isTerm term-told (drop 2 fields))
+
   pub letter-told : LetterTold p l (applying w l)
-  unfolding tests predicateTests claimTests atomTests factTests headTests subgoalTests endTests
+  unfolding tests predicateTests claimTests atomTests factTests headTests subgoalTests multiplierTests endTests
   letter-told = record {
+    misplaced = told w l 5 _ (five-is w l ∙ rw unended) (not-told (mayStand p (lineLetter l)) (stands-told p (lineLetter l)));
+    unnamed = λ names. unnamed-for names refl;
     declaredAlready = λ is. told w l 8 _ (of-letter P is 8 refl refl ∙ or-false _) (some-meant p reached P fields);
     undeclared = λ asks. undeclared-for asks refl;
     unruled = λ is. told w l 8 _ (of-letter H is 8 refl refl ∙ or-false _) (none-ruled p reached H fields);
+    ruledFact = λ is. told w l 20 _ (of-letter G is 20 refl refl ∙ or-false _) (some-ruled p reached G fields);
+    predicateFields = λ is. told w l 9 _ (of-letter P is 9 refl refl ∙ or-false _) (unequal-told (length fields) 4);
+    multiplierFields = λ is. told w l 9 _ (of-letter M is 9 refl refl ∙ or-false _) (unequal-told (length fields) _);
+    endFields = λ is. told w l 9 _ (of-letter E is 9 refl refl ∙ or-false _) (unequal-told (length fields) 1);
+    noArityOrKind = λ is. told w l 10 _ (of-letter P is 10 refl refl ∙ or-false _) (not-told _ (kind-told fields));
+    noClaimNumber = λ is. told w l 10 _ (of-letter C is 10 refl refl ∙ or-false _) (some-not-told isClaimNumber claim-number-told (drop 2 fields));
+    noMultiplier = λ is. told w l 10 _ (of-letter M is 10 refl refl ∙ or-false _) (some-not-told isMultiplier multiplier-told (drop 1 fields));
+    noTerm = λ has. no-term-for has refl;
     predicates = λ is. told w l 12 _ (of-letter P is 12 refl refl ∙ or-false _) (limit-told predicateLimit (length (p .predicates)));
     claims = λ is n gives. told w l 12 _ (of-letter C is 12 refl refl ∙ or-false _ ∙ ap (λ (k : Key). leb claimLimit (length (claimsOn k (p .claims)))) (claim-key fields n gives)) (limit-told claimLimit _);
     rules = λ is. told w l 12 _ (of-letter H is 12 refl refl ∙ or-false _) (one-told _ _ (limit-told ruleLimit _) (past-told variableLimit _));
     subgoals = λ is. told w l 12 _ (of-letter B is 12 refl refl ∙ or-false _) (one-told _ _ (limit-told subgoalLimit _) (past-told variableLimit _));
+    unjustified = λ is. told w l 13 _ (of-letter M is 13 refl refl ∙ or-false _) (negative-told (residualDue p (multipliersFrom fields)));
     variable = λ is. told w l 21 _ (of-letter G is 21 refl refl ∙ or-false _) (some-member (allVariables (atomFrom fields .terms)));
     unmet = λ is. told w l 22 _ (of-letter G is 22 refl refl ∙ or-false _) (unmet-told (p .claims) (atomFrom fields));
     headless = λ is. told w l 24 _ (of-letter E is 24 refl refl ∙ or-false _) (headless-told p);

@@ -1,6 +1,6 @@
 -- Which numbers apply to a line, in words. Proves LineTold and LetterTold of specs/LinesTold.
 use mathlib.Core.Path.{_≡_, refl, sym, _∙_, ap}
-use mathlib.Core.Bool.{Bool, true, false, cond, _&&_, _||_, or-false}
+use mathlib.Core.Bool.{Bool, true, false, cond, not, _&&_, _||_, or-false}
 use mathlib.Core.Logic.{⊎-elim, _↔_}
 use mathlib.Core.List.{List, [], _∷_, nil≢cons, List·Memᴰ·head, List·Memᴰ·tail, List·Memᴰ·not-nil, List·Memᴰ·cases-cons}
 use mathlib.Core.Option.{none}
@@ -15,7 +15,7 @@ use Rattle.theory.specs.Packs.{Pack}
 use Rattle.theory.specs.declared.Letter.{Letter}
 use Rattle.theory.specs.declared.Letter.the-variants.{P, C, G, H, B, M, E, NoLetter}
 use Rattle.theory.specs.Written.{lineLetter, Written}
-use Rattle.theory.specs.Faults.{Test, test, firstOf, isUnfit, whole, predicateTests, claimTests, atomTests, factTests, headTests, subgoalTests, multiplierTests, endTests, tests, lineTests, fault}
+use Rattle.theory.specs.Faults.{Test, test, firstOf, isUnfit, mayStand, whole, predicateTests, claimTests, atomTests, factTests, headTests, subgoalTests, multiplierTests, endTests, tests, lineTests, fault}
 use Rattle.theory.specs.LinesTold.{found, applying, LineTold}
 use Rattle.theory.proofs.Judging.Fitness.{unfit-exactly}
 use Rattle.theory.proofs.Judging.LineReading.{tests-numbered}
@@ -71,7 +71,7 @@ none-found (t ∷ ts) numbered = go (t .finds) (none-found ts (numbered .1))
 
 -- ---- of every line
 
--- no letter's own tests have the number 4
+-- no letter's own tests have the number 4 or 5
 no-four : (letter : Letter) (fields : List Bytes) (p : Pack) → isFound 4 (tests whole letter fields p) ≡ false
 unfolding tests predicateTests claimTests atomTests factTests headTests subgoalTests multiplierTests endTests
 no-four P fields p = refl
@@ -83,10 +83,25 @@ no-four M fields p = refl
 no-four E fields p = refl
 no-four NoLetter fields p = refl
 
+no-five : (letter : Letter) (fields : List Bytes) (p : Pack) → isFound 5 (tests whole letter fields p) ≡ false
+unfolding tests predicateTests claimTests atomTests factTests headTests subgoalTests multiplierTests endTests
+no-five P fields p = refl
+no-five C fields p = refl
+no-five G fields p = refl
+no-five H fields p = refl
+no-five B fields p = refl
+no-five M fields p = refl
+no-five E fields p = refl
+no-five NoLetter fields p = refl
+
 module _ (w : Written) (l : Bytes) where
   -- what a number's own test says is what it is to apply
   pub told : (n : ℕ) (b : Bool) {Words : Type 0} → isFound n (lineTests whole w l) ≡ b → (b ≡ true) ↔ Words → (n ∈ applying w l) ↔ Words
   told n b is words = (λ m. words .0 (sym is ∙ found-test n (lineTests whole w l) m), λ h. test-found n (lineTests whole w l) (is ∙ words .1 h))
+
+  -- what 5 says: after an `E`, or where the letter may not stand
+  pub five-is : isFound 5 (lineTests whole w l) ≡ (w .ended || not (mayStand (w .pack) (lineLetter l)))
+  five-is = ap (λ (b : Bool). (w .ended || not (mayStand (w .pack) (lineLetter l))) || b) (no-five (lineLetter l) (fieldsOf l) (w .pack)) ∙ or-false _
 
   pub line-told : LineTold w l
   unfolding fault
@@ -94,4 +109,5 @@ module _ (w : Written) (l : Bytes) where
     none = none-found (lineTests whole w l) (omega arith then omega arith then tests-numbered whole (lineLetter l) (fieldsOf l) (w .pack));
     first = first-of-found (lineTests whole w l);
     unfit = told 4 (isUnfit l) (ap (λ (b : Bool). isUnfit l || b) (no-four (lineLetter l) (fieldsOf l) (w .pack)) ∙ or-false (isUnfit l)) (unfit-exactly l);
+    afterEnd = λ e. test-found 5 (lineTests whole w l) (five-is ∙ or-left _ _ e);
   }

@@ -26,7 +26,7 @@ abbrev nested : ℕ → String → Bytes
 nested n constant = times n "f/1 " ++ bytes constant
 
 -- Lines of 1,024 and 1,025 bytes; claim numbers and multipliers up to 9999; names, variables and symbols of 16 and 17 bytes; 8 and 9
--- arguments of a predicate, 9 and 10 of a symbol; areas of 17 and 16 numbers; terms of 1,024 and 1,025 bytes. (The counts of
+-- arguments of a predicate, 9 and 10 of a symbol; a term with a symbol of each arity up to 8; areas of 17 and 16 numbers; terms of 1,024 and 1,025 bytes. (The counts of
 -- predicates, claims, rules, subgoals and variables at their edges are rows of the table of lines, in Judging/Examples.)
 abbrev pub limits : List Row
 limits =
@@ -49,6 +49,7 @@ limits =
     ∷ (measureOn (bytes "f/10 " ++ times 9 "a/0 " ++ bytes "a/0") gives sized (measured 11 0))
     ∷ (check "E\n" (replicate 17 (pos 7)) gives checked (record { returned = numbers 0 1 0 0; area = replicate 17 (pos 7) }))
     ∷ (check "E\n" (replicate 16 (pos 7)) gives checked (record { returned = numbers 1 0 0 0; area = replicate 16 (pos 7) }))
+    ∷ (measureOn (bytes "h/8 g/7 f/6 e/5 d/4 c/3 b/2 a/1 " ++ times 27 "a/0 " ++ bytes "a/0 a/0") gives sized (measured 0 36))
     ∷ (measureOn (nested 255 "ab/0") gives sized (measured 0 255))
     ∷ (measureOn (nested 255 "abc/0") gives sized (measured 4 0))
     ∷ []

@@ -1,4 +1,4 @@
--- Where the pack ends in the input: at the first line that is exactly `E` and its byte 10, and nowhere else.
+-- Where the pack ends in the input: with the first line that has nothing but `E`, and nowhere else.
 use mathlib.Core.Path.{_≡_, refl, sym, _∙_, ap, ap₂, subst}
 use mathlib.Core.Bool.{Bool, true, false}
 use mathlib.Core.List.{List, [], _∷_, _++_, append-nil, append-assoc, append-cancel-right, head-eq-of-cons-eq, tail-eq-of-cons-eq, List·Memᴰ·head, List·Memᴰ·tail, List·Memᴰ·eq-of-singleton, Memᴰ·append-left, Memᴰ·append-right}
