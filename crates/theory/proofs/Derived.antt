@@ -23,8 +23,10 @@ use Rattle.theory.specs.Faults.{noRule}
 use Rattle.theory.specs.Facts.{Meets, weightedSizes}
 use Rattle.theory.specs.Reserve.{Query, Fields, fields, sizeFrom, queryFrom, queryOf, sizeAt, HasKnownSizes, reserveOf}
 use Rattle.theory.specs.Derivations.{GivenFact, Derivable, byRule, atomUnder}
-use Rattle.theory.specs.Witnesses.{joining, giving, shipping, empty, single, three, zero, next, joins, isK, trails, Reached, LineJudged, Witnessed}
+use Rattle.theory.specs.Witnesses.{joining, giving, shipping, climbing, empty, single, three, zero, next, number, joins, isK, trails, climbed, Reached, LineJudged, Witnessed}
 use Rattle.theory.proofs.Examples.{Answer, checked, reserved, sized, filed, printed, reserve, answerTo}
+use Rattle.theory.proofs.Joined.{all-joined, lists-joined, list-size, any-granted, wide-granted}
+use Rattle.theory.proofs.Climbed.{climbed-derived}
 use Rattle.theory.proofs.Shipped.{trail-derived, absent-meets, absent-underivable}
 
 -- ---- facts of the pack that joins lists
@@ -105,6 +107,10 @@ second-asked : queryOf (bytes "trail,2,2,-") ≡ asks (bytes "trail") 1 (some 2 
 unfolding bytes same every partsAt isDecimal valueAfter natural sizeFrom queryFrom queryOf
 second-asked = refl
 
+eighth-asked : queryOf (bytes "climb,8,1,2,3,4,5,6,7,-") ≡ asks (bytes "climb") 7 (some 1 ∷ some 2 ∷ some 3 ∷ some 4 ∷ some 5 ∷ some 6 ∷ some 7 ∷ none ∷ [])
+unfolding bytes same every partsAt isDecimal valueAfter natural sizeFrom queryFrom queryOf
+eighth-asked = refl
+
 -- a fact has the sizes, and its asked size is the bound
 record Has (q : Query) (f : Atom) (bound : ℕ) : Type 0 where
   known : HasKnownSizes structural q f
@@ -126,9 +132,20 @@ trail-has : Has (asks (bytes "trail") 1 (some 2 ∷ none ∷ [])) (trails (next 
 unfolding agree bytes arity constantOf structural flagged total flatten
 trail-has = record { known = record { ofPredicate = refl; known = agrees (some 2 ∷ none ∷ []) (2 ∷ 1 ∷ []) refl }; reached = refl }
 
+climbed-has : Has (asks (bytes "climb") 7 (some 1 ∷ some 2 ∷ some 3 ∷ some 4 ∷ some 5 ∷ some 6 ∷ some 7 ∷ none ∷ [])) climbed 8
+unfolding agree bytes number arity constantOf structural flagged total flatten
+climbed-has = record { known = record { ofPredicate = refl; known = agrees (some 1 ∷ some 2 ∷ some 3 ∷ some 4 ∷ some 5 ∷ some 6 ∷ some 7 ∷ none ∷ []) (1 ∷ 2 ∷ 3 ∷ 4 ∷ 5 ∷ 6 ∷ 7 ∷ 8 ∷ []) refl }; reached = refl }
+
 reaches : {text query : Bytes} {Given : Atom → Type 0} {bound claim : ℕ} {f : Atom} {q : Query} → queryOf query ≡ q → reserveOf text query ≡ fields (code "B") bound claim → Derivable (packOf text) Given f → Has q f bound
     → Reached text Given query bound claim f
 reaches {q = q} is answer derived has = record { answer = answer; derived = derived; known = rw is (has .known); reached = rw is (has .reached) }
+
+climbed-answer : reserveOf (bytes climbing) (bytes "climb,8,1,2,3,4,5,6,7,-") ≡ fields (code "B") 8 1
+unfolding answerTo
+climbed-answer = answer-is climbing "climb,8,1,2,3,4,5,6,7,-" _ refl
+
+climbed-reaches : Reached (bytes climbing) (GivenFact (packOf (bytes climbing))) (bytes "climb,8,1,2,3,4,5,6,7,-") 8 1 climbed
+climbed-reaches = reaches eighth-asked climbed-answer climbed-derived climbed-has
 
 -- ---- lines of multipliers that are judged
 
@@ -148,6 +165,12 @@ witnessed = record {
   ruled = reaches third-asked (answer-is joining "join,3,2,0,-" _ refl) single-joined single-has;
   impossible = answer-is joining "join,1,-,1,0" _ refl;
   oneApart = reaches first-asked (answer-is joining "join,1,-,0,0" _ refl) empty-joined empty-has;
+  joined = all-joined;
+  lists = lists-joined;
+  listSizes = list-size;
+  climbs = climbed-reaches;
+  granted = any-granted;
+  unwritten = wide-granted;
   given = reaches only-asked (answer-is giving "k,1,-" _ refl) given-derived three-has;
   shipped = reaches second-asked (answer-is shipping "trail,2,2,-" _ refl) trail-derived trail-has;
   absent = absent-meets;

@@ -37,6 +37,8 @@ pub mod ImportKept
 -- document 01's starred examples, and those of later requests; facts with derivations, and a fact without
 pub mod Examples
 pub mod Shipped
+pub mod Joined
+pub mod Climbed
 pub mod Derived
 -- the limits at their edges; the numbers of each case of the calls' answers
 pub mod Limits

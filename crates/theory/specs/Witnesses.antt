@@ -1,14 +1,16 @@
 -- The promises are not about nothing: from the bytes of a few packs, what their premises ask for. Demand 3's bounds are reached, by facts
--- that rules derive, that are given, and that come with the pack; where it says "impossible", a query one size apart has a fact. Proved in
--- proofs/Derived.antt.
+-- that rules derive, that are given, and that come with the pack; where it says "impossible", a query one size apart has a fact. Nor are
+-- they about too little: derivations of every depth are there, with ground terms of every kind, and with as many subgoals and arguments
+-- as a pack may have. Proved in proofs/Derived.antt.
 use mathlib.Core.Path.{_≡_}
-use mathlib.Core.List.{List, _∷_, _++_}
-use Prim.Native.Nat.{ℕ}
+use mathlib.Core.List.{List, [], _∷_, _++_}
+use Prim.Native.Nat as N
+use Prim.Native.Nat.{ℕ, suc, _+_}
 use Prim.Native.Char.{code}
 use Prim.Native.String.{String}
 use Rattle.theory.specs.Text.{Bytes, bytes, linesOf}
-use Rattle.theory.specs.Terms.{Term, symbol, nil, cons}
-use Rattle.theory.specs.Sizes.{structural}
+use Rattle.theory.specs.Terms.{Term, Terms, symbol, nil, cons, variables, allVariables}
+use Rattle.theory.specs.Sizes.{structural, size}
 use Rattle.theory.specs.Packs.{Atom}
 use Rattle.theory.specs.declared.Letter.the-variants.{M}
 use Rattle.theory.specs.Written.{lineLetter, nothing, writeAll, packOf}
@@ -31,6 +33,14 @@ giving = "P,k,1,G\nC,k,7,-2\nE\n"
 abbrev pub shipping : String
 shipping = "P,next,2,G\nP,trail,2,R\nC,next,-1,1,-1\nC,trail,-1,1,-1\nG,next,s/1 s/1 o/0,s/1 o/0\nH,trail,X,Y\nB,next,X,Y\nM,1\nE\n"
 
+-- a given predicate without a claim
+abbrev pub granting : String
+granting = "P,k,1,G\nE\n"
+
+-- a rule with the most subgoals that a pack may have, and the most arguments: eight steps up from 0, each of at most 1
+abbrev pub climbing : String
+climbing = "P,step,2,G\nP,climb,8,R\nC,step,1,1,-1\nC,climb,8,0,0,0,0,0,0,0,-1\nH,climb,A,B,C,D,E,F,G,H\nB,step,o/0,A\nB,step,A,B\nB,step,B,C\nB,step,C,D\nB,step,D,E\nB,step,E,F\nB,step,F,G\nB,step,G,H\nM,1,1,1,1,1,1,1,1\nE\n"
+
 -- the empty list, and a list of one element; three constants under one symbol
 abbrev pub empty : Term
 empty = symbol (bytes "nil") nil
@@ -41,12 +51,32 @@ single = symbol (bytes "cons") (cons empty (cons empty nil))
 abbrev pub three : Term
 three = symbol (bytes "f") (cons empty (cons empty (cons empty nil)))
 
+-- terms in front of a list, as its first elements
+unfoldable pub inFront : Terms → Term → Term
+inFront nil l = l
+inFront (cons t ts) l = symbol (bytes "cons") (cons t (cons (inFront ts l) nil))
+
+-- n empty lists; the list of them; one symbol with all of them as its arguments
+unfoldable pub empties : ℕ → Terms
+empties N.zero = nil
+empties (suc n) = cons empty (empties n)
+
+abbrev pub list : ℕ → Term
+list n = inFront (empties n) empty
+
+abbrev pub wide : ℕ → Term
+wide n = symbol (bytes "f") (empties n)
+
 -- 0, 1, 2
 abbrev pub zero : Term
 zero = symbol (bytes "o") nil
 
 abbrev pub next : Term → Term
 next t = symbol (bytes "s") (cons t nil)
+
+unfoldable pub number : ℕ → Term
+number N.zero = zero
+number (suc n) = next (number n)
 
 abbrev pub joins : Term → Term → Term → Atom
 joins a b c = record { name = bytes "join"; terms = cons a (cons b (cons c nil)) }
@@ -59,6 +89,10 @@ nexts a b = record { name = bytes "next"; terms = cons a (cons b nil) }
 
 abbrev pub trails : Term → Term → Atom
 trails a b = record { name = bytes "trail"; terms = cons a (cons b nil) }
+
+-- up to 8, all the way
+abbrev pub climbed : Atom
+climbed = record { name = bytes "climb"; terms = cons (number 1) (cons (number 2) (cons (number 3) (cons (number 4) (cons (number 5) (cons (number 6) (cons (number 7) (cons (number 8) nil))))))) }
 
 -- ## What is shown of them
 
@@ -85,6 +119,17 @@ pub record Witnessed : Type 0 where
   -- impossible, and one size apart not
   pub impossible : reserveOf (bytes joining) (bytes "join,1,-,1,0") ≡ fields (code "I") 0 2
   pub oneApart : Reached (bytes joining) (GivenFact (packOf (bytes joining))) (bytes "join,1,-,0,0") 0 2 (joins empty empty empty)
+  -- whatever ground terms are put for the variables, to any depth: a list of them is joined with any other term
+  pub joined : (ts : Terms) (l : Term) → allVariables ts ≡ [] → variables l ≡ []
+      → Derivable (packOf (bytes joining)) (GivenFact (packOf (bytes joining))) (joins (inFront ts empty) l (inFront ts l))
+  -- among these of every length, and so of every even size
+  pub lists : (n : ℕ) → Derivable (packOf (bytes joining)) (GivenFact (packOf (bytes joining))) (joins (list n) empty (list n))
+  pub listSizes : (n : ℕ) → size structural (list n) ≡ n + n
+  -- by a rule with eight subgoals, each with terms of its own, of a query that gives seven sizes
+  pub climbs : Reached (bytes climbing) (GivenFact (packOf (bytes climbing))) (bytes "climb,8,1,2,3,4,5,6,7,-") 8 1 climbed
+  -- any ground term may come from outside; also one that no pack can write, with a symbol of ten arguments
+  pub granted : (t : Term) → variables t ≡ [] → Derivable (packOf (bytes granting)) (GivenFact (packOf (bytes granting))) (isK t)
+  pub unwritten : Derivable (packOf (bytes granting)) (GivenFact (packOf (bytes granting))) (isK (wide 10))
   pub given : Reached (bytes giving) (GivenFact (packOf (bytes giving))) (bytes "k,1,-") 3 1 (isK three)
   pub shipped : Reached (bytes shipping) (ShippedFact (packOf (bytes shipping))) (bytes "trail,2,2,-") 1 1 (trails (next (next zero)) (next zero))
   -- a fact of the same predicate as the shipped one, which 01 would take as given, has no derivation from those that are shipped
