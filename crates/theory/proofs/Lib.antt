@@ -15,6 +15,8 @@ pub mod Sheets
 pub mod Importing
 -- the program's input and reply
 pub mod Replying
+-- names, numbers, lines, fields and look-up, in words
+pub mod TextTold
 -- measure and the program, in words
 pub mod MeasureTold
 pub mod ReplyTold

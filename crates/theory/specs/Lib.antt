@@ -11,6 +11,7 @@ pub mod Facts
 pub mod ResidualsTold
 pub mod Faults
 pub mod Check
+pub mod TextTold
 pub mod Measure
 pub mod MeasureTold
 pub mod Reserve

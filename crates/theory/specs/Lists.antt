@@ -1,5 +1,5 @@
 -- Words on lists, and on values that may be missing, that the other files use.
-use mathlib.Core.Bool.{Bool, true, false, _&&_, _||_}
+use mathlib.Core.Bool.{Bool, true, false, cond, _&&_, _||_}
 use mathlib.Core.List.{List, [], _∷_, _++_, List·Memᴰ}
 use mathlib.Core.Option.{Option, some, none}
 use Prim.Native.Nat.{ℕ, zero, suc, _+_}
@@ -20,6 +20,11 @@ every test (a ∷ rest) = test a && every test rest
 unfoldable pub any {ℓ} : {A : Type ℓ} → (A → Bool) → List A → Bool
 any test [] = false
 any test (a ∷ rest) = test a || any test rest
+
+-- the elements of which the test holds, in their order
+unfoldable pub passing : {A : Type 0} → (A → Bool) → List A → List A
+passing test [] = []
+passing test (a ∷ rest) = cond (test a) (a ∷ passing test rest) (passing test rest)
 
 unfoldable pub isEmpty {ℓ} : {A : Type ℓ} → List A → Bool
 isEmpty [] = true

@@ -1,18 +1,18 @@
 -- Keys: the test is equality, and what is found under a key has it.
-use mathlib.Core.Path.{_≡_, refl, sym, ap, ap₂, subst}
+use mathlib.Core.Path.{_≡_, refl, sym, _∙_, ap, ap₂, subst}
 use mathlib.Core.Bool.{Bool, true, false, cond}
-use mathlib.Core.Logic.{_⊎_, inl, inr}
-use mathlib.Core.List.{List, [], _∷_, List·Memᴰ·head, List·Memᴰ·tail, List·Memᴰ·not-nil}
-use mathlib.Core.Option.{some, Option·some-injective, Option·none-ne-some}
+use mathlib.Core.Logic.{_⊎_, inl, inr, ⊎-elim}
+use mathlib.Core.List.{List, [], _∷_, List·Memᴰ·head, List·Memᴰ·tail, List·Memᴰ·cases-cons, List·Memᴰ·not-nil}
+use mathlib.Core.Option.{some, none, Option·some-injective, Option·none-ne-some, Option·some-ne-none}
 use Prim.Native.Nat.{ℕ, _<_}
 use lib.ListN.{length, getD}
-use Rattle.groundwork.proofs.Truth.{by-truth, and-left, and-right, and-both, equal-eqb, eqb-equal}
+use Rattle.groundwork.proofs.Truth.{by-truth, never-both, and-left, and-right, and-both, equal-eqb, eqb-equal}
 use Rattle.groundwork.proofs.Lists.{getD-member}
 use Rattle.theory.specs.Lists.{_∈_}
 use Rattle.theory.specs.Text.{same}
 use Rattle.theory.specs.Packs.{Predicate, Claim, noClaim, Key, key, sameKey, keyOf, claimKey, declaredAs, claimsOn}
 use Rattle.theory.proofs.Reading.Bytes.{same-refl, same-equal}
-use Rattle.theory.proofs.Reading.Kept.{kept-cases}
+use Rattle.theory.proofs.Reading.Kept.{kept-first, kept-rest, kept-cases}
 
 pub sameKey-refl : (k : Key) → sameKey k k ≡ true
 unfolding sameKey
@@ -41,6 +41,16 @@ declared-member k (p ∷ ps) x e =
 pub declared-arity : (k : Key) (ps : List Predicate) (x : Predicate) → declaredAs k ps ≡ some x → k .arity ≡ x .arguments
 declared-arity k ps x e = ap (λ (l : Key). l .arity) (declared-member k ps x e .1)
 
+-- where nothing is found, nothing has the key
+pub declared-none : (k : Key) (ps : List Predicate) → declaredAs k ps ≡ none → (x : Predicate) → x ∈ ps → keyOf x ≡ k → ⊥
+unfolding declaredAs
+declared-none k [] e x m here = List·Memᴰ·not-nil m
+declared-none k (p ∷ ps) e x m here =
+    by-truth (λ t. cond t (some p) (declaredAs k ps) ≡ none → ⊥) (sameKey k (keyOf p))
+    (λ found e. Option·some-ne-none p e)
+    (λ other e. ⊎-elim (λ is. never-both (sameKey-here k (keyOf p) (ap keyOf (sym is) ∙ here)) other) (λ n. declared-none k ps e x n here) (List·Memᴰ·cases-cons m))
+    e
+
 pub on-member : (k : Key) (cs : List Claim) (c : Claim) → c ∈ claimsOn k cs → (c ∈ cs) × (k ≡ claimKey c)
 unfolding claimsOn
 on-member k [] c m = absurd (List·Memᴰ·not-nil m)
@@ -49,6 +59,11 @@ on-member k (d ∷ cs) c m = step (on-member k cs c) (kept-cases (sameKey k (cla
     step : (c ∈ claimsOn k cs → (c ∈ cs) × (k ≡ claimKey c)) → ((c ≡ d) × (sameKey k (claimKey d) ≡ true)) ⊎ (c ∈ claimsOn k cs) → (c ∈ (d ∷ cs)) × (k ≡ claimKey c)
     step below (inl here) = (List·Memᴰ·head (here .0), subst (λ (y : Claim). k ≡ claimKey y) (sym (here .0)) (sameKey-equal k (claimKey d) (here .1)))
     step below (inr there) = let found = below there in (List·Memᴰ·tail (found .0), found .1)
+
+pub member-on : (k : Key) (cs : List Claim) (c : Claim) → c ∈ cs → claimKey c ≡ k → c ∈ claimsOn k cs
+unfolding claimsOn
+member-on k (d ∷ cs) c (List·Memᴰ·head is) here = kept-first (sameKey k (claimKey d)) d (claimsOn k cs) is (sameKey-here k (claimKey d) (ap claimKey (sym is) ∙ here))
+member-on k (d ∷ cs) c (List·Memᴰ·tail m) here = kept-rest (sameKey k (claimKey d)) d (claimsOn k cs) (member-on k cs c m here)
 
 -- each of them has as many coefficients as the key says
 pub on-arity : (k : Key) (cs : List Claim) (j : ℕ) → j < length (claimsOn k cs) → length (getD (claimsOn k cs) j noClaim .coefficients) ≡ k .arity

@@ -1,10 +1,10 @@
 -- How many rules and `M` lines there are, with one rule more or the last one changed.
 use mathlib.Core.Path.{_≡_, refl, ap}
-use mathlib.Core.List.{List, [], _∷_, _++_}
+use mathlib.Core.List.{List, [], _∷_, _++_, map}
 use Prim.Native.Nat.{suc, _+_}
 use native.Mathlib.Omega.{arith}
 use lib.ListN.{length}
-use Rattle.theory.specs.Lists.{ending}
+use Rattle.theory.specs.Lists.{ending, total}
 use Rattle.theory.specs.Packs.{Atom, Rule, onSubgoals}
 use Rattle.theory.specs.Written.{onLast}
 use Rattle.theory.specs.Check.{multiplierLines}
@@ -13,6 +13,11 @@ pub multiplierLines-end : (rs : List Rule) (r : Rule) → multiplierLines (rs ++
 unfolding multiplierLines
 multiplierLines-end [] r = omega arith
 multiplierLines-end (s ∷ rs) r = omega (arith, multiplierLines-end rs r)
+
+pub multiplierLines-total : (rs : List Rule) → multiplierLines rs ≡ total (map (λ (r : Rule). length (r .multipliers)) rs)
+unfolding multiplierLines total
+multiplierLines-total [] = refl
+multiplierLines-total (r ∷ rs) = ap (λ n. length (r .multipliers) + n) (multiplierLines-total rs)
 
 pub length-onLast : (change : Rule → Rule) (rs : List Rule) → length (onLast change rs) ≡ length rs
 unfolding onLast

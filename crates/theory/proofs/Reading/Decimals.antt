@@ -6,6 +6,7 @@ use Prim.Native.Nat.{ℕ, zero, suc, _+_, _-_, _*_, _/_, _%_, _≤_, _<_}
 use native.Mathlib.Nat.{zero-add}
 use native.Mathlib.Omega.{arith}
 use lib.Dec.{eqb, ltb}
+use lib.ListN.{getD}
 use Rattle.groundwork.proofs.Truth.{and-left, and-right, and-both, not-true, eqb-unequal, eqb-different, ltb-lt, ltb-ge, lt-ltb, ge-ltb}
 use Rattle.theory.specs.Lists.{every}
 use Rattle.theory.specs.Text.{Bytes, isDigit, isDecimal, valueAfter, lastDigits, decimal}
@@ -112,6 +113,16 @@ decimal-same n m e = sym (value-of-decimal n) ∙ ap (valueAfter 0) e ∙ value-
 
 pub decimal-formed : (n : ℕ) → isDecimal (decimal n) ≡ true
 decimal-formed n = decimal-writes n .formed
+
+-- only 0 begins with the digit 0
+leading-zero : (bs : Bytes) → isDecimal bs ≡ true → getD bs 0 0 ≡ 48 → valueAfter 0 bs ≡ 0
+unfolding isDecimal valueAfter
+leading-zero [] h e = absurd (false≢true h)
+leading-zero (b ∷ []) h e = omega (arith, e)
+leading-zero (b ∷ c ∷ bs) h e = absurd (eqb-unequal b 48 (not-true (eqb b 48) (and-right (isDigit b) (not (eqb b 48)) (and-left (leads b) (every isDigit (c ∷ bs)) h))) e)
+
+pub decimal-zero : (n : ℕ) → getD (decimal n) 0 0 ≡ 48 → n ≡ 0
+decimal-zero n e = sym (value-of-decimal n) ∙ leading-zero (decimal n) (decimal-formed n) e
 
 -- ---- nothing else has it
 

@@ -1,15 +1,16 @@
 -- Cutting at a separator and joining again, for fields, tokens and lines.
 use mathlib.Core.Path.{_≡_, refl, sym, _∙_, ap, ap₂}
 use mathlib.Core.Bool.{Bool, true, false, cond, not, false≢true}
-use mathlib.Core.List.{List, [], _∷_, _++_, append-assoc, List·Memᴰ·head, List·Memᴰ·tail}
+use mathlib.Core.List.{List, [], _∷_, _++_, append-assoc, List·Memᴰ·head, List·Memᴰ·tail, List·Memᴰ·not-nil}
 use Prim.Native.Nat.{ℕ}
 use lib.Dec.{eqb}
 use Rattle.groundwork.proofs.Truth.{by-truth, never-both, and-both, not-true, eqb-equal, eqb-same}
+use Rattle.groundwork.proofs.Lists.{all-cons}
 use Rattle.theory.specs.Lists.{every, _∈_, ending}
 use Rattle.theory.specs.Text.{Bytes, onFirst, partsAt, joined, linesOf}
 use Rattle.theory.specs.Packs.{textOf}
 use Rattle.theory.specs.Check.{isFinished}
-use Rattle.theory.proofs.Reading.Every.{every-first, every-rest, every-within, every-append}
+use Rattle.theory.proofs.Reading.Every.{every-first, every-rest, every-cons, every-within, every-append}
 
 -- no byte of it is the separator
 abbrev pub isFree : ℕ → Bytes → Bool
@@ -75,6 +76,21 @@ pub parts-cons : (separator : ℕ) (bs : Bytes) → (first : Bytes) × (rest : L
 unfolding partsAt
 parts-cons separator [] = ([], [], refl)
 parts-cons separator (b ∷ bs) = cut-cons separator (partsAt separator) (parts-cut separator) b bs
+
+onFirst-free : (separator b : ℕ) (parts : List Bytes) → eqb b separator ≡ false → AllFree separator parts → AllFree separator (onFirst b parts)
+unfolding every
+onFirst-free separator b [] other free = all-cons _ (rw other) free
+onFirst-free separator b (part ∷ parts) other free =
+    all-cons _ (every-cons _ b part (ap not other) (free part (List·Memᴰ·head refl))) (λ k m. free k (List·Memᴰ·tail m))
+
+-- no part has the separator in it
+pub parts-free : (separator : ℕ) (bs : Bytes) → AllFree separator (partsAt separator bs)
+unfolding partsAt every
+parts-free separator [] = all-cons _ refl (λ k m. absurd (List·Memᴰ·not-nil m))
+parts-free separator (b ∷ bs) =
+    cut-cases separator (partsAt separator) (parts-cut separator) (AllFree separator) b bs
+    (λ _. all-cons _ refl (parts-free separator bs))
+    (λ other. onFirst-free separator b (partsAt separator bs) other (parts-free separator bs))
 
 -- ---- joining
 

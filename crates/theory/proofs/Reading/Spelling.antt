@@ -90,7 +90,7 @@ integer-within limit bs z e = integer-reads limit bs z e .1
 
 -- ---- the bytes of names and variables
 
-or-cases : {X : Type 0} (a b : Bool) → (a || b) ≡ true → (a ≡ true → X) → (b ≡ true → X) → X
+pub or-cases : {X : Type 0} (a b : Bool) → (a || b) ≡ true → (a ≡ true → X) → (b ≡ true → X) → X
 or-cases true b e f g = f refl
 or-cases false b e f g = g e
 

@@ -26,7 +26,7 @@ slash-not-free [] after = refl
 slash-not-free (b ∷ before) after = and-not-right (not (eqb b 47)) _ (slash-not-free before after)
 
 -- a symbol's token is no variable: it has a `/`
-symbol-no-variable : (f : Bytes) (k : ℕ) → isVariable (symbolToken f k) ≡ false
+pub symbol-no-variable : (f : Bytes) (k : ℕ) → isVariable (symbolToken f k) ≡ false
 unfolding symbolToken
 symbol-no-variable f k = by-truth (λ (v : Bool). v ≡ false) (isVariable (symbolToken f k)) (λ e. never-both (variable-no-slash _ e) (slash-not-free f (decimal k))) (λ e. refl)
 
