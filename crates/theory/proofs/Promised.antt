@@ -17,6 +17,7 @@ use Rattle.theory.proofs.DemandThree.{demand-three}
 use Rattle.theory.proofs.RightCase.{right-case}
 use Rattle.theory.proofs.Words.{words-tell, word-factors}
 use Rattle.theory.proofs.ReserveTold.{queries-told, reserve-told}
+use Rattle.theory.proofs.TextTold.{text-promised}
 use Rattle.theory.proofs.MeasureTold.{measure-told}
 use Rattle.theory.proofs.ReplyTold.{reply-told}
 use Rattle.theory.proofs.SheetKept.{sheet-promised}
@@ -41,6 +42,7 @@ lines-promised = record {
 
 pub promised : Promised
 promised = record {
+  text = text-promised;
   check = demand-one;
   textLength = text-length-told;
   lines = lines-promised;

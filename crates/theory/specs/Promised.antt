@@ -16,6 +16,7 @@ use Rattle.theory.specs.Check.{refusalOf}
 use Rattle.theory.specs.ResidualsTold.{ClaimTold, ResidualTold, VariablesTold, NumbersTold}
 use Rattle.theory.specs.LinesTold.{applying, LineTold}
 use Rattle.theory.specs.LettersTold.{LetterTold}
+use Rattle.theory.specs.TextTold.{TextPromised}
 use Rattle.theory.specs.MeasureTold.{MeasureTold}
 use Rattle.theory.specs.ReplyTold.{ReplyTold}
 use Rattle.theory.specs.Words.{WordFactors}
@@ -44,6 +45,8 @@ pub record LinesPromised : Type 0 where
       → LetterTold (writeAll nothing before .pack) l (applying (writeAll nothing before) l)
 
 pub record Promised : Type 1 where
+  -- what bytes spell, and how packs are looked up
+  pub text : TextPromised
   -- demand 1
   pub check : (text : Bytes) (area : List ℤ) → DemandOne text area
   pub textLength : TextLengthTold
