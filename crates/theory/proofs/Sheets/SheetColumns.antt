@@ -1,11 +1,10 @@
 -- Where the columns of a sheet's lines stand, and which line is a rule's.
 use mathlib.Core.Path.{_≡_, refl, sym, _∙_, ap, subst}
 use mathlib.Core.List.{List, [], _∷_, _++_, append-assoc}
-use Prim.Native.Nat.{ℕ, zero, suc, _+_, _-_}
-use Prim.Native.Char.{code}
+use Prim.Native.Nat.{ℕ, suc, _+_, _-_}
 use native.Mathlib.Omega.{arith}
 use lib.ListN.{length, getD, take, drop}
-use lib.Seq.{take-at, drop-at, getD-at, getD-drop, drop-drop}
+use lib.Seq.{take-at, drop-at, getD-drop, drop-drop}
 use Rattle.theory.specs.Text.{Bytes, joined, decimal}
 use Rattle.theory.specs.Packs.{Rule}
 use Rattle.theory.specs.Sheet.{spaces, rightAligned, leftAligned, Entry, ruleEntry, columns, sheetLine, sheetLines, AtRight, AtLeft, ColumnsStand}
