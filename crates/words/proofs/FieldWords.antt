@@ -1,12 +1,12 @@
 -- What `word_of` answers: a field, of which the table tells the classes.
 use mathlib.Core.Path.{_≡_, sym, _∙_, ap}
-use mathlib.Core.Bool.{true, false}
+use mathlib.Core.Bool.{true}
 use Prim.Native.Nat.{ℕ, _≤_, _<_}
 use native.Mathlib.Omega.{arith}
 use lib.ListN.{length, getD}
 use Rattle.groundwork.proofs.Truth.{equal-eqb, eqb-different, and-not-left}
 use Rattle.theory.specs.Lists.{every}
-use Rattle.theory.specs.Text.{Bytes, isLower, isUpper, isNameByte}
+use Rattle.theory.specs.Text.{Bytes, isNameByte}
 use Rattle.text.specs.Scans.{part}
 use Rattle.text.proofs.Classes.{every-at, every-not-after}
 use Rattle.words.specs.declared.Words.{Words}

@@ -3,7 +3,7 @@ use mathlib.Core.Path.{sym}
 use native.Mathlib.Omega.{arith}
 use borrow.Author.Needs.{needs}
 use lib.Seq.{length-take-le}
-use Rattle.columns.proofs.Columns.{blank-size, end-put}
+use Rattle.columns.proofs.Columns.{end-put}
 use Rattle.columns.proofs.put_end.Statement.{statement}
 use Rattle.columns.proofs.put_end.Tie as tie
 
