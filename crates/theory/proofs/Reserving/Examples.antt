@@ -7,7 +7,7 @@ use Prim.Native.Char.{code}
 use Prim.Native.String.{String}
 use Rattle.theory.specs.Reserve.{Fields, fields}
 use Rattle.theory.specs.Witnesses.{joining}
-use Rattle.theory.proofs.Examples.{Answer, reserved, reserve, answerTo}
+use Rattle.theory.proofs.Examples.{reserved, reserve, answerTo}
 
 -- a query on a pack, and what reserve returns
 pub record Row : Type 0 where
