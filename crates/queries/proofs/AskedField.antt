@@ -9,7 +9,7 @@ use Rattle.theory.specs.Lists.{isSome}
 use Rattle.theory.specs.Text.{Bytes, bytes, same, natural}
 use Rattle.theory.proofs.Reading.Bytes.{same-refl, same-equal}
 use Rattle.theory.proofs.Reading.Presence.{some-is, none-is}
-use Rattle.theory.proofs.Reserving.ReserveAnswers.{written-zero}
+use Rattle.theory.proofs.Reserving.QueryFields.{written-zero}
 use Rattle.theory.proofs.Reading.Spelling.{natural-of-decimal, decimal-of-natural, natural-wider}
 
 -- what test 16 finds

@@ -17,7 +17,7 @@ use Rattle.text.specs.Scans.{part, Finds, partsFrom}
 use Rattle.text.proofs.Cuts.{parts-all, parts-done, parts-step}
 use Rattle.tables.specs.QuerySizes.{entryOf, SizesStand}
 use Rattle.queries.specs.Queries.{SizesRead}
-use Rattle.theory.proofs.Reserving.QuerySizes.{size-small, known-small}
+use Rattle.theory.proofs.Reserving.QuerySizes.{read-small}
 use Rattle.queries.proofs.SizeFields.{number-entry}
 
 module _ (query : Bytes) (stop : ℕ) (first : Finds query 44 0 stop) where
@@ -74,5 +74,5 @@ module _ (query : Bytes) (from : ℕ) (rest : drop 2 (fieldsOf query) ≡ partsF
         let inside : i < length (partsFrom 44 query from) = omega (arith, given-count) in
         let fine : isSome (sizeFrom (getD (partsFrom 44 query from) i [])) ≡ true = every-member _ (sym (read .all)) (getD-member (partsFrom 44 query from) i [] inside) in
         read .entry refl i inside ∙ number-entry _ fine ∙ ap entryOf (sym (given-at i));
-    small = λ i s h known. known-small (sizeFrom (getD (partsFrom 44 query from) i [])) s (size-small _) (sym (given-at i) ∙ known);
+    small = λ i s h known. omega (arith, read-small (getD (partsFrom 44 query from) i []) s (sym (given-at i) ∙ known));
   }

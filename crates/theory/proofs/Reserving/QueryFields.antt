@@ -50,7 +50,7 @@ module _ (p : Pack) (fits : (x : Predicate) → x ∈ p .predicates → Predicat
 
 -- ---- the asked argument
 
-written-zero : decimal 0 ≡ bytes "0"
+pub written-zero : decimal 0 ≡ bytes "0"
 unfolding decimal bytes lastDigits
 written-zero = refl
 

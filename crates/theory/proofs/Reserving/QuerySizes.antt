@@ -60,15 +60,19 @@ size-read f o =
 pub size-written : (f : Bytes) (o : Option ℕ) → sizeFrom f ≡ some o → f ≡ writtenSize o
 size-written f o e = size-read f o e .0
 
-pub size-small : (f : Bytes) (o : Option ℕ) → sizeFrom f ≡ some o → SmallSize o
-size-small f o e = size-read f o e .1
+-- a size that a field gives
+abbrev pub Small : Option (Option ℕ) → Type 0
+Small o = (s : ℕ) → o ≡ some (some s) → s ≤ 65535
+
+pub size-small : (f : Bytes) → Small (sizeFrom f)
+size-small f s e = size-read f (some s) e .1 s refl
 
 -- ---- in words
 
 size-field : (f : Bytes) (o : Option ℕ) → sizeFrom f ≡ some o → SizeField f
 unfolding writtenSize
 size-field f none e = unknown (size-written f none e)
-size-field f (some s) e = known s (size-small f (some s) e s refl) (size-written f (some s) e)
+size-field f (some s) e = known s (size-small f s e) (size-written f (some s) e)
 
 pub size-told : (f : Bytes) → isSome (sizeFrom f) ≡ true → SizeField f
 size-told f e = let found = is-some (sizeFrom f) e in size-field f (found .0) (found .1)
@@ -85,12 +89,12 @@ abbrev pub AllSmall : List (Option ℕ) → Type 0
 AllSmall sizes = (s : ℕ) → some s ∈ sizes → s ≤ 65535
 
 -- whatever a field is, it gives no size or a small one
-read-small : (f : Bytes) → SmallSize (Option·getD (sizeFrom f) none)
+pub read-small : (f : Bytes) → SmallSize (Option·getD (sizeFrom f) none)
 read-small f = go (sizeFrom f) refl
   where
     go : (o : Option (Option ℕ)) → sizeFrom f ≡ o → SmallSize (Option·getD o none)
-    go none e = none-small
-    go (some size) e = size-small f size e
+    go none e s h = none-small s h
+    go (some size) e s h = size-small f s (e ∙ ap some h)
 
 pub query-small : (query : Bytes) → AllSmall (queryOf query .sizes)
 unfolding queryOf queryFrom
