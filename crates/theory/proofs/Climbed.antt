@@ -10,14 +10,14 @@ use lib.Signed.{_≤ℤ_}
 use Rattle.groundwork.proofs.Lists.{all-cons}
 use Rattle.groundwork.proofs.Order.{nonneg-pos}
 use Rattle.theory.specs.Lists.{total, every}
-use Rattle.theory.specs.Text.{Bytes, bytes, same, partsAt, linesOf, isNameByte, isWord, valueAfter, isDecimal, natural, negated, integer}
+use Rattle.theory.specs.Text.{bytes, same, partsAt, linesOf, isNameByte, isWord, valueAfter, isDecimal, natural, negated, integer}
 use Rattle.theory.specs.Terms.{Term, variable, nil, cons, arity, symbolFrom, symbolIn, tokenOf, firstTerms, after, afterAll, termsOf, theOnly, readTerm, variables, allVariables, Substitution, under, allUnder}
 use Rattle.theory.specs.Sizes.{structural, flagged, constantOf}
 use Rattle.theory.specs.Packs.{given, ruled, Claim, Atom, Rule, Pack, sameKey, declaredAs, claimsOn}
 use Rattle.theory.specs.Written.{letterOf, termsFrom, kindFrom, predicateFrom, claimFrom, atomFrom, multipliersFrom, nothing, onLast, add, write, writeAll, packOf}
 use Rattle.theory.specs.Facts.{Meets, weightedSizes, claimAt}
 use Rattle.theory.specs.Derivations.{GivenFact, Derivable, byRule, atomUnder}
-use Rattle.theory.specs.Witnesses.{climbing, zero, number, climbed}
+use Rattle.theory.specs.Witnesses.{climbing, zero, numeral, climbed, Derived}
 
 -- ---- what the lines write
 
@@ -64,26 +64,26 @@ step-given s t g m = Derivable.isGiven (record {
 
 -- ---- and with all of them the rule applies
 
-number-ground : (n : ℕ) → variables (number n) ≡ []
-unfolding number variables
-number-ground N.zero = refl
-number-ground (suc n) = rw (number-ground n)
+numeral-ground : (n : ℕ) → variables (numeral n) ≡ []
+unfolding numeral variables
+numeral-ground N.zero = refl
+numeral-ground (suc n) = rw (numeral-ground n)
 
 -- A is 1, B is 2, and so on
 unfoldable heights : Substitution
-heights = record { for = λ x. number (getD x 0 0 - 64); ground = λ x. number-ground (getD x 0 0 - 64) }
+heights = record { for = λ x. numeral (getD x 0 0 - 64); ground = λ x. numeral-ground (getD x 0 0 - 64) }
 
-pub climbed-derived : Derivable (packOf (bytes climbing)) (GivenFact (packOf (bytes climbing))) climbed
-unfolding bytes under allUnder variables heights number arity constantOf structural flagged total flatten weightedSizes
+pub climbed-derived : Derived climbing climbed
+unfolding bytes under allUnder variables heights numeral arity constantOf structural flagged total flatten weightedSizes
 climbed-derived =
     let P : Atom → Type 0 = λ (a : Atom). Derivable pack (GivenFact pack) (atomUnder heights a) in
     rw written-so (byRule rule (List·Memᴰ·head refl) heights
-    (all-cons P (step-given (number 0) (number 1) refl (nonneg-pos 0))
-    (all-cons P (step-given (number 1) (number 2) refl (nonneg-pos 0))
-    (all-cons P (step-given (number 2) (number 3) refl (nonneg-pos 0))
-    (all-cons P (step-given (number 3) (number 4) refl (nonneg-pos 0))
-    (all-cons P (step-given (number 4) (number 5) refl (nonneg-pos 0))
-    (all-cons P (step-given (number 5) (number 6) refl (nonneg-pos 0))
-    (all-cons P (step-given (number 6) (number 7) refl (nonneg-pos 0))
-    (all-cons P (step-given (number 7) (number 8) refl (nonneg-pos 0))
+    (all-cons P (step-given (numeral 0) (numeral 1) refl (nonneg-pos 0))
+    (all-cons P (step-given (numeral 1) (numeral 2) refl (nonneg-pos 0))
+    (all-cons P (step-given (numeral 2) (numeral 3) refl (nonneg-pos 0))
+    (all-cons P (step-given (numeral 3) (numeral 4) refl (nonneg-pos 0))
+    (all-cons P (step-given (numeral 4) (numeral 5) refl (nonneg-pos 0))
+    (all-cons P (step-given (numeral 5) (numeral 6) refl (nonneg-pos 0))
+    (all-cons P (step-given (numeral 6) (numeral 7) refl (nonneg-pos 0))
+    (all-cons P (step-given (numeral 7) (numeral 8) refl (nonneg-pos 0))
     (λ a none. absurd (List·Memᴰ·not-nil none)))))))))))

@@ -2,7 +2,7 @@
 -- 01's packs, with the known sizes of queries that are answered.
 use mathlib.Core.Path.{_≡_, refl, _∙_, ap}
 use mathlib.Core.Bool.{Bool, true, false, _&&_}
-use mathlib.Core.List.{List, [], _∷_, flatMap, flatten, List·Memᴰ·head, List·Memᴰ·tail, List·Memᴰ·not-nil}
+use mathlib.Core.List.{List, [], _∷_, flatMap, flatten, List·Memᴰ·head, List·Memᴰ·not-nil}
 use mathlib.Core.Option.{Option, some, none, Option·some-injective, Option·none-ne-some}
 use Prim.Native.Nat as N
 use Prim.Native.Nat.{ℕ, suc}
@@ -22,8 +22,8 @@ use Rattle.theory.specs.Written.{letterOf, termsFrom, kindFrom, predicat
 use Rattle.theory.specs.Faults.{noRule}
 use Rattle.theory.specs.Facts.{Meets, weightedSizes}
 use Rattle.theory.specs.Reserve.{Query, Fields, fields, sizeFrom, queryFrom, queryOf, sizeAt, HasKnownSizes, reserveOf}
-use Rattle.theory.specs.Derivations.{GivenFact, Derivable, byRule, atomUnder}
-use Rattle.theory.specs.Witnesses.{joining, giving, shipping, climbing, empty, single, three, zero, next, number, joins, isK, trails, climbed, Reached, LineJudged, Witnessed}
+use Rattle.theory.specs.Derivations.{GivenFact, Derivable, byRule}
+use Rattle.theory.specs.Witnesses.{joining, giving, shipping, climbing, empty, empties, inFront, list, wide, zero, next, numeral, joins, isK, trails, climbed, Reached, LineJudged, Witnessed}
 use Rattle.theory.proofs.Examples.{Answer, checked, reserved, sized, filed, printed, reserve, answerTo}
 use Rattle.theory.proofs.Joined.{all-joined, lists-joined, list-size, any-granted, wide-granted}
 use Rattle.theory.proofs.Climbed.{climbed-derived}
@@ -40,20 +40,15 @@ pub empty-joined : Derivable (packOf (bytes joining)) (GivenFact (packOf (bytes 
 unfolding bytes same every partsAt linesOf isNameByte isWord valueAfter isDecimal natural negated integer arity symbolFrom symbolIn tokenOf firstTerms after afterAll termsOf theOnly readTerm constantOf variables sameKey declaredAs claimsOn letterOf termsFrom kindFrom predicateFrom claimFrom atomFrom multipliersFrom nothing onLast add write writeAll packOf noRule flatMap under allUnder allVariables allEmpty
 empty-joined = byRule (getD (packOf (bytes joining) .rules) 0 noRule) (List·Memᴰ·head refl) allEmpty (λ a none. absurd (List·Memᴰ·not-nil none))
 
--- one step further, by the second rule
-pub single-joined : Derivable (packOf (bytes joining)) (GivenFact (packOf (bytes joining))) (joins single empty single)
-unfolding bytes same every partsAt linesOf isNameByte isWord valueAfter isDecimal natural negated integer arity symbolFrom symbolIn tokenOf firstTerms after afterAll termsOf theOnly readTerm constantOf variables sameKey declaredAs claimsOn letterOf termsFrom kindFrom predicateFrom claimFrom atomFrom multipliersFrom nothing onLast add write writeAll packOf noRule flatMap under allUnder allVariables allEmpty
-single-joined = byRule (getD (packOf (bytes joining) .rules) 1 noRule) (List·Memᴰ·tail (List·Memᴰ·head refl)) allEmpty (all-cons (λ (a : Atom). Derivable (packOf (bytes joining)) (GivenFact (packOf (bytes joining))) (atomUnder allEmpty a)) empty-joined (λ a none. absurd (List·Memᴰ·not-nil none)))
-
 -- ---- a given fact
 
 -- its size is 3, and 7 - 2 times 3 is at least 0
-pub given-derived : Derivable (packOf (bytes giving)) (GivenFact (packOf (bytes giving))) (isK three)
-unfolding bytes same every partsAt linesOf isNameByte isWord valueAfter isDecimal natural negated integer arity symbolFrom symbolIn tokenOf firstTerms after afterAll termsOf theOnly readTerm constantOf variables sameKey declaredAs claimsOn letterOf termsFrom kindFrom predicateFrom claimFrom atomFrom multipliersFrom nothing onLast add write writeAll packOf noRule flatMap under allUnder allVariables allEmpty structural flagged total flatten weightedSizes
+pub given-derived : Derivable (packOf (bytes giving)) (GivenFact (packOf (bytes giving))) (isK (wide 3))
+unfolding bytes same every partsAt linesOf isNameByte isWord valueAfter isDecimal natural negated integer arity symbolFrom symbolIn tokenOf firstTerms after afterAll termsOf theOnly readTerm constantOf variables sameKey declaredAs claimsOn letterOf termsFrom kindFrom predicateFrom claimFrom atomFrom multipliersFrom nothing onLast add write writeAll packOf noRule flatMap under allUnder allVariables allEmpty empties structural flagged total flatten weightedSizes
 given-derived = Derivable.isGiven (record {
   fact = record { predicate = getD (packOf (bytes giving) .predicates) 0 (record { name = []; arguments = 0; kind = ruled }); declared = refl; ground = refl };
   isGiven = refl;
-  meets = record { meets = all-cons (Meets structural (isK three)) (record { holds = nonneg-pos 1 }) (λ c none. absurd (List·Memᴰ·not-nil none)) };
+  meets = record { meets = all-cons (Meets structural (isK (wide 3))) (record { holds = nonneg-pos 1 }) (λ c none. absurd (List·Memᴰ·not-nil none)) };
 })
 
 -- ---- queries
@@ -116,16 +111,16 @@ record Has (q : Query) (f : Atom) (bound : ℕ) : Type 0 where
   known : HasKnownSizes structural q f
   reached : sizeAt structural (q .asked) f ≡ bound
 
-single-has : Has (asks (bytes "join") 2 (some 2 ∷ some 0 ∷ none ∷ [])) (joins single empty single) 2
-unfolding agree bytes arity constantOf structural flagged total flatten
+single-has : Has (asks (bytes "join") 2 (some 2 ∷ some 0 ∷ none ∷ [])) (joins (list 1) empty (list 1)) 2
+unfolding agree bytes inFront empties arity constantOf structural flagged total flatten
 single-has = record { known = record { ofPredicate = refl; known = agrees (some 2 ∷ some 0 ∷ none ∷ []) (2 ∷ 0 ∷ 2 ∷ []) refl }; reached = refl }
 
 empty-has : Has (asks (bytes "join") 0 (none ∷ some 0 ∷ some 0 ∷ [])) (joins empty empty empty) 0
 unfolding agree bytes arity constantOf structural flagged total flatten
 empty-has = record { known = record { ofPredicate = refl; known = agrees (none ∷ some 0 ∷ some 0 ∷ []) (0 ∷ 0 ∷ 0 ∷ []) refl }; reached = refl }
 
-three-has : Has (asks (bytes "k") 0 (none ∷ [])) (isK three) 3
-unfolding agree bytes arity constantOf structural flagged total flatten
+three-has : Has (asks (bytes "k") 0 (none ∷ [])) (isK (wide 3)) 3
+unfolding agree bytes empties arity constantOf structural flagged total flatten
 three-has = record { known = record { ofPredicate = refl; known = agrees (none ∷ []) (3 ∷ []) refl }; reached = refl }
 
 trail-has : Has (asks (bytes "trail") 1 (some 2 ∷ none ∷ [])) (trails (next (next zero)) (next zero)) 1
@@ -133,7 +128,7 @@ unfolding agree bytes arity constantOf structural flagged total flatten
 trail-has = record { known = record { ofPredicate = refl; known = agrees (some 2 ∷ none ∷ []) (2 ∷ 1 ∷ []) refl }; reached = refl }
 
 climbed-has : Has (asks (bytes "climb") 7 (some 1 ∷ some 2 ∷ some 3 ∷ some 4 ∷ some 5 ∷ some 6 ∷ some 7 ∷ none ∷ [])) climbed 8
-unfolding agree bytes number arity constantOf structural flagged total flatten
+unfolding agree bytes numeral arity constantOf structural flagged total flatten
 climbed-has = record { known = record { ofPredicate = refl; known = agrees (some 1 ∷ some 2 ∷ some 3 ∷ some 4 ∷ some 5 ∷ some 6 ∷ some 7 ∷ none ∷ []) (1 ∷ 2 ∷ 3 ∷ 4 ∷ 5 ∷ 6 ∷ 7 ∷ 8 ∷ []) refl }; reached = refl }
 
 reaches : {text query : Bytes} {Given : Atom → Type 0} {bound claim : ℕ} {f : Atom} {q : Query} → queryOf query ≡ q → reserveOf text query ≡ fields (code "B") bound claim → Derivable (packOf text) Given f → Has q f bound
@@ -162,7 +157,7 @@ unjustified-line = record { before = bytes "P,k,1,R" ∷ bytes "C,k,-1,1" ∷ by
 pub witnessed : Witnessed
 unfolding answerTo
 witnessed = record {
-  ruled = reaches third-asked (answer-is joining "join,3,2,0,-" _ refl) single-joined single-has;
+  ruled = reaches third-asked (answer-is joining "join,3,2,0,-" _ refl) (lists-joined 1) single-has;
   impossible = answer-is joining "join,1,-,1,0" _ refl;
   oneApart = reaches first-asked (answer-is joining "join,1,-,0,0" _ refl) empty-joined empty-has;
   joined = all-joined;

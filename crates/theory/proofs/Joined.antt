@@ -1,6 +1,6 @@
 -- Derivations have no limit of depth, and terms in them none of size (specs/Witnesses.antt): in the pack that joins lists every list of ground
 -- terms is joined with any other, and any ground term is a given fact's.
-use mathlib.Core.Path.{_≡_, refl, _∙_, ap}
+use mathlib.Core.Path.{_≡_, refl, _∙_}
 use mathlib.Core.Bool.{Bool, cond}
 use mathlib.Core.List.{List, [], _∷_, _++_, append-nil, cons-ne-nil, List·Memᴰ·head, List·Memᴰ·tail, List·Memᴰ·not-nil}
 use Prim.Native.Nat as N
@@ -14,10 +14,10 @@ use Rattle.theory.specs.Lists.{total, every}
 use Rattle.theory.specs.Text.{Bytes, bytes, same, partsAt, linesOf, isNameByte, isWord, valueAfter, isDecimal, natural, negated, integer}
 use Rattle.theory.specs.Terms.{Term, Terms, variable, symbol, nil, cons, arity, symbolFrom, symbolIn, tokenOf, firstTerms, after, afterAll, termsOf, theOnly, readTerm, variables, allVariables, Substitution, under, allUnder}
 use Rattle.theory.specs.Sizes.{structural, flagged, constantOf, size}
-use Rattle.theory.specs.Packs.{given, ruled, Claim, Atom, Rule, Pack, sameKey, declaredAs, claimsOn}
+use Rattle.theory.specs.Packs.{given, ruled, Atom, Rule, Pack, sameKey, declaredAs, claimsOn}
 use Rattle.theory.specs.Written.{letterOf, termsFrom, kindFrom, predicateFrom, claimFrom, atomFrom, multipliersFrom, nothing, onLast, add, write, writeAll, packOf}
 use Rattle.theory.specs.Derivations.{GivenFact, Derivable, byRule, atomUnder}
-use Rattle.theory.specs.Witnesses.{joining, granting, empty, inFront, empties, list, wide, joins, isK}
+use Rattle.theory.specs.Witnesses.{joining, granting, empty, inFront, empties, list, wide, joins, isK, Derived}
 
 -- ---- what the lines write
 
@@ -91,10 +91,10 @@ join-derived (cons t ts) l g h =
     let σ : Substitution = setting (bytes "X") t first (setting (bytes "Xs") (inFront ts empty) (front-ground ts empty rest refl) (setting (bytes "Zs") (inFront ts l) (front-ground ts l rest h) (everywhere l h))) in
     byRule oneMore (List·Memᴰ·tail (List·Memᴰ·head refl)) σ (all-cons (λ (a : Atom). Derivable pack (GivenFact pack) (atomUnder σ a)) (join-derived ts l rest h) (λ a none. absurd (List·Memᴰ·not-nil none)))
 
-pub all-joined : (ts : Terms) (l : Term) → allVariables ts ≡ [] → variables l ≡ [] → Derivable (packOf (bytes joining)) (GivenFact (packOf (bytes joining))) (joins (inFront ts empty) l (inFront ts l))
+pub all-joined : (ts : Terms) (l : Term) → allVariables ts ≡ [] → variables l ≡ [] → Derived joining (joins (inFront ts empty) l (inFront ts l))
 all-joined ts l g h = rw written-so (join-derived ts l g h)
 
-pub lists-joined : (n : ℕ) → Derivable (packOf (bytes joining)) (GivenFact (packOf (bytes joining))) (joins (list n) empty (list n))
+pub lists-joined : (n : ℕ) → Derived joining (joins (list n) empty (list n))
 unfolding variables
 lists-joined n = all-joined (empties n) empty (empties-ground n) refl
 
@@ -110,7 +110,7 @@ granted-so : packOf (bytes granting) ≡ record { predicates = record { name = b
 unfolding bytes same every partsAt linesOf isNameByte isWord valueAfter isDecimal natural negated integer arity symbolFrom symbolIn tokenOf firstTerms after afterAll termsOf theOnly readTerm letterOf termsFrom kindFrom predicateFrom claimFrom atomFrom multipliersFrom nothing onLast add write writeAll packOf
 granted-so = refl
 
-pub any-granted : (t : Term) → variables t ≡ [] → Derivable (packOf (bytes granting)) (GivenFact (packOf (bytes granting))) (isK t)
+pub any-granted : (t : Term) → variables t ≡ [] → Derived granting (isK t)
 unfolding bytes same arity sameKey declaredAs claimsOn variables
 any-granted t g = rw granted-so (Derivable.isGiven (record {
   fact = record { predicate = record { name = bytes "k"; arguments = 1; kind = given }; declared = refl; ground = append-nil (variables t) ∙ g };
@@ -118,6 +118,6 @@ any-granted t g = rw granted-so (Derivable.isGiven (record {
   meets = record { meets = λ c none. absurd (List·Memᴰ·not-nil none) };
 }))
 
-pub wide-granted : Derivable (packOf (bytes granting)) (GivenFact (packOf (bytes granting))) (isK (wide 10))
+pub wide-granted : Derived granting (isK (wide 10))
 unfolding variables
 wide-granted = any-granted (wide 10) (empties-ground 10)

@@ -41,22 +41,15 @@ granting = "P,k,1,G\nE\n"
 abbrev pub climbing : String
 climbing = "P,step,2,G\nP,climb,8,R\nC,step,1,1,-1\nC,climb,8,0,0,0,0,0,0,0,-1\nH,climb,A,B,C,D,E,F,G,H\nB,step,o/0,A\nB,step,A,B\nB,step,B,C\nB,step,C,D\nB,step,D,E\nB,step,E,F\nB,step,F,G\nB,step,G,H\nM,1,1,1,1,1,1,1,1\nE\n"
 
--- the empty list, and a list of one element; three constants under one symbol
+-- the empty list; terms in front of a list, as its first elements
 abbrev pub empty : Term
 empty = symbol (bytes "nil") nil
 
-abbrev pub single : Term
-single = symbol (bytes "cons") (cons empty (cons empty nil))
-
-abbrev pub three : Term
-three = symbol (bytes "f") (cons empty (cons empty (cons empty nil)))
-
--- terms in front of a list, as its first elements
 unfoldable pub inFront : Terms → Term → Term
 inFront nil l = l
 inFront (cons t ts) l = symbol (bytes "cons") (cons t (cons (inFront ts l) nil))
 
--- n empty lists; the list of them; one symbol with all of them as its arguments
+-- n empty lists; the list of them; one symbol with them as its arguments
 unfoldable pub empties : ℕ → Terms
 empties N.zero = nil
 empties (suc n) = cons empty (empties n)
@@ -67,16 +60,16 @@ list n = inFront (empties n) empty
 abbrev pub wide : ℕ → Term
 wide n = symbol (bytes "f") (empties n)
 
--- 0, 1, 2
+-- 0, and one more; n
 abbrev pub zero : Term
 zero = symbol (bytes "o") nil
 
 abbrev pub next : Term → Term
 next t = symbol (bytes "s") (cons t nil)
 
-unfoldable pub number : ℕ → Term
-number N.zero = zero
-number (suc n) = next (number n)
+unfoldable pub numeral : ℕ → Term
+numeral N.zero = zero
+numeral (suc n) = next (numeral n)
 
 abbrev pub joins : Term → Term → Term → Atom
 joins a b c = record { name = bytes "join"; terms = cons a (cons b (cons c nil)) }
@@ -90,11 +83,15 @@ nexts a b = record { name = bytes "next"; terms = cons a (cons b nil) }
 abbrev pub trails : Term → Term → Atom
 trails a b = record { name = bytes "trail"; terms = cons a (cons b nil) }
 
--- up to 8, all the way
+-- all eight steps
 abbrev pub climbed : Atom
-climbed = record { name = bytes "climb"; terms = cons (number 1) (cons (number 2) (cons (number 3) (cons (number 4) (cons (number 5) (cons (number 6) (cons (number 7) (cons (number 8) nil))))))) }
+climbed = record { name = bytes "climb"; terms = cons (numeral 1) (cons (numeral 2) (cons (numeral 3) (cons (numeral 4) (cons (numeral 5) (cons (numeral 6) (cons (numeral 7) (cons (numeral 8) nil))))))) }
 
 -- ## What is shown of them
+
+-- It has a derivation from all that may be given (01).
+abbrev pub Derived : String → Atom → Type 0
+Derived text f = Derivable (packOf (bytes text)) (GivenFact (packOf (bytes text))) f
 
 -- The bound that reserve gives is the asked size of a fact that has a derivation and the query's known sizes.
 pub record Reached (text : Bytes) (Given : Atom → Type 0) (query : Bytes) (bound claim : ℕ) (f : Atom) : Type 0 where
@@ -115,22 +112,21 @@ pub record LineJudged (text : Bytes) (number : ℕ) : Type 0 where
 
 pub record Witnessed : Type 0 where
   -- by two rules, one after the other
-  pub ruled : Reached (bytes joining) (GivenFact (packOf (bytes joining))) (bytes "join,3,2,0,-") 2 1 (joins single empty single)
+  pub ruled : Reached (bytes joining) (GivenFact (packOf (bytes joining))) (bytes "join,3,2,0,-") 2 1 (joins (list 1) empty (list 1))
   -- impossible, and one size apart not
   pub impossible : reserveOf (bytes joining) (bytes "join,1,-,1,0") ≡ fields (code "I") 0 2
   pub oneApart : Reached (bytes joining) (GivenFact (packOf (bytes joining))) (bytes "join,1,-,0,0") 0 2 (joins empty empty empty)
   -- whatever ground terms are put for the variables, to any depth: a list of them is joined with any other term
-  pub joined : (ts : Terms) (l : Term) → allVariables ts ≡ [] → variables l ≡ []
-      → Derivable (packOf (bytes joining)) (GivenFact (packOf (bytes joining))) (joins (inFront ts empty) l (inFront ts l))
+  pub joined : (ts : Terms) (l : Term) → allVariables ts ≡ [] → variables l ≡ [] → Derived joining (joins (inFront ts empty) l (inFront ts l))
   -- among these of every length, and so of every even size
-  pub lists : (n : ℕ) → Derivable (packOf (bytes joining)) (GivenFact (packOf (bytes joining))) (joins (list n) empty (list n))
+  pub lists : (n : ℕ) → Derived joining (joins (list n) empty (list n))
   pub listSizes : (n : ℕ) → size structural (list n) ≡ n + n
   -- by a rule with eight subgoals, each with terms of its own, of a query that gives seven sizes
   pub climbs : Reached (bytes climbing) (GivenFact (packOf (bytes climbing))) (bytes "climb,8,1,2,3,4,5,6,7,-") 8 1 climbed
   -- any ground term may come from outside; also one that no pack can write, with a symbol of ten arguments
-  pub granted : (t : Term) → variables t ≡ [] → Derivable (packOf (bytes granting)) (GivenFact (packOf (bytes granting))) (isK t)
-  pub unwritten : Derivable (packOf (bytes granting)) (GivenFact (packOf (bytes granting))) (isK (wide 10))
-  pub given : Reached (bytes giving) (GivenFact (packOf (bytes giving))) (bytes "k,1,-") 3 1 (isK three)
+  pub granted : (t : Term) → variables t ≡ [] → Derived granting (isK t)
+  pub unwritten : Derived granting (isK (wide 10))
+  pub given : Reached (bytes giving) (GivenFact (packOf (bytes giving))) (bytes "k,1,-") 3 1 (isK (wide 3))
   pub shipped : Reached (bytes shipping) (ShippedFact (packOf (bytes shipping))) (bytes "trail,2,2,-") 1 1 (trails (next (next zero)) (next zero))
   -- a fact of the same predicate as the shipped one, which 01 would take as given, has no derivation from those that are shipped
   pub absent : GivenFact (packOf (bytes shipping)) (nexts (next zero) zero)
