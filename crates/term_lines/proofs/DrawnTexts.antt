@@ -2,7 +2,7 @@
 use mathlib.Core.Path.{_≡_, refl, sym, _∙_, ap}
 use mathlib.Core.List.{List, [], _∷_, _++_, append-assoc, append-nil, map, map-append}
 use mathlib.Core.Option.{Option, some, none}
-use Prim.Native.Nat.{ℕ, suc}
+use Prim.Native.Nat.{ℕ, suc, _+_}
 use Rattle.theory.specs.Text.{Bytes, bytes, joined, decimal, lastDigits}
 use Rattle.theory.specs.Terms.{Term, Terms, symbol, nil, cons, arity, symbolToken, tokens, allTokens, writtenTerm}
 use Rattle.theory.specs.Terms as Terms

@@ -25,6 +25,7 @@ use Rattle.theory.proofs.Importing.ImportOutcomes.{written-marks, impor
 use Rattle.theory.proofs.Importing.OneOutcome.{only-one, one-outcome}
 use Rattle.theory.proofs.Importing.PlainTexts.{plain, plain-writes}
 use Rattle.theory.proofs.Importing.RoomEnough.{room-enough}
+use Rattle.theory.proofs.Importing.SpelledMarks.{clauses-marks, marks-clauses}
 use Rattle.theory.proofs.Importing.SpelledTokens.{front-spelled}
 
 -- ---- clauses
@@ -32,7 +33,7 @@ use Rattle.theory.proofs.Importing.SpelledTokens.{front-spelled}
 pub subset-kept : (clauses : List Clause) → SubsetKept clauses
 subset-kept clauses =
     let ms = flatMap clauseMarks clauses in
-    record { writable = (λ found. let w = found .1 in front-spelled (w .cut) ms [] (w .are ∙ sym (append-nil ms)), λ spelled. (plain ms, plain-writes clauses spelled)) }
+    record { writable = (λ found. let w = found .1 in marks-clauses clauses (front-spelled (w .cut) ms [] (w .are ∙ sym (append-nil ms))), λ spelled. (plain ms, plain-writes clauses (clauses-marks clauses spelled))) }
 
 pub filling-kept : (c : Clause) → FillingKept c
 filling-kept c = record { fills = clause-fills c; fresh = fresh-in c }

@@ -5,6 +5,7 @@ pub mod Running
 pub mod Leading
 -- the tokens of a text
 pub mod Cutting
+pub mod SpelledMarks
 pub mod SpelledTokens
 pub mod PlainTexts
 pub mod RoomEnough

@@ -1,5 +1,5 @@
--- Document 02, 6/14: the tokens of a clause text. A token is a run of letters, digits and underscores, or `:-`, or else one byte;
--- spaces and line ends, the layout, stand around tokens. Cutting says the same in the request's words, and of every text.
+-- Document 02, 6/14: the tokens of a clause text: runs of letters, digits and underscores, `:-`, and single bytes for all that is
+-- neither; spaces and line ends, the layout, stand around them. Cutting says the same in words, for every text.
 use mathlib.Core.Bool.{Bool, true, false, cond, not, _&&_, _||_}
 use mathlib.Core.List.{List, [], _∷_}
 use Prim.Native.Nat.{ℕ, zero, suc}

@@ -4,7 +4,7 @@
 -- proofs/ImportKept.antt.
 use mathlib.Core.Path.{_≡_}
 use mathlib.Core.Logic.{_⊎_, _↔_}
-use mathlib.Core.Bool.{Bool, true, false, _||_}
+use mathlib.Core.Bool.{true, false}
 use mathlib.Core.List.{List, [], _∷_, _++_, map, flatMap}
 use Prim.Native.Nat.{ℕ, _+_, _*_, _≤_, _<_}
 use lib.ListN.{length, take, drop, replicate}
@@ -17,10 +17,10 @@ use Rattle.theory.specs.declared.Letter.the-variants.{H, B}
 use Rattle.theory.specs.Written.{lineLetter, atomFrom}
 use Rattle.theory.specs.Check.{numbers}
 use Rattle.theory.specs.Pages.{Paged, paged}
-use Rattle.theory.specs.ClauseTokens.{Mark, name, variable, opens, closes, comma, neck, stop, stray, Token, tokensOf}
+use Rattle.theory.specs.ClauseTokens.{Mark, name, variable, Token, tokensOf}
 use Rattle.theory.specs.Cutting.{isRun, Cut}
 use Rattle.theory.specs.Clauses.{Clause, clauseMarks}
-use Rattle.theory.specs.Import.{isLone, freshOf, filled, clauseLines, clauseFits, importOf}
+use Rattle.theory.specs.Import.{freshOf, filled, clauseLines, clauseFits, importOf}
 
 -- ## Texts
 
@@ -41,23 +41,27 @@ pub record Begins (front : List Mark) : Type 0 where
   pub rest : List Mark
   pub is : front ++ rest ≡ flatMap clauseMarks clauses
 
--- names are lower-case, variables begin with a capital or are `_`
-unfoldable pub isSpelled : Mark → Bool
-isSpelled (name f) = isRun isLower f
-isSpelled (variable x) = isRun isUpper x || isLone x
-isSpelled opens = true
-isSpelled closes = true
-isSpelled comma = true
-isSpelled neck = true
-isSpelled stop = true
-isSpelled (stray s) = true
+-- What may stand in a clause, at any nesting and with any number of arguments: names are runs that begin with a small letter, variables
+-- runs that begin with a capital, or `_`.
+abbrev mutual
+  pub TermSpelled : Term → Type 0
+  TermSpelled (T.variable x) = (isRun isUpper x ≡ true) ⊎ (x ≡ bytes "_")
+  TermSpelled (symbol f ts) = (isRun isLower f ≡ true) × TermsSpelled ts
 
-abbrev pub AllSpelled : List Mark → Type 0
-AllSpelled ms = (m : Mark) → m ∈ ms → isSpelled m ≡ true
+  pub TermsSpelled : Terms → Type 0
+  TermsSpelled nil = Unit {0}
+  TermsSpelled (cons t ts) = TermSpelled t × TermsSpelled ts
 
--- The subset: some text writes these clauses, at any nesting, exactly if they are spelled so.
+abbrev pub AtomSpelled : Atom → Type 0
+AtomSpelled a = TermSpelled (symbol (a .name) (a .terms))
+
+pub record ClauseSpelled (c : Clause) : Type 0 where
+  pub head : AtomSpelled (c .head)
+  pub subgoals : (a : Atom) → a ∈ c .subgoals → AtomSpelled a
+
+-- The subset: some text writes these clauses exactly if they are spelled so.
 pub record SubsetKept (clauses : List Clause) : Type 0 where
-  pub writable : ((text : Bytes) × Writes text clauses) ↔ AllSpelled (flatMap clauseMarks clauses)
+  pub writable : ((text : Bytes) × Writes text clauses) ↔ ((c : Clause) → c ∈ clauses → ClauseSpelled c)
 
 -- ## Limits
 

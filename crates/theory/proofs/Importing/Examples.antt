@@ -48,7 +48,10 @@ lines = bytes "H,app,nil/0,Y,Y\nH,app,cons/2 X Xs,Y,cons/2 X Zs\nB,app,Xs,Y,Zs\n
 -- an atom, a space and a line end before a parenthesis, no arguments in parentheses, a full stop before a name, with layout later
 -- and with none, a tab, a byte 12, a byte 13 after a full stop, `:` without `-`, runs that begin with `_` and with a digit, a
 -- variable with arguments; the end within a clause, and before its stop. 26: a name of 17 bytes, nine arguments, nine subgoals,
--- and 17 variables, each before 25 in a later clause. 27: one byte short, before 26 in a later clause; and 26 before 27.
+-- and 17 variables, each before 25 in a later clause; eight arguments, a name of 16 bytes, nested terms with nine arguments and 16 variables, which
+-- pass, with a written V9 that no fresh variable is. 25 again: a variable as a subgoal, a neck without a head, a comma after a head, a
+-- second pair of parentheses; 26: a symbol with ten arguments. 27: one byte short, before 25 and before 26 in a later clause; and 26
+-- before 27.
 abbrev pub examples : List Example
 examples =
     row clauses 104 (paged (numbers 0 3 101 0) (lines ++ dots 3))
@@ -77,7 +80,16 @@ examples =
     ∷ refuses "a:-b,b,b,b,b,b,b,b,b.\n)" 200 26 1
     ∷ row "a:-b,b,b,b,b,b,b,b." 36 (paged (numbers 0 1 36 0) (bytes "H,a\nB,b\nB,b\nB,b\nB,b\nB,b\nB,b\nB,b\nB,b\n"))
     ∷ refuses "a(b(_,_,_,_,_,_,_,_,_),b(_,_,_,_,_,_,_,_)).\n)" 200 26 1
+    ∷ row "a(A,b,C,d,E,f,G,h)." 28 (paged (numbers 0 1 28 0) (bytes "H,a,A,b/0,C,d/0,E,f/0,G,h/0\n"))
+    ∷ row "aaaaaaaaaaaaaaaa(b(c(d(e(f(A,B,C,g,h,D,E,F,k))))))." 63 (paged (numbers 0 1 63 0) (bytes "H,aaaaaaaaaaaaaaaa,b/1 c/1 d/1 e/1 f/9 A B C g/0 h/0 D E F k/0\n"))
+    ∷ row "a(f(_,_,_,_,_,_,_,_,_),g(V9,_,_,_,_,_,_))." 67 (paged (numbers 0 1 67 0) (bytes "H,a,f/9 V1 V2 V3 V4 V5 V6 V7 V8 V10,g/7 V9 V11 V12 V13 V14 V15 V16\n"))
+    ∷ refuses "a :- X.\n" 20 25 5
+    ∷ refuses ":- a.\n" 20 25 0
+    ∷ refuses "a, b.\n" 20 25 1
+    ∷ refuses "p(a)(b).\n" 20 25 4
+    ∷ refuses "a(f(b,b,b,b,b,b,b,b,b,b)).\n" 200 26 1
     ∷ refuses clauses 100 27 3
+    ∷ refuses "a.\nb.\n)" 7 27 2
     ∷ refuses "a.\nb.\naaaaaaaaaaaaaaaaa.\n" 7 27 2
     ∷ refuses "aaaaaaaaaaaaaaaaa.\n" 7 26 1
     ∷ []

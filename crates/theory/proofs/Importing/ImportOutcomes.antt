@@ -20,13 +20,14 @@ use Rattle.theory.specs.ClauseTokens.{Mark, Token, tokensOf}
 use Rattle.theory.specs.Cutting.{Cut}
 use Rattle.theory.specs.Clauses.{Clause, clauseMarks, State, begin, isBegin, Step, refuses, goes, ends, step}
 use Rattle.theory.specs.Import.{filled, clauseLines, clauseFits, Importing, refused, importFrom, importOf}
-use Rattle.theory.specs.Imported.{marks, Writes, Begins, isSpelled, AllSpelled, linesFor, Taken, AllTaken, ImportOutcome, imported, unfit, unended, past, full, refusal}
+use Rattle.theory.specs.Imported.{marks, Writes, Begins, linesFor, Taken, AllTaken, ImportOutcome, imported, unfit, unended, past, full, refusal}
 use Rattle.theory.proofs.Importing.Cutting.{text-cut, cut-exactly}
 use Rattle.theory.proofs.Importing.Leading.{Leads, leads-none, leads-more, leads-runs, none-read, some-read, completed, left-some, left-unrefused, Ways, fewer, further, ways}
 use Rattle.theory.proofs.Importing.PlainTexts.{plain, plain-writes}
 use Rattle.theory.proofs.Importing.Running.{runs-end, runs-sound}
 use Rattle.theory.proofs.Importing.SpelledTokens.{front-spelled}
 use Rattle.theory.proofs.Reading.Every.{every-member}
+use Rattle.theory.proofs.Importing.SpelledMarks.{isSpelled, AllSpelled}
 
 -- the marks of a text that writes clauses
 pub written-marks : {text : Bytes} {clauses : List Clause} → Writes text clauses → marks (tokensOf text) ≡ flatMap clauseMarks clauses

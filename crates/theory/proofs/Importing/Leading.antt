@@ -10,9 +10,9 @@ use Rattle.theory.specs.Terms.{Term, symbol, nil}
 use Rattle.theory.specs.ClauseTokens.{Mark, name, closes, stop}
 use Rattle.theory.specs.Clauses.{Clause, clauseMarks, Open, endingTerm, Last, due, read, State, state, begin, isDue, isBegin, Step, refuses, goes, ends, stepDue, stepAtom, stepArgument, stepRead, stepAfter, step}
 use Rattle.theory.specs.Cutting.{isRun}
-use Rattle.theory.specs.Imported.{isSpelled}
 use Rattle.theory.proofs.Importing.Running.{Runs, runs-end, runs-on, runs-complete, consumed, begin-consumed, Adds, step-adds}
 use Rattle.theory.proofs.Reading.Every.{every-cons}
+use Rattle.theory.proofs.Importing.SpelledMarks.{isSpelled}
 
 pub data Leads : State → List Mark → State → Type 0 where
   leads-none : {s : State} → Leads s [] s

@@ -17,9 +17,10 @@ use Rattle.theory.specs.ClauseTokens.{Mark, name, variable, opens, close
 use Rattle.theory.specs.Cutting.{Layout, startsWith, isRun, Piece, a-run, two-bytes, one-byte, Known, a-name, a-variable, the-lone, an-opening, a-closing, a-comma, a-neck, a-stop, known, CutFrom, nothing-left, layout-first, token-first}
 use Rattle.theory.specs.Clauses.{Clause, termMarks, argumentMarks, laterMarks, atomMarks, bodyMarks, clauseMarks}
 use Rattle.theory.specs.Import.{isLone}
-use Rattle.theory.specs.Imported.{marks, Writes, isSpelled, AllSpelled}
+use Rattle.theory.specs.Imported.{marks, Writes}
 use Rattle.theory.proofs.Importing.Cutting.{layout-is, lower-named, upper-named}
 use Rattle.theory.proofs.Reading.Bytes.{same-equal}
+use Rattle.theory.proofs.Importing.SpelledMarks.{isSpelled, AllSpelled}
 
 pub plain : List Mark → Bytes
 plain [] = []

@@ -9,8 +9,9 @@ use Rattle.theory.specs.Text.{Bytes, bytes, same, isUpper}
 use Rattle.theory.specs.ClauseTokens.{Mark, Token}
 use Rattle.theory.specs.Cutting.{isRun, Known, a-name, a-variable, the-lone, an-opening, a-closing, a-comma, a-neck, a-stop, last-stop, Marked, known, unknown, CutFrom, nothing-left, layout-first, token-first, Cut}
 use Rattle.theory.specs.Import.{isLone}
-use Rattle.theory.specs.Imported.{marks, isSpelled, AllSpelled}
+use Rattle.theory.specs.Imported.{marks}
 use Rattle.theory.proofs.Reading.Every.{every-cons, every-member}
+use Rattle.theory.proofs.Importing.SpelledMarks.{isSpelled, AllSpelled}
 
 known-spelled : {apart : Bool} {s after : Bytes} {m : Mark} → Known apart s after m → isSpelled m ≡ true
 unfolding isSpelled bytes same
