@@ -11,7 +11,7 @@ use theory::Counts;
 use theory::Filing;
 use theory::Verdict;
 
-/// Writes the sheet of an accepted text with so many rules, line by line, each into the rest of the page behind the last one.
+/// Writes the sheet of an accepted text with so many rules, line by line: each line is lent what the lines before it leave of the page.
 fn put_sheet(text: &[u8], rules: usize, page: &mut [u8])
     requires { ⌜ Ready (now text) rules (now page) ⌝ }
     ensures { λ r. ⌜ now (page .exit) ≡ over (sheetFor (packOf (now (text .entry)) .rules)) (now (page .entry)) ⌝ }
