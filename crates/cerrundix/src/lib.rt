@@ -7,12 +7,12 @@ ghost use Rattle.theory.specs.Check.{numbers, checkOf};
 ghost use Rattle.theory.specs.Measure.{measured, measureOf};
 ghost use Rattle.theory.specs.Reserve.{fields, reserveOf};
 ghost use Rattle.theory.specs.Sheet.{sheetOf};
-ghost use Rattle.theory.specs.Import.{importOf};
-ghost use Rattle.theory.specs.Answers.{importNumbers};
+ghost use Rattle.clause_theory.specs.Import.{importOf};
+ghost use Rattle.clause_theory.specs.Importations.{importNumbers};
 use answers::Four;
 use answers::Three;
 use answers::Two;
-use theory::Importation;
+use clause_theory::Importation;
 
 fn check_word(four: Four) -> u64
     ensures { λ r. ⌜ r ≡ checkWord (numbers (four .number) (four .line) (four .rule) (four .claim)) ⌝ }

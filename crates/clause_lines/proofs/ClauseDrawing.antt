@@ -10,14 +10,14 @@ use Rattle.groundwork.proofs.Truth.{never-both, not-true, not-false}
 use Rattle.theory.specs.Text.{Bytes, bytes, same}
 use Rattle.theory.specs.Packs.{textOf}
 use Rattle.theory.specs.Residuals.{numbered}
-use Rattle.theory.specs.ClauseTokens.{variable}
-use Rattle.theory.specs.ClauseTokens as T
-use Rattle.theory.specs.Clauses.{Clause, clauseMarks, due, State, state, begin, goes, ends, step}
-use Rattle.theory.specs.Import.{clauseVariables, lones, numberedVariable, nth, freshOf, filled, clauseLines, clauseFits}
-use Rattle.theory.proofs.Importing.Running.{Runs, runs-end, runs-on, runs-complete}
-use Rattle.theory.proofs.Importing.Filling.{markVariables, clause-variables, filledMarks, filled-marks}
-use Rattle.theory.proofs.Importing.FreshNumbering.{FreshAt, fresh-none, fresh-next, fresh-low}
-use Rattle.theory.specs.Imported.{marks}
+use Rattle.clause_theory.specs.ClauseTokens.{variable}
+use Rattle.clause_theory.specs.ClauseTokens as T
+use Rattle.clause_theory.specs.Clauses.{Clause, clauseMarks, due, State, state, begin, goes, ends, step}
+use Rattle.clause_theory.specs.Import.{clauseVariables, lones, numberedVariable, nth, freshOf, filled, clauseLines, clauseFits}
+use Rattle.clause_theory.proofs.Running.{Runs, runs-end, runs-on, runs-complete}
+use Rattle.clause_theory.proofs.Filling.{markVariables, clause-variables, filledMarks, filled-marks}
+use Rattle.clause_theory.proofs.FreshNumbering.{FreshAt, fresh-none, fresh-next, fresh-low}
+use Rattle.clause_theory.specs.Imported.{marks}
 use Rattle.text.specs.Scans.{part}
 use Rattle.clause_tokens.proofs.TokenLaws.{none-at-end}
 use Rattle.clause_variables.proofs.FreshSearch.{next-is-fresh}

@@ -6,8 +6,8 @@ use Prim.Native.Nat.{ℕ, _+_, _≤_, _<_}
 use lib.ListN.{length}
 use Rattle.theory.specs.Text.{Bytes}
 use Rattle.theory.specs.Packs.{textOf}
-use Rattle.theory.specs.Clauses.{Clause}
-use Rattle.theory.specs.Import.{clauseVariables, filled, clauseLines, clauseFits}
+use Rattle.clause_theory.specs.Clauses.{Clause}
+use Rattle.clause_theory.specs.Import.{clauseVariables, filled, clauseLines, clauseFits}
 use Rattle.pages.specs.Pages.{Puts}
 use Rattle.clause_tokens.specs.declared.Mark.{Mark}
 use Rattle.clause_tokens.specs.declared.Mark.the-variants.{Lone}

@@ -11,8 +11,8 @@ use lib.Seq.{drop-drop, getD-drop}
 use Rattle.groundwork.proofs.Truth.{by-truth, equal-eqb, eqb-different, eqb-same, eqb-equal, eqb-unequal, and-left, and-right, never-both}
 use Rattle.theory.specs.Lists.{every, isEmpty}
 use Rattle.theory.specs.Text.{Bytes, bytes, same, isLower, isUpper, isNameByte, isWord}
-use Rattle.theory.specs.ClauseTokens.{stray, token, isLayout, run, isNeck, isStop, signOf, markOf, bytesAfter, tokensFrom}
-use Rattle.theory.specs.Import.{isLone}
+use Rattle.clause_theory.specs.ClauseTokens.{stray, token, isLayout, run, isNeck, isStop, signOf, markOf, bytesAfter, tokensFrom}
+use Rattle.clause_theory.specs.Import.{isLone}
 use Rattle.text.specs.Scans.{part}
 use Rattle.text.proofs.Parts.{drop-more, part-length}
 use Rattle.words.specs.Classes.{Class, EndsWord}

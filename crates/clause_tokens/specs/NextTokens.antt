@@ -6,10 +6,10 @@ use Prim.Native.Nat.{ℕ, _+_, _≤_, _<_}
 use lib.Dec.{eqb, leb}
 use lib.ListN.{length, getD, drop}
 use Rattle.theory.specs.Text.{Bytes, bytes, isName, isVariable}
-use Rattle.theory.specs.ClauseTokens.{name, variable, opens, closes, comma, neck, stop, stray, Token, token, isLayout, isNeck, markOf, bytesAfter, tokensFrom}
-use Rattle.theory.specs.ClauseTokens as T
-use Rattle.theory.specs.Import.{isLone}
-use Rattle.theory.specs.Imported.{marks}
+use Rattle.clause_theory.specs.ClauseTokens.{name, variable, opens, closes, comma, neck, stop, stray, Token, token, isLayout, isNeck, markOf, bytesAfter, tokensFrom}
+use Rattle.clause_theory.specs.ClauseTokens as T
+use Rattle.clause_theory.specs.Import.{isLone}
+use Rattle.clause_theory.specs.Imported.{marks}
 use Rattle.text.specs.Scans.{part}
 use Rattle.clause_tokens.specs.declared.Mark.{Mark}
 use Rattle.clause_tokens.specs.declared.Mark.the-variants.{Name, Variable, Lone, Opens, Closes, Comma, Neck, Stop, Stray, Nothing}

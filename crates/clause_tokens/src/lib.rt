@@ -3,7 +3,7 @@ ghost use mathlib.Core.Path.{_≡_};
 ghost use mathlib.Core.Bool.{not};
 ghost use Prim.Native.Nat.{_+_, _≤_, _<_};
 ghost use lib.ListN.{length, getD, drop};
-ghost use Rattle.theory.specs.ClauseTokens.{isLayout, isNeck, isStop, signOf};
+ghost use Rattle.clause_theory.specs.ClauseTokens.{isLayout, isNeck, isStop, signOf};
 ghost use Rattle.words.specs.Classes.{Class, Classes};
 ghost use Rattle.clause_tokens.specs.NextTokens.{LayoutEnds, Sign, signMore, RunFound, NextToken, isStopMark};
 

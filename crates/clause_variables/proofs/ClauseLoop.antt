@@ -8,14 +8,14 @@ use lib.ListN.{length}
 use Rattle.groundwork.proofs.Truth.{never-both, not-true, not-false}
 use Rattle.theory.specs.Text.{Bytes}
 use Rattle.theory.specs.Residuals.{numbered}
-use Rattle.theory.specs.ClauseTokens.{name, variable, opens, closes, comma, neck, stop, stray}
-use Rattle.theory.specs.ClauseTokens as T
-use Rattle.theory.specs.Clauses.{Clause, clauseMarks, State, begin}
-use Rattle.theory.specs.Import.{clauseVariables, lones}
-use Rattle.theory.specs.Imported.{marks}
-use Rattle.theory.proofs.Importing.Running.{Runs, runs-end, runs-on, runs-complete}
-use Rattle.theory.proofs.Importing.Filling.{markVariables, clause-variables}
-use Rattle.theory.proofs.Importing.FilledVariables.{named}
+use Rattle.clause_theory.specs.ClauseTokens.{name, variable, opens, closes, comma, neck, stop, stray}
+use Rattle.clause_theory.specs.ClauseTokens as T
+use Rattle.clause_theory.specs.Clauses.{Clause, clauseMarks, State, begin}
+use Rattle.clause_theory.specs.Import.{clauseVariables, lones}
+use Rattle.clause_theory.specs.Imported.{marks}
+use Rattle.clause_theory.proofs.Running.{Runs, runs-end, runs-on, runs-complete}
+use Rattle.clause_theory.proofs.Filling.{markVariables, clause-variables}
+use Rattle.clause_theory.proofs.FilledVariables.{named}
 use Rattle.theory.proofs.Judging.Variables.{once-none}
 use Rattle.text.specs.Scans.{part}
 use Rattle.clause_tokens.specs.NextTokens.{tokensAt, marksAt, isStopMark, Seen, NextToken, none-left, one-found}

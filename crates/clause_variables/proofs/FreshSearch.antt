@@ -11,11 +11,11 @@ use Rattle.groundwork.proofs.Truth.{and-both, or-left, or-right, le-leb}
 use Rattle.theory.specs.Lists.{every}
 use Rattle.theory.specs.Text.{Bytes, among, isLower, isUpper, isDigit, isNameByte, isWord, isVariable, decimal}
 use Rattle.theory.specs.Residuals.{numbered}
-use Rattle.theory.specs.Clauses.{Clause}
-use Rattle.theory.specs.Import.{clauseVariables, numberedVariable}
-use Rattle.theory.proofs.Importing.FilledVariables.{named}
-use Rattle.theory.proofs.Importing.FreshNumbering.{among-numbered-named}
-use Rattle.theory.proofs.Importing.FreshVariables.{numbers-few}
+use Rattle.clause_theory.specs.Clauses.{Clause}
+use Rattle.clause_theory.specs.Import.{clauseVariables, numberedVariable}
+use Rattle.clause_theory.proofs.FilledVariables.{named}
+use Rattle.clause_theory.proofs.FreshNumbering.{among-numbered-named}
+use Rattle.clause_theory.proofs.FreshVariables.{numbers-few}
 use Rattle.theory.proofs.Reading.Digits.{digits-few}
 use Rattle.theory.proofs.Reading.Decimals.{decimal-digits, decimal-formed, decimal-one, decimal-more}
 use Rattle.theory.proofs.Reading.Every.{every-within}

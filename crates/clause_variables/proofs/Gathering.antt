@@ -13,13 +13,13 @@ use Rattle.groundwork.proofs.Lists.{length-end}
 use Rattle.theory.specs.Text.{Bytes, bytes, same, among, isVariable}
 use Rattle.theory.specs.Packs.{variableLimit}
 use Rattle.theory.specs.Residuals.{numbered, ruleVariables}
-use Rattle.theory.specs.ClauseTokens.{variable}
-use Rattle.theory.specs.ClauseTokens as T
-use Rattle.theory.specs.Clauses.{Clause}
-use Rattle.theory.specs.Import.{clauseVariables, isLone, lones, filled, clauseFits}
-use Rattle.theory.proofs.Importing.Filling.{markVariables, lones-append}
-use Rattle.theory.proofs.Importing.FilledVariables.{named, filled-count}
-use Rattle.theory.proofs.Importing.VariableLimits.{many-unfit, long-unfit}
+use Rattle.clause_theory.specs.ClauseTokens.{variable}
+use Rattle.clause_theory.specs.ClauseTokens as T
+use Rattle.clause_theory.specs.Clauses.{Clause}
+use Rattle.clause_theory.specs.Import.{clauseVariables, isLone, lones, filled, clauseFits}
+use Rattle.clause_theory.proofs.Filling.{markVariables, lones-append}
+use Rattle.clause_theory.proofs.FilledVariables.{named, filled-count}
+use Rattle.clause_theory.proofs.VariableLimits.{many-unfit, long-unfit}
 use Rattle.text.specs.Scans.{part}
 use Rattle.text.proofs.Parts.{part-length}
 use Rattle.words.specs.Words.{wordsOf, wordsAt, StandsAt}

@@ -7,9 +7,9 @@ use Rattle.theory.specs.Lists.{isEmpty, isSome}
 use Rattle.theory.specs.Text.{Bytes}
 use Rattle.theory.specs.Terms.{Term, symbol, nil, cons}
 use Rattle.theory.specs.Terms as Terms
-use Rattle.theory.specs.ClauseTokens.{name, variable, opens, closes, comma, neck, stop, stray}
-use Rattle.theory.specs.ClauseTokens as T
-use Rattle.theory.specs.Clauses.{Clause, Open, Last, due, read, State, Step, refuses, goes, ends, stepDue, stepOpens, stepAtom, stepArgument, stepRead, stepAfter, step}
+use Rattle.clause_theory.specs.ClauseTokens.{name, variable, opens, closes, comma, neck, stop, stray}
+use Rattle.clause_theory.specs.ClauseTokens as T
+use Rattle.clause_theory.specs.Clauses.{Clause, Open, Last, due, read, State, Step, refuses, goes, ends, stepDue, stepOpens, stepAtom, stepArgument, stepRead, stepAfter, step}
 use Rattle.clause_tokens.specs.NextTokens.{isStopMark, Seen, seen-name, seen-variable, seen-lone, seen-sign, sign-opens, sign-closes, sign-comma, sign-neck, sign-stop, sign-stray}
 use Rattle.clause_tokens.specs.declared.Mark.{Mark}
 

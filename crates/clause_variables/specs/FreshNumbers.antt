@@ -5,7 +5,7 @@ use mathlib.Core.List.{List}
 use Prim.Native.Nat.{ℕ, _+_, _≤_, _<_}
 use lib.ListN.{length}
 use Rattle.theory.specs.Text.{Bytes, among}
-use Rattle.theory.specs.Import.{numberedVariable}
+use Rattle.clause_theory.specs.Import.{numberedVariable}
 use Rattle.terms.specs.Rows.{Holds}
 
 -- the table holds so many variables

@@ -8,11 +8,11 @@ use Rattle.theory.specs.Lists.{_∈_}
 use Rattle.theory.specs.Text.{Bytes, bytes, isVariable}
 use Rattle.theory.specs.Packs.{variableLimit}
 use Rattle.theory.specs.Residuals.{numbered}
-use Rattle.theory.specs.ClauseTokens as T
-use Rattle.theory.specs.Clauses.{Clause, clauseMarks}
-use Rattle.theory.specs.Import.{clauseVariables, isLone, lones}
-use Rattle.theory.proofs.Importing.Filling.{markVariables}
-use Rattle.theory.proofs.Importing.FilledVariables.{named}
+use Rattle.clause_theory.specs.ClauseTokens as T
+use Rattle.clause_theory.specs.Clauses.{Clause, clauseMarks}
+use Rattle.clause_theory.specs.Import.{clauseVariables, isLone, lones}
+use Rattle.clause_theory.proofs.Filling.{markVariables}
+use Rattle.clause_theory.proofs.FilledVariables.{named}
 use Rattle.terms.specs.Rows.{Holds}
 use Rattle.text.specs.Scans.{part}
 use Rattle.clause_tokens.specs.NextTokens.{marksAt, Seen}

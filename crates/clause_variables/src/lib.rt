@@ -5,7 +5,7 @@ ghost use Prim.Native.Nat.{_+_, _≤_, _<_};
 ghost use lib.ListN.{length};
 ghost use Rattle.words.specs.Classes.{Classes};
 ghost use Rattle.words.specs.Words.{wordsOf};
-ghost use Rattle.theory.specs.Import.{numberedVariable};
+ghost use Rattle.clause_theory.specs.Import.{numberedVariable};
 ghost use Rattle.clause_tokens.specs.declared.Mark.the-variants.{Variable};
 ghost use Rattle.clause_variables.specs.Variables.{LoneCounted, Gathers, VariablesFound};
 ghost use Rattle.clause_variables.specs.FreshNumbers.{Tabled, NextFree};

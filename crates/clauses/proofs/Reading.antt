@@ -8,10 +8,10 @@ use lib.ListN.{length}
 use Rattle.groundwork.proofs.Truth.{by-truth}
 use Rattle.theory.specs.Lists.{isSome}
 use Rattle.theory.specs.Text.{Bytes}
-use Rattle.theory.specs.ClauseTokens.{Token}
-use Rattle.theory.specs.ClauseTokens as T
-use Rattle.theory.specs.Clauses.{Clause, Last, State, begin, isBegin, Step, refuses, goes, ends, step}
-use Rattle.theory.proofs.Importing.Running.{consumed, begin-consumed, Adds, step-adds}
+use Rattle.clause_theory.specs.ClauseTokens.{Token}
+use Rattle.clause_theory.specs.ClauseTokens as T
+use Rattle.clause_theory.specs.Clauses.{Clause, Last, State, begin, isBegin, Step, refuses, goes, ends, step}
+use Rattle.clause_theory.proofs.Running.{consumed, begin-consumed, Adds, step-adds}
 use Rattle.clause_tokens.specs.NextTokens.{tokensAt, NextToken, none-left, one-found}
 use Rattle.clause_tokens.proofs.TokenLaws.{none-at-end}
 use Rattle.clause_tokens.specs.declared.Token.{Token as Found}

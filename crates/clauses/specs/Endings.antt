@@ -5,8 +5,8 @@ use mathlib.Core.List.{List, [], _∷_}
 use Prim.Native.Nat.{ℕ, _≤_, _<_}
 use lib.ListN.{length}
 use Rattle.theory.specs.Text.{Bytes}
-use Rattle.theory.specs.ClauseTokens.{Token}
-use Rattle.theory.specs.Clauses.{Clause, State, begin, isBegin, refuses, goes, ends, step}
+use Rattle.clause_theory.specs.ClauseTokens.{Token}
+use Rattle.clause_theory.specs.Clauses.{Clause, State, begin, isBegin, refuses, goes, ends, step}
 use Rattle.clause_tokens.specs.NextTokens.{tokensAt}
 use Rattle.clauses.specs.declared.Ending.{Ending}
 

@@ -6,8 +6,8 @@ use lib.ListN.{length}
 use Rattle.theory.specs.Lists.{isSome}
 use Rattle.theory.specs.Text.{Bytes}
 use Rattle.theory.specs.Terms.{Term, Terms, variable, symbol, nil, cons}
-use Rattle.theory.specs.ClauseTokens as T
-use Rattle.theory.specs.Clauses.{Clause, Last, due, read, State, Step, refuses, goes, ends, step}
+use Rattle.clause_theory.specs.ClauseTokens as T
+use Rattle.clause_theory.specs.Clauses.{Clause, Last, due, read, State, Step, refuses, goes, ends, step}
 use Rattle.clause_tokens.specs.NextTokens.{Seen}
 use Rattle.clause_tokens.specs.declared.Mark.{Mark}
 use Rattle.clause_tokens.specs.declared.Mark.the-variants.{Nothing}

@@ -10,11 +10,11 @@ use lib.Seq.{drop-cons}
 use Rattle.theory.specs.Lists.{isEmpty, isSome}
 use Rattle.theory.specs.Text.{Bytes}
 use Rattle.theory.specs.Check.{numbers}
-use Rattle.theory.specs.ClauseTokens.{Token, token, Mark, markOf, bytesAfter, tokensFrom}
-use Rattle.theory.specs.Clauses.{Clause, isDue, State, begin, isBegin}
-use Rattle.theory.specs.Imported.{marks}
-use Rattle.theory.specs.Import.{filled, clauseFits, Importing, refused, importFrom}
-use Rattle.theory.proofs.Importing.Running.{Runs, runs-end, runs-on, runs-sound}
+use Rattle.clause_theory.specs.ClauseTokens.{Token, token, Mark, markOf, bytesAfter, tokensFrom}
+use Rattle.clause_theory.specs.Clauses.{Clause, isDue, State, begin, isBegin}
+use Rattle.clause_theory.specs.Imported.{marks}
+use Rattle.clause_theory.specs.Import.{filled, clauseFits, Importing, refused, importFrom}
+use Rattle.clause_theory.proofs.Running.{Runs, runs-end, runs-on, runs-sound}
 use Rattle.clause_tokens.specs.NextTokens.{tokensAt, LayoutEnds}
 use Rattle.clause_tokens.proofs.TokenLaws.{none-at-end}
 use Rattle.clauses.specs.Endings.{Reaches, reaches-here, reaches-on, Fails, fails-here, fails-on, fails-end}

@@ -8,9 +8,9 @@ use lib.ListN.{length, length-append, length-map}
 use Rattle.theory.specs.Lists.{_∈_}
 use Rattle.theory.specs.Text.{Bytes}
 use Rattle.theory.specs.Packs.{textOf, headLine, subgoalLine, line}
-use Rattle.theory.specs.Clauses.{Clause}
-use Rattle.theory.specs.Import.{clauseLines, clauseFits}
-use Rattle.theory.proofs.Importing.ClauseLimits.{limits-kept}
+use Rattle.clause_theory.specs.Clauses.{Clause}
+use Rattle.clause_theory.specs.Import.{clauseLines, clauseFits}
+use Rattle.clause_theory.proofs.ClauseLimits.{limits-kept}
 
 text-length : (ls : List Bytes) → ((l : Bytes) → l ∈ ls → length l ≤ 1024) → length (textOf ls) ≤ 1025 * length ls
 unfolding textOf

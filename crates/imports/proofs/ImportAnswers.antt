@@ -5,12 +5,12 @@ use lib.ListN.{length}
 use Rattle.theory.specs.Lists.{over}
 use Rattle.theory.specs.Text.{Bytes}
 use Rattle.theory.specs.Check.{Numbers}
-use Rattle.theory.specs.ClauseTokens.{tokensOf}
-use Rattle.theory.specs.Clauses.{begin}
-use Rattle.theory.specs.Import.{importFrom, importOf}
-use Rattle.theory.specs.Answers.{importNumbers}
-use Rattle.theory.specs.declared.Importation.{Importation}
-use Rattle.theory.proofs.ImportKept.{import-kept}
+use Rattle.clause_theory.specs.ClauseTokens.{tokensOf}
+use Rattle.clause_theory.specs.Clauses.{begin}
+use Rattle.clause_theory.specs.Import.{importFrom, importOf}
+use Rattle.clause_theory.specs.Importations.{importNumbers}
+use Rattle.clause_theory.specs.declared.Importation.{Importation}
+use Rattle.clause_theory.proofs.ImportKept.{import-kept}
 
 module _ (text buffer : Bytes) {judged : Importation} (is : importNumbers judged ≡ importFrom (length text) (length buffer) 0 [] begin (tokensOf text) .returned) (a : Importation) (same : judged ≡ a) where
   answer-is : importNumbers a ≡ importOf text buffer .returned

@@ -11,9 +11,9 @@ use Rattle.groundwork.proofs.Truth.{by-truth, le-leb, gt-leb}
 use Rattle.theory.specs.Lists.{over}
 use Rattle.theory.specs.Text.{Bytes}
 use Rattle.theory.specs.Check.{numbers}
-use Rattle.theory.specs.ClauseTokens.{tokensOf}
-use Rattle.theory.specs.Clauses.{Clause, begin}
-use Rattle.theory.specs.Import.{filled, clauseFits, Importing, refused, importFrom}
+use Rattle.clause_theory.specs.ClauseTokens.{tokensOf}
+use Rattle.clause_theory.specs.Clauses.{Clause, begin}
+use Rattle.clause_theory.specs.Import.{filled, clauseFits, Importing, refused, importFrom}
 use Rattle.pages.specs.Pages.{Puts}
 use Rattle.pages.proofs.Puts.{puts-size, puts-more, puts-part, puts-over}
 use Rattle.clause_tokens.specs.NextTokens.{tokensAt, LayoutEnds}

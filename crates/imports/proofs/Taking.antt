@@ -6,8 +6,8 @@ use Prim.Native.Nat.{ℕ, _≤_, _<_}
 use lib.ListN.{length}
 use Rattle.groundwork.proofs.Truth.{never-both, not-true, not-false}
 use Rattle.theory.specs.Text.{Bytes}
-use Rattle.theory.specs.Clauses.{Clause, begin}
-use Rattle.theory.specs.Import.{clauseVariables}
+use Rattle.clause_theory.specs.Clauses.{Clause, begin}
+use Rattle.clause_theory.specs.Import.{clauseVariables}
 use Rattle.clause_tokens.specs.NextTokens.{tokensAt}
 use Rattle.clauses.specs.Endings.{Reaches, Fails, EndFound, found-clause, found-none}
 use Rattle.clauses.specs.declared.Ending.{Ending}

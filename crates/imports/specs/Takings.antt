@@ -6,9 +6,9 @@ use Prim.Native.Nat.{ℕ, _≤_, _<_}
 use lib.ListN.{length}
 use Rattle.theory.specs.Text.{Bytes}
 use Rattle.theory.specs.Packs.{textOf}
-use Rattle.theory.specs.ClauseTokens.{Token}
-use Rattle.theory.specs.Clauses.{Clause, begin}
-use Rattle.theory.specs.Import.{filled, clauseLines, clauseFits}
+use Rattle.clause_theory.specs.ClauseTokens.{Token}
+use Rattle.clause_theory.specs.Clauses.{Clause, begin}
+use Rattle.clause_theory.specs.Import.{filled, clauseLines, clauseFits}
 use Rattle.pages.specs.Pages.{Puts}
 use Rattle.clause_tokens.specs.NextTokens.{tokensAt}
 use Rattle.clauses.specs.Endings.{Reaches, Fails}

@@ -4,14 +4,14 @@ ghost use mathlib.Core.List.{[]};
 ghost use Prim.Native.Nat.{_≤_};
 ghost use lib.ListN.{length};
 ghost use Rattle.theory.specs.Lists.{over};
-ghost use Rattle.theory.specs.ClauseTokens.{tokensOf};
-ghost use Rattle.theory.specs.Clauses.{begin};
-ghost use Rattle.theory.specs.Import.{importFrom, importOf};
-ghost use Rattle.theory.specs.Answers.{importNumbers};
+ghost use Rattle.clause_theory.specs.ClauseTokens.{tokensOf};
+ghost use Rattle.clause_theory.specs.Clauses.{begin};
+ghost use Rattle.clause_theory.specs.Import.{importFrom, importOf};
+ghost use Rattle.clause_theory.specs.Importations.{importNumbers};
 ghost use Rattle.words.specs.Classes.{Classes};
 ghost use Rattle.clause_tokens.specs.NextTokens.{tokensAt};
 ghost use Rattle.imports.specs.Takings.{Rooms, ClauseTaken};
-use theory::Importation;
+use clause_theory::Importation;
 use words::WordTable;
 
 /// What comes of a clause. Fault 0: the place after it, and how many bytes its lines take; 25: the place where the text leaves

@@ -7,7 +7,7 @@ use borrow.Rule.Slice.PartMut.{midOf, putMid}
 use lib.ListN.{length, set, take, drop, length-append}
 use lib.Seq.{take-all, set-at, length-take-le}
 use Rattle.theory.specs.Text.{Bytes, decimal}
-use Rattle.theory.specs.Import.{numberedVariable}
+use Rattle.clause_theory.specs.Import.{numberedVariable}
 use Rattle.pages.specs.Pages.{Puts}
 use Rattle.page_writers.specs.Writings.{PutAt}
 use Rattle.pages.proofs.Puts.{puts-same, puts-size, puts-byte, puts-more, puts-part}

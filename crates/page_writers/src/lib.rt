@@ -3,7 +3,7 @@ ghost use mathlib.Core.List.{[], _∷_, _++_};
 ghost use Prim.Native.Nat.{_+_, _-_, _≤_, _<_};
 ghost use lib.ListN.{length};
 ghost use Rattle.theory.specs.Text.{decimal};
-ghost use Rattle.theory.specs.Import.{numberedVariable};
+ghost use Rattle.clause_theory.specs.Import.{numberedVariable};
 ghost use Rattle.text.specs.Scans.{part};
 ghost use Rattle.page_writers.specs.Writings.{PutAt, Raised};
 

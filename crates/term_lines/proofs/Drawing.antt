@@ -11,9 +11,9 @@ use Rattle.groundwork.proofs.Truth.{by-truth, or-not-left, or-not-right, ltb-lt
 use Rattle.theory.specs.Text.{Bytes, bytes, isName, isVariable, decimal}
 use Rattle.theory.specs.Terms.{Term, Terms, symbol, nil}
 use Rattle.theory.specs.Terms as Terms
-use Rattle.theory.specs.ClauseTokens as T
-use Rattle.theory.specs.Clauses.{Clause, Open, Last, due, read, State, state, atomOf, added}
-use Rattle.theory.specs.Import.{numberedVariable, termFits}
+use Rattle.clause_theory.specs.ClauseTokens as T
+use Rattle.clause_theory.specs.Clauses.{Clause, Open, Last, due, read, State, state, atomOf, added}
+use Rattle.clause_theory.specs.Import.{numberedVariable, termFits}
 use Rattle.text.specs.Scans.{part}
 use Rattle.text.proofs.Parts.{part-length}
 use Rattle.pages.specs.Pages.{Puts}

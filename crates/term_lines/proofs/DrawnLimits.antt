@@ -16,13 +16,13 @@ use Rattle.theory.specs.Terms.{Term, Terms, symbol, nil, cons, arity, symbolTok
 use Rattle.theory.specs.Terms as Terms
 use Rattle.theory.specs.Packs.{Atom, textOf, variableLimit}
 use Rattle.theory.specs.Residuals.{ruleVariables}
-use Rattle.theory.specs.ClauseTokens.{Mark, name, variable}
-use Rattle.theory.specs.Clauses.{Clause, Open, endingTerm, Last, due, read, State, state, atomOf, added}
-use Rattle.theory.specs.Import.{clauseLines, termFits, termsFit, atomFits, lineFits, clauseFits}
+use Rattle.clause_theory.specs.ClauseTokens.{Mark, name, variable}
+use Rattle.clause_theory.specs.Clauses.{Clause, Open, endingTerm, Last, due, read, State, state, atomOf, added}
+use Rattle.clause_theory.specs.Import.{clauseLines, termFits, termsFit, atomFits, lineFits, clauseFits}
 use Rattle.theory.proofs.Reading.Decimals.{decimal-one}
 use Rattle.theory.proofs.Reading.Spelling.{name-some}
 use Rattle.theory.proofs.Reading.Every.{every-member, members-every}
-use Rattle.theory.proofs.Importing.Running.{Runs, runs-end, runs-on}
+use Rattle.clause_theory.proofs.Running.{Runs, runs-end, runs-on}
 use Rattle.term_lines.proofs.Moving.{step-goes, step-ends}
 use Rattle.term_lines.specs.Texts.{lineFront, doneText, afterEach, atomText, openText, lastText, lineText, drawnText, Moves, names-atom, names-symbol, reads-variable, opens-atom, opens-symbol, closes-one, ends-line, next-argument, next-term, atomsOf, linesOf, OpenFits, OpenedFit, LastFits, current, PartsFit, StateFits}
 use Rattle.term_lines.proofs.DrawnTexts.{arity-more, lines-more, lines-first, drawn-atom-name, drawn-symbol, drawn-variable, drawn-atom-opens, drawn-symbol-opens, drawn-symbol-digit, drawn-closes, drawn-argument, drawn-line, drawn-digit, drawn-next}

@@ -7,8 +7,8 @@ use Rattle.theory.specs.Text.{Bytes, bytes, joined, decimal, lastDigits}
 use Rattle.theory.specs.Terms.{Term, Terms, symbol, nil, cons, arity, symbolToken, tokens, allTokens, writtenTerm}
 use Rattle.theory.specs.Terms as Terms
 use Rattle.theory.specs.Packs.{Atom, termFields, headLine, subgoalLine, line, textOf}
-use Rattle.theory.specs.Clauses.{Clause, Open, endingTerm, due, read, state, atomOf, added}
-use Rattle.theory.specs.Import.{clauseLines}
+use Rattle.clause_theory.specs.Clauses.{Clause, Open, endingTerm, due, read, state, atomOf, added}
+use Rattle.clause_theory.specs.Import.{clauseLines}
 use Rattle.term_lines.specs.Texts.{lineFront, doneText, afterEach, atomText, openText, lastText, drawnText}
 
 -- ---- terms

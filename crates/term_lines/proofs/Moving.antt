@@ -5,8 +5,8 @@ use mathlib.Core.Option.{Option, some, none}
 use Rattle.theory.specs.Lists.{isSome, isEmpty}
 use Rattle.theory.specs.Terms.{Term, symbol, nil, cons}
 use Rattle.theory.specs.Terms as Terms
-use Rattle.theory.specs.ClauseTokens.{Mark, name, variable, opens, closes, comma, neck, stop, stray}
-use Rattle.theory.specs.Clauses.{Clause, Open, Last, due, read, State, state, Step, refuses, goes, ends, stepDue, stepOpens, stepAtom, stepArgument, stepRead, stepAfter, step}
+use Rattle.clause_theory.specs.ClauseTokens.{Mark, name, variable, opens, closes, comma, neck, stop, stray}
+use Rattle.clause_theory.specs.Clauses.{Clause, Open, Last, due, read, State, state, Step, refuses, goes, ends, stepDue, stepOpens, stepAtom, stepArgument, stepRead, stepAfter, step}
 use Rattle.term_lines.specs.Texts.{by-comma, by-neck, by-stop, Moves, names-atom, names-symbol, reads-variable, opens-atom, opens-symbol, closes-one, ends-line, next-argument, next-term}
 
 -- what a step makes of a state

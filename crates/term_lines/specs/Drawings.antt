@@ -9,9 +9,9 @@ use lib.Dec.{leb}
 use lib.ListN.{length, getD}
 use Rattle.theory.specs.Text.{Bytes, isName, isVariable}
 use Rattle.theory.specs.Terms.{arity}
-use Rattle.theory.specs.Clauses.{Clause, Open, State, state, due}
-use Rattle.theory.specs.ClauseTokens as T
-use Rattle.theory.specs.Import.{numberedVariable, filled}
+use Rattle.clause_theory.specs.Clauses.{Clause, Open, State, state, due}
+use Rattle.clause_theory.specs.ClauseTokens as T
+use Rattle.clause_theory.specs.Import.{numberedVariable, filled}
 use Rattle.text.specs.Scans.{part}
 use Rattle.pages.specs.Pages.{Puts}
 use Rattle.clause_tokens.specs.NextTokens.{Sign}

@@ -11,9 +11,9 @@ use Rattle.theory.specs.Text.{Bytes, bytes, isName}
 use Rattle.theory.specs.Terms.{Term, Terms, symbol, nil, cons, arity, symbolToken, writtenTerm}
 use Rattle.theory.specs.Terms as Terms
 use Rattle.theory.specs.Packs.{Atom, textOf, lineLimit}
-use Rattle.theory.specs.ClauseTokens.{Mark, name, variable, opens, closes, comma, neck, stop}
-use Rattle.theory.specs.Clauses.{Clause, Open, endingTerm, Last, due, read, State, state, atomOf, added}
-use Rattle.theory.specs.Import.{clauseLines, termFits, termsFit, atomFits}
+use Rattle.clause_theory.specs.ClauseTokens.{Mark, name, variable, opens, closes, comma, neck, stop}
+use Rattle.clause_theory.specs.Clauses.{Clause, Open, endingTerm, Last, due, read, State, state, atomOf, added}
+use Rattle.clause_theory.specs.Import.{clauseLines, termFits, termsFit, atomFits}
 
 -- a line's letter and comma
 unfoldable pub lineFront : Option Clause → Bytes

@@ -11,8 +11,6 @@ pub mod Soundness
 pub mod Reserving
 -- the sheet
 pub mod Sheets
--- clauses as the makers write them
-pub mod Importing
 -- the program's input and reply
 pub mod Replying
 -- names, numbers, lines, fields and look-up, in words
@@ -34,8 +32,6 @@ pub mod RightCase
 pub mod ReserveTold
 -- what the sheet tells
 pub mod SheetKept
--- what import promises
-pub mod ImportKept
 -- document 01's starred examples, and those of later requests; facts with derivations, and a fact without
 pub mod Examples
 pub mod Shipped

@@ -1,5 +1,5 @@
--- Document 01, "What check returns" and "Reserving", with 02's 1/14, 2/14, 3/14 and 6/14: the numbers and values of each case of the
--- answers of check, reserve, measure, the sheet and import.
+-- Document 01, "What check returns" and "Reserving", with 02's 1/14, 2/14 and 3/14: the numbers and values of each case of the
+-- answers of check, reserve, measure and the sheet.
 use mathlib.Core.Option.{Option, some, none}
 use Prim.Native.Nat.{ℕ}
 use Prim.Native.Char.{code}
@@ -13,8 +13,6 @@ use Rattle.theory.specs.declared.Reservation.{Reservation}
 use Rattle.theory.specs.declared.Reservation.the-variants.{Bounded, NoBound, Impossible, PackRefused, QueryRefused}
 use Rattle.theory.specs.declared.Filing.{Filing}
 use Rattle.theory.specs.declared.Filing.the-variants.{Filed, ShortPage, NotAccepted}
-use Rattle.theory.specs.declared.Importation.{Importation}
-use Rattle.theory.specs.declared.Importation.the-variants.{Imported, NoClauses, OverLimit, ShortBuffer}
 use Rattle.theory.specs.declared.Measurement.{Measurement}
 use Rattle.theory.specs.declared.Measurement.the-variants.{Size, UnfitTerm, NotTerm, HasVariable}
 use Rattle.theory.specs.Check.{Numbers, numbers}
@@ -73,13 +71,6 @@ abbrev pub filingNumbers : Filing → Numbers
 filingNumbers (Filed c) = numbersOf (Accepted c)
 filingNumbers ShortPage = numbers 23 0 0 0
 filingNumbers (NotAccepted r) = refusalNumbers r
-
--- Import's four numbers.
-abbrev pub importNumbers : Importation → Numbers
-importNumbers (Imported clauses bytes) = numbers 0 clauses bytes 0
-importNumbers (NoClauses place) = numbers 25 place 0 0
-importNumbers (OverLimit clause) = numbers 26 clause 0 0
-importNumbers (ShortBuffer clause) = numbers 27 clause 0 0
 
 -- Measure's refusal, or 0 and the size.
 abbrev pub measuredOf : Measurement → Measured

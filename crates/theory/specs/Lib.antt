@@ -20,11 +20,6 @@ pub mod ReplyTold
 pub mod Words
 pub mod Pages
 pub mod Sheet
-pub mod ClauseTokens
-pub mod Cutting
-pub mod Clauses
-pub mod Import
-pub mod Imported
 pub mod Answers
 pub mod Limits
 pub mod LinesTold

@@ -7,8 +7,8 @@ use types.Run.{OneOf, miss}
 use denote.Enum.Declared.{tagOf}
 use lib.ListN.{length}
 use Rattle.theory.specs.Text.{Bytes}
-use Rattle.theory.specs.ClauseTokens as T
-use Rattle.theory.specs.Clauses.{State}
+use Rattle.clause_theory.specs.ClauseTokens as T
+use Rattle.clause_theory.specs.Clauses.{State}
 use Rattle.text.specs.Scans.{part}
 use Rattle.clause_tokens.proofs.Mark.{the-type}
 use Rattle.clause_tokens.specs.NextTokens.{sign-opens, sign-closes, sign-comma, sign-neck, sign-stop, sign-stray}

@@ -10,8 +10,8 @@ use lib.Seq.{getD-append-seam}
 use Rattle.groundwork.proofs.Lists.{length-end}
 use Rattle.theory.specs.Text.{Bytes}
 use Rattle.theory.specs.Terms.{Term, arity, writtenTerm}
-use Rattle.theory.specs.ClauseTokens as T
-use Rattle.theory.specs.Clauses.{Clause, Open, endingTerm, due, read, State, state}
+use Rattle.clause_theory.specs.ClauseTokens as T
+use Rattle.clause_theory.specs.Clauses.{Clause, Open, endingTerm, due, read, State, state}
 use Rattle.theory.proofs.Reading.Decimals.{decimal-one}
 use Rattle.pages.specs.Pages.{Puts}
 use Rattle.pages.proofs.Puts.{puts-more}

@@ -10,9 +10,9 @@ use lib.Seq.{getD-set-same, getD-set-other}
 use Rattle.groundwork.proofs.Lists.{length-end}
 use Rattle.theory.specs.Text.{Bytes, isName}
 use Rattle.theory.specs.Terms.{Term, symbol, nil, arity}
-use Rattle.theory.specs.ClauseTokens as T
-use Rattle.theory.specs.Clauses.{Clause, Open, endingTerm, Last, due, read, State, state, atomOf, added}
-use Rattle.theory.specs.Import.{termFits}
+use Rattle.clause_theory.specs.ClauseTokens as T
+use Rattle.clause_theory.specs.Clauses.{Clause, Open, endingTerm, Last, due, read, State, state, atomOf, added}
+use Rattle.clause_theory.specs.Import.{termFits}
 use Rattle.pages.specs.Pages.{Puts}
 use Rattle.pages.proofs.Puts.{puts-more}
 use Rattle.clause_tokens.specs.NextTokens.{sign-opens, sign-closes, sign-comma, sign-neck, sign-stop}

@@ -1,7 +1,7 @@
 -- `cerrundix::import_numbers` meets its contract. Assumes nothing.
 use mathlib.Core.Path.{sym, _∙_, ap}
 use borrow.Author.Needs.{needs}
-use Rattle.theory.specs.Answers.{importNumbers}
+use Rattle.clause_theory.specs.Importations.{importNumbers}
 use Rattle.cerrundix.proofs.import_numbers.Statement.{statement}
 use Rattle.cerrundix.proofs.import_numbers.Tie as tie
 

@@ -1,6 +1,6 @@
 -- `clause_tokens::is_layout` meets its contract. Assumes nothing.
 use mathlib.Core.Path.{refl}
-use Rattle.theory.specs.ClauseTokens.{isLayout}
+use Rattle.clause_theory.specs.ClauseTokens.{isLayout}
 use Rattle.clause_tokens.proofs.is_layout.Statement.{statement}
 use Rattle.clause_tokens.proofs.is_layout.Tie as tie
 

@@ -10,12 +10,11 @@ use Rattle.theory.specs.declared.Verdict.the-variants.{Accepted, Refused
 use Rattle.theory.specs.declared.QueryRefusal.the-variants.{UnfitQuery, QueryName, AskedArgument, SizeField, AskedIsKnown}
 use Rattle.theory.specs.declared.Reservation.the-variants.{Bounded, NoBound, Impossible, PackRefused, QueryRefused}
 use Rattle.theory.specs.declared.Filing.the-variants.{Filed, ShortPage, NotAccepted}
-use Rattle.theory.specs.declared.Importation.the-variants.{Imported, NoClauses, OverLimit, ShortBuffer}
 use Rattle.theory.specs.declared.Measurement.the-variants.{Size, UnfitTerm, NotTerm, HasVariable}
 use Rattle.theory.specs.Check.{numbers}
 use Rattle.theory.specs.Measure.{measured}
 use Rattle.theory.specs.Reserve.{fields}
-use Rattle.theory.specs.Answers.{refusalNumbers, numbersOf, reservedFields, passedOn, filingNumbers, importNumbers, measuredOf}
+use Rattle.theory.specs.Answers.{refusalNumbers, numbersOf, reservedFields, passedOn, filingNumbers, measuredOf}
 
 -- 5 lines, 6 rules, 7 `M` lines; a bound of 8 by claim 9
 abbrev counts : Counts
@@ -81,10 +80,6 @@ pub record AnswersMet : Type 0 where
   pub filed : filingNumbers (Filed counts) ≡ numbers 0 5 6 7
   pub shortPage : filingNumbers ShortPage ≡ numbers 23 0 0 0
   pub notAccepted : filingNumbers (NotAccepted (Unjustified 5 6 7)) ≡ numbers 13 5 6 7
-  pub imported : importNumbers (Imported 3 40) ≡ numbers 0 3 40 0
-  pub noClauses : importNumbers (NoClauses 40) ≡ numbers 25 40 0 0
-  pub overLimit : importNumbers (OverLimit 3) ≡ numbers 26 3 0 0
-  pub shortBuffer : importNumbers (ShortBuffer 3) ≡ numbers 27 3 0 0
   pub size : measuredOf (Size 8) ≡ measured 0 8
   pub unfitTerm : measuredOf UnfitTerm ≡ measured 4 0
   pub notTerm : measuredOf NotTerm ≡ measured 11 0
@@ -107,10 +102,6 @@ answers-are-met = record {
   filed = refl;
   shortPage = refl;
   notAccepted = refl;
-  imported = refl;
-  noClauses = refl;
-  overLimit = refl;
-  shortBuffer = refl;
   size = refl;
   unfitTerm = refl;
   notTerm = refl;
