@@ -11,6 +11,7 @@ use Rattle.groundwork.proofs.Truth.{by-truth, ltb-lt, ltb-ge, lt-ltb, ge-ltb}
 use Rattle.theory.specs.Lists.{every}
 use Rattle.theory.specs.Text.{Bytes, fieldsOf}
 use Rattle.theory.specs.Terms.{arity, allVariables}
+use Rattle.theory.specs.Sizes.{Measure}
 use Rattle.theory.specs.Packs.{Pack, Key}
 use Rattle.theory.specs.Written.{Written, termsFrom}
 use Rattle.theory.specs.Residuals.{numbered}
@@ -46,7 +47,7 @@ module _ (l : Letter) (isRefused : Bool) (afterName afterTerms : List Test) (fie
   pub atom-ended : every isTerm (drop 2 fields) ≡ true → firstOf (drop (suc (suc (length afterName))) (atomTests l isRefused afterName afterTerms fields p)) ≡ firstOf afterTerms
   atom-ended good = from-terms ∙ first-passed 11 _ afterTerms (ap not good)
 
-  pub atom-fault : {atom index many : ℕ} {names₀ names rows₀ rows : List ℕ} {r : Fielding} {f : Fault} → index < length (drop 2 fields) → FieldTerm atom index (at (drop 2 fields) index) many names₀ rows₀ r names rows → r ≡ Misread f
+  pub atom-fault : {m : Measure} {atom index many : ℕ} {names₀ names rows₀ rows : List ℕ} {r : Fielding} {f : Fault} → index < length (drop 2 fields) → FieldTerm m atom index (at (drop 2 fields) index) many names₀ rows₀ r names rows → r ≡ Misread f
       → firstOf (drop (suc (suc (length afterName))) (atomTests l isRefused afterName afterTerms fields p)) ≡ numberOf f
   atom-fault {index = index} inside done bad =
       let found = field-fails (done .known) NoTerm (isTerm (at (drop 2 fields) index)) (done .answer) bad in
@@ -66,16 +67,16 @@ module _ {k : Key} {line : Bytes} {w : Written} {o : Opened} (named : OldPredica
 -- ---- all terms are read
 
 -- the atom's rows stand over these variables, if they are few
-pub record Finished (atom : ℕ) (fs all : List Bytes) (many : ℕ) (variables rows₀ rows : List ℕ) : Type 0 where
+pub record Finished (m : Measure) (atom : ℕ) (fs all : List Bytes) (many : ℕ) (variables rows₀ rows : List ℕ) : Type 0 where
   pub good : every isTerm fs ≡ true
   pub past : ltb 16 many ≡ ltb 16 (length all)
   pub count : many ≤ 16 → many ≡ length all
   pub holds : many ≤ 16 → HoldsVariables variables all
-  pub stands : many ≤ 16 → AtomStands rows atom all (termsFrom fs)
+  pub stands : many ≤ 16 → AtomStands m rows atom all (termsFrom fs)
   pub before : (i : ℕ) → i < rowPlace atom 0 → getD rows i 0 ≡ getD rows₀ i 0
 
-pub finished : {atom : ℕ} {seen fs all : List Bytes} {many : ℕ} {variables rows₀ rows : List ℕ} → length fs ≤ 8 → all ≡ numbered seen (allVariables (termsFrom fs)) → ProgressTerms atom seen fs (length fs) many variables rows₀ rows
-    → Finished atom fs all many variables rows₀ rows
+pub finished : {m : Measure} {atom : ℕ} {seen fs all : List Bytes} {many : ℕ} {variables rows₀ rows : List ℕ} → length fs ≤ 8 → all ≡ numbered seen (allVariables (termsFrom fs)) → ProgressTerms m atom seen fs (length fs) many variables rows₀ rows
+    → Finished m atom fs all many variables rows₀ rows
 finished {seen = seen} {fs = fs} {all = all} {many = many} short is done = record {
   good = places-every isTerm fs [] (done .good);
   past = rw same (by-truth (λ b. ltb 16 many ≡ b) (ltb 16 (length (known seen fs (length fs)))) (λ h. lt-ltb 16 many (omega (arith, done .many-more (ltb-lt _ _ h)))) (λ h. ge-ltb 16 many (omega (arith, ltb-ge 16 (length (known seen fs (length fs))) h, done .few (ltb-ge _ _ h)))));
@@ -90,9 +91,9 @@ finished {seen = seen} {fs = fs} {all = all} {many = many} short is done = recor
 
 -- ---- the first atom of its rule, or one with no rule: a head, a fact
 
-pub first-begin : (fs : List Bytes) (variables rows : List ℕ) → length variables ≡ 64 → ProgressTerms 0 [] fs 0 0 variables rows rows
-first-begin fs variables rows size = terms-begin 0 [] fs rows (record { size = size; few = omega arith; words = λ i h. absurd (omega arith); proper = λ i h. absurd (omega arith); once = once-none }) refl
+pub first-begin : (m : Measure) (fs : List Bytes) (variables rows : List ℕ) → length variables ≡ 64 → ProgressTerms m 0 [] fs 0 0 variables rows rows
+first-begin m fs variables rows size = terms-begin m 0 [] fs rows (record { size = size; few = omega arith; words = λ i h. absurd (omega arith); proper = λ i h. absurd (omega arith); once = once-none }) refl
 
-pub first-field : {fs : List Bytes} {index many : ℕ} {variables₀ variables rows₀ rows₁ rows : List ℕ} {r : Fielding} {n : ℕ} → index < 8 → index < length fs → length rows₁ ≡ 1224 → ProgressTerms 0 [] fs index many variables₀ rows₀ rows₁
-    → FieldTerm 0 index (at fs index) many variables₀ rows₁ r variables rows → r ≡ Read n → ProgressTerms 0 [] fs (suc index) n variables rows₀ rows
+pub first-field : {m : Measure} {fs : List Bytes} {index many : ℕ} {variables₀ variables rows₀ rows₁ rows : List ℕ} {r : Fielding} {n : ℕ} → index < 8 → index < length fs → length rows₁ ≡ 1224 → ProgressTerms m 0 [] fs index many variables₀ rows₀ rows₁
+    → FieldTerm m 0 index (at fs index) many variables₀ rows₁ r variables rows → r ≡ Read n → ProgressTerms m 0 [] fs (suc index) n variables rows₀ rows
 first-field = term-field (omega arith)

@@ -15,7 +15,7 @@ use Rattle.groundwork.proofs.Truth.{by-truth, ltb-lt, ltb-ge}
 use Rattle.theory.specs.Lists.{_∈_}
 use Rattle.theory.specs.Text.{Bytes}
 use Rattle.theory.specs.Terms.{Term, Terms, variable, nil, cons, arity, readTerm, variables, allVariables}
-use Rattle.theory.specs.Sizes.{structural, occurrences, occurrencesIn}
+use Rattle.theory.specs.Sizes.{Measure, counted}
 use Rattle.theory.specs.Forms.{formOf}
 use Rattle.theory.specs.Written.{termsFrom}
 use Rattle.theory.specs.Residuals.{numbered}
@@ -24,7 +24,7 @@ use Rattle.theory.proofs.Reading.FieldValues.{value-read}
 use Rattle.theory.proofs.Judging.RuleVariables.{numbered-append, numbered-length}
 use Rattle.theory.proofs.Reading.TermFields.{terms-arity}
 use Rattle.theory.proofs.Judging.Variables.{Once, member-numbered}
-use Rattle.theory.proofs.SectionForm.{section-form}
+use Rattle.theory.proofs.Soundness.Sizes.{counted-variable}
 use Rattle.terms.proofs.Numbering.{place-once, numbered-place}
 use Rattle.terms.proofs.Counting.{occurrences-absent}
 use Rattle.terms.specs.Rows.{Holds as HoldsVariables, VariablesTabled}
@@ -75,10 +75,10 @@ known-variable seen fs index k before inside x m =
 
 -- ---- a row when more variables come
 
--- a term's form has for each variable how often it occurs
-form-counts : (t : Term) (x : Bytes) → formOf structural t .coefficient x ≡ pos (occurrences x (variables t))
-unfolding occurrencesIn
-form-counts t x = rw (section-form t .both)
+-- a variable that does not stand in a term counts nothing in its form
+form-absent : (m : Measure) (t : Term) (x : Bytes) → (x ∈ variables t → ⊥) → formOf m t .coefficient x ≡ pos 0
+unfolding formOf
+form-absent m t x absent = ap pos (occurrences-absent x (counted m t) (λ n. absent (counted-variable m t n)))
 
 -- the variables of a term are among those of which its row tells: those that come later do not occur in it
 module _ (xs ys : List Bytes) (once : Once (numbered xs ys)) (few : length (numbered xs ys) ≤ 16) where
@@ -89,16 +89,16 @@ module _ (xs ys : List Bytes) (once : Once (numbered xs ys)) (few : length (numb
       let same = place-once once (found .0) i (omega (arith, numbered-length xs ys)) inside (numbered-place xs ys (found .0) low ∙ found .2) in
       omega arith
 
-  row-over-more : (rows : List ℕ) (base : ℕ) (t : Term) → ((x : Bytes) → x ∈ variables t → x ∈ xs) → RowStands rows base xs t → RowStands rows base (numbered xs ys) t
-  row-over-more rows base t within row = record {
+  row-over-more : {m : Measure} (rows : List ℕ) (base : ℕ) (t : Term) → ((x : Bytes) → x ∈ variables t → x ∈ xs) → RowStands m rows base xs t → RowStands m rows base (numbered xs ys) t
+  row-over-more {m} rows base t within row = record {
     constant = row .constant;
-    coefficient = λ i inside. by-truth (λ b. pos (getD rows (base + 1 + i) 0) ≡ formOf structural t .coefficient (getD (numbered xs ys) i [])) (ltb i (length xs))
+    coefficient = λ i inside. by-truth (λ b. pos (getD rows (base + 1 + i) 0) ≡ formOf m t .coefficient (getD (numbered xs ys) i [])) (ltb i (length xs))
         (λ h. rw (numbered-place xs ys i (ltb-lt _ _ h)) (row .coefficient i (ltb-lt _ _ h)))
-        (λ h. ap pos (row .beyond i (ltb-ge _ _ h) (omega arith) ∙ sym (occurrences-absent _ (variables t) (λ m. later-elsewhere i (ltb-ge _ _ h) inside (within _ m)))) ∙ sym (form-counts t _));
+        (λ h. ap pos (row .beyond i (ltb-ge _ _ h) (omega arith)) ∙ sym (form-absent m t _ (λ n. later-elsewhere i (ltb-ge _ _ h) inside (within _ n))));
     beyond = λ i outside small. row .beyond i (omega (arith, numbered-length xs ys)) small;
   }
 
-row-same : (rows₀ rows : List ℕ) (base : ℕ) (xs : List Bytes) (t : Term) → length xs ≤ 16 → ((i : ℕ) → base ≤ i → i < base + 17 → getD rows i 0 ≡ getD rows₀ i 0) → RowStands rows₀ base xs t → RowStands rows base xs t
+row-same : {m : Measure} (rows₀ rows : List ℕ) (base : ℕ) (xs : List Bytes) (t : Term) → length xs ≤ 16 → ((i : ℕ) → base ≤ i → i < base + 17 → getD rows i 0 ≡ getD rows₀ i 0) → RowStands m rows₀ base xs t → RowStands m rows base xs t
 row-same rows₀ rows base xs t few same row = record {
   constant = ap pos (same base (omega arith) (omega arith)) ∙ row .constant;
   coefficient = λ i inside. ap pos (same (base + 1 + i) (omega arith) (omega arith)) ∙ row .coefficient i inside;
@@ -106,8 +106,8 @@ row-same rows₀ rows base xs t few same row = record {
 }
 
 -- an atom's rows stay where the numbers stay up to another atom's
-pub atom-over-more : (xs ys : List Bytes) → Once (numbered xs ys) → length (numbered xs ys) ≤ 16 → (rows₀ rows : List ℕ) (atom later : ℕ) (ts : Terms) → atom < later
-    → ((i : ℕ) → i < rowPlace later 0 → getD rows i 0 ≡ getD rows₀ i 0) → ((x : Bytes) → x ∈ allVariables ts → x ∈ xs) → AtomStands rows₀ atom xs ts → AtomStands rows atom (numbered xs ys) ts
+pub atom-over-more : {m : Measure} (xs ys : List Bytes) → Once (numbered xs ys) → length (numbered xs ys) ≤ 16 → (rows₀ rows : List ℕ) (atom later : ℕ) (ts : Terms) → atom < later
+    → ((i : ℕ) → i < rowPlace later 0 → getD rows i 0 ≡ getD rows₀ i 0) → ((x : Bytes) → x ∈ allVariables ts → x ∈ xs) → AtomStands m rows₀ atom xs ts → AtomStands m rows atom (numbered xs ys) ts
 atom-over-more xs ys once few rows₀ rows atom later ts before same within stands = record {
   few = stands .few;
   row = λ k inside. row-over-more xs ys once few rows (rowPlace atom k) (argument ts k) (λ x m. within x (argument-variable ts k inside x m))
@@ -116,9 +116,9 @@ atom-over-more xs ys once few rows₀ rows atom later ts before same within stan
 
 -- ---- the terms of a line, one by one
 
-pub terms-begin : (atom : ℕ) (seen fs : List Bytes) {many : ℕ} {variables : List ℕ} (rows : List ℕ) → HoldsVariables variables seen → many ≡ length seen → ProgressTerms atom seen fs 0 many variables rows rows
+pub terms-begin : (m : Measure) (atom : ℕ) (seen fs : List Bytes) {many : ℕ} {variables : List ℕ} (rows : List ℕ) → HoldsVariables variables seen → many ≡ length seen → ProgressTerms m atom seen fs 0 many variables rows rows
 unfolding termsFrom allVariables numbered
-terms-begin atom seen fs rows holds count = record {
+terms-begin m atom seen fs rows holds count = record {
   good = λ i h. absurd (omega arith);
   few = λ h. count;
   many-more = λ h. absurd (omega (arith, holds .few));
@@ -128,14 +128,14 @@ terms-begin atom seen fs rows holds count = record {
 }
 
 -- what the field of a term leaves, after the variables known so far
-module _ {atom index : ℕ} {field : Bytes} {many : ℕ} {names₀ rows₀ : List ℕ} {r : Fielding} {names rows : List ℕ} (done : FieldTerm atom index field many names₀ rows₀ r names rows) (size : length rows₀ ≡ 1224)
+module _ {m : Measure} {atom index : ℕ} {field : Bytes} {many : ℕ} {names₀ rows₀ : List ℕ} {r : Fielding} {names rows : List ℕ} (done : FieldTerm m atom index field many names₀ rows₀ r names rows) (size : length rows₀ ≡ 1224)
     (n : ℕ) (fine : r ≡ Read n) (t : Term) (reads : readTerm field ≡ some t) where
-  taken : FormTaken field names₀ many rows₀ (rowPlace atom index) n names rows
+  taken : FormTaken m field names₀ many rows₀ (rowPlace atom index) n names rows
   taken = rw (t-read done fine .1) at (done .form (t-read done fine .0))
 
   -- past the limit nothing but the count is claimed
-  tabled-after : (known : List Bytes) → (length known ≤ 16 → many ≡ length known) → (16 < length known → many ≡ 17) → (many ≤ 16 → HoldsVariables names₀ known) → VariablesTabled (λ xs. RowStands rows (rowPlace atom index) xs t) known t n names
-  tabled-after known few full holds = by-truth (λ b. VariablesTabled (λ xs. RowStands rows (rowPlace atom index) xs t) known t n names) (ltb 16 (length known))
+  tabled-after : (known : List Bytes) → (length known ≤ 16 → many ≡ length known) → (16 < length known → many ≡ 17) → (many ≤ 16 → HoldsVariables names₀ known) → VariablesTabled (λ xs. RowStands m rows (rowPlace atom index) xs t) known t n names
+  tabled-after known few full holds = by-truth (λ b. VariablesTabled (λ xs. RowStands m rows (rowPlace atom index) xs t) known t n names) (ltb 16 (length known))
       (λ h.
       let past = ltb-lt 16 (length known) h in
       let is : n ≡ 17 = taken .full (omega (arith, full past)) in
@@ -150,9 +150,9 @@ module _ {atom index : ℕ} {field : Bytes} {many : ℕ} {names₀ rows₀ : Lis
       let count = few within in
       taken .from known (holds (omega arith)) (sym count) size t reads)
 
-module _ {atom : ℕ} {seen fs : List Bytes} {index many : ℕ} {names₀ names rows₀ rows₁ rows : List ℕ} {r : Fielding} {n : ℕ} where
-  pub term-field : atom ≤ 8 → index < 8 → index < length fs → length rows₁ ≡ 1224 → ProgressTerms atom seen fs index many names₀ rows₀ rows₁ → FieldTerm atom index (at fs index) many names₀ rows₁ r names rows → r ≡ Read n
-      → ProgressTerms atom seen fs (suc index) n names rows₀ rows
+module _ {m : Measure} {atom : ℕ} {seen fs : List Bytes} {index many : ℕ} {names₀ names rows₀ rows₁ rows : List ℕ} {r : Fielding} {n : ℕ} where
+  pub term-field : atom ≤ 8 → index < 8 → index < length fs → length rows₁ ≡ 1224 → ProgressTerms m atom seen fs index many names₀ rows₀ rows₁ → FieldTerm m atom index (at fs index) many names₀ rows₁ r names rows → r ≡ Read n
+      → ProgressTerms m atom seen fs (suc index) n names rows₀ rows
   term-field low place inside size before done fine = record {
     good = λ i h. below-more (λ j. isTerm (at fs j) ≡ true) index (before .good) (t-read done fine .0) i (omega arith);
     few = rw (known-more seen fs index inside) (left .few);
@@ -168,14 +168,14 @@ module _ {atom : ℕ} {seen fs : List Bytes} {index many : ℕ} {names₀ names 
       reads : readTerm (at fs index) ≡ some t
       reads = value-read readTerm (variable []) (at fs index) (t-read done fine .0)
 
-      left : VariablesTabled (λ xs. RowStands rows (rowPlace atom index) xs t) (known seen fs index) t n names
+      left : VariablesTabled (λ xs. RowStands m rows (rowPlace atom index) xs t) (known seen fs index) t n names
       left = tabled-after done size n fine t reads (known seen fs index) (before .few) (before .many-more) (before .holds)
 
       kept : (i : ℕ) → i < rowPlace atom index → getD rows i 0 ≡ getD rows₁ i 0
       kept = taken done size n fine t reads .below
 
       Stands : ℕ → Type 0
-      Stands k = RowStands rows (rowPlace atom k) (numbered (known seen fs index) (variables t)) (argument (termsFrom fs) k)
+      Stands k = RowStands m rows (rowPlace atom k) (numbered (known seen fs index) (variables t)) (argument (termsFrom fs) k)
 
       earlier : n ≤ 16 → (k : ℕ) → k < index → Stands k
       earlier h k lower =

@@ -2,6 +2,7 @@
 ghost use mathlib.Core.Path.{_≡_};
 ghost use Prim.Native.Nat.{_≤_, _<_};
 ghost use lib.ListN.{length};
+ghost use Rattle.theory.specs.Sizes.{structural};
 ghost use Rattle.words.specs.Classes.{Classes};
 ghost use Rattle.atoms.specs.Fields.{FieldTerm, subgoalAtom, atomOf};
 use tables::Fault;
@@ -50,7 +51,7 @@ pub fn field_term(
 ) -> Fielding
     requires { ⌜ (atom ≤ 8) × (index < 8) × (length (now field) ≤ 1024) × (many ≤ 17) × (length (now arities) ≡ 512) × (length (now places) ≡ 512) × Classes (now classes) ⌝ }
     ensures kept { λ r. ⌜ (length (now (arities .exit)) ≡ 512) × (length (now (places .exit)) ≡ 512) ⌝ }
-    ensures done { λ r. ⌜ FieldTerm atom index (now (field .entry)) many (now (variables .entry)) (now (rows .entry)) r (now (variables .exit)) (now (rows .exit)) ⌝ }
+    ensures done { λ r. ⌜ FieldTerm structural atom index (now (field .entry)) many (now (variables .entry)) (now (rows .entry)) r (now (variables .exit)) (now (rows .exit)) ⌝ }
 {
     let read = tokens::read_argument(field, classes, arities, places);
     if !read.fine {

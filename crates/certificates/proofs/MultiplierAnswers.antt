@@ -16,7 +16,7 @@ use Rattle.theory.specs.Packs.{atomKey, Key, claimsOn, noClaim}
 use Rattle.theory.specs.declared.Letter.the-variants.{M}
 use Rattle.theory.specs.Written.{Written, multipliersFrom}
 use Rattle.theory.specs.Residuals.{isJustified}
-use Rattle.theory.specs.Faults.{firstOf, isMultiplier, lastRule, isComplete, mayStand, claimDue, residualDue, multiplierTests, whole, tests, fault}
+use Rattle.theory.specs.Faults.{Manner, firstOf, isMultiplier, lastRule, isComplete, mayStand, claimDue, residualDue, multiplierTests, tests, fault}
 use Rattle.theory.proofs.Reading.Places.{places-every, not-every}
 use Rattle.theory.proofs.Judging.Keys.{on-arity}
 use Rattle.theory.proofs.Judging.Completeness.{rule-from-incomplete, due-from-incomplete}
@@ -37,7 +37,7 @@ form-number : (form : Form) (i : ℕ) → getD (formNumbers form) i (pos 0) ≡ 
 form-number form zero = refl
 form-number form (suc i) = refl
 
-module _ {line : Bytes} {t : Tables} {s : State} {w : Written} {o : Opened} {weights₀ weights : List ℤ} {r : Closing} (holds : Holds t s w) (safe : Safe t s) (passed : Passed M line s w o)
+module _ {manner : Manner} {line : Bytes} {t : Tables} {s : State} {w : Written} {o : Opened} {weights₀ weights : List ℤ} {r : Closing} (holds : Holds t s w) (safe : Safe t s) (passed : Passed manner M line s w o)
     (progress : ProgressM (drop 1 (fieldsOf line)) (length (drop 1 (fieldsOf line))) (t .claims) (t .slots) weights₀)
     (closes : ClosesM s (t .claims) weights₀ (t .rows) r weights) where
   incomplete : isComplete (w .pack) ≡ false
@@ -104,14 +104,14 @@ module _ {line : Bytes} {t : Tables} {s : State} {w : Written} {o : Opened} {wei
   unfolding isJustified
   unjustified i below negative = not-every nonNeg residue (pos 0) i (omega (arith, residue-length)) (ap nonNeg (own-number i below) ∙ negative)
 
-  pub residual-answer : fault whole w line ≡ closingNumber r
+  pub residual-answer : fault manner w line ≡ closingNumber r
   unfolding tests multiplierTests firstOf
   residual-answer = decided r refl
     where
       all-good : every isMultiplier (drop 1 (fieldsOf line)) ≡ true
       all-good = places-every isMultiplier (drop 1 (fieldsOf line)) [] (progress .good)
 
-      decided : (q : Closing) → r ≡ q → fault whole w line ≡ closingNumber q
+      decided : (q : Closing) → r ≡ q → fault manner w line ≡ closingNumber q
       decided (Done next) e = passed .left ∙ rw (all-good, justified next e)
       decided (Misclosed f) e =
           let (is, same, (i, below, negative)) = closes .unjustified f e in

@@ -16,7 +16,7 @@ use Rattle.groundwork.proofs.Stretches.{elements}
 use Rattle.theory.specs.Text.{Bytes, fieldsOf}
 use Rattle.theory.specs.declared.Letter.the-variants.{M}
 use Rattle.theory.specs.Written.{Written, multiplierFrom, multipliersFrom}
-use Rattle.theory.specs.Faults.{firstOf, isMultiplier, residualDue, multiplierTests, whole, tests, fault}
+use Rattle.theory.specs.Faults.{Manner, firstOf, isMultiplier, residualDue, multiplierTests, tests, fault}
 use Rattle.theory.proofs.Reading.Places.{not-every}
 use Rattle.forms.specs.declared.Form.{Form}
 use Rattle.tables.specs.declared.State.{State}
@@ -105,8 +105,8 @@ module _ {fs : List Bytes} {index many : ℕ} {claims : List ℤ} {slots : List 
         weight = weight-after;
       }
 
-pub m-fault : {line : Bytes} {s : State} {w : Written} {o : Opened} {index many : ℕ} {claims : List ℤ} {slots : List ℕ} {weights₀ weights : List ℤ} {r : Fielding} {f : Fault}
-    → Passed M line s w o → index < length (drop 1 (fieldsOf line)) → FieldM index (at (drop 1 (fieldsOf line)) index) many claims slots weights₀ r weights → r ≡ Misread f → fault whole w line ≡ numberOf f
+pub m-fault : {manner : Manner} {line : Bytes} {s : State} {w : Written} {o : Opened} {index many : ℕ} {claims : List ℤ} {slots : List ℕ} {weights₀ weights : List ℤ} {r : Fielding} {f : Fault}
+    → Passed manner M line s w o → index < length (drop 1 (fieldsOf line)) → FieldM index (at (drop 1 (fieldsOf line)) index) many claims slots weights₀ r weights → r ≡ Misread f → fault manner w line ≡ numberOf f
 unfolding tests multiplierTests firstOf
 m-fault {line} {index = index} {many} passed less done bad =
     let fs = drop 1 (fieldsOf line) in
@@ -145,10 +145,10 @@ module _ {t : Tables} {s : State} {fs : List Bytes} {index : ℕ} {weights : Lis
 
 -- ---- the line's end
 
-module _ {line : Bytes} {t : Tables} {s : State} {w : Written} {o : Opened} {weights₀ weights : List ℤ} {r : Closing} (holds : Holds t s w) (safe : Safe t s) (passed : Passed M line s w o)
+module _ {manner : Manner} {line : Bytes} {t : Tables} {s : State} {w : Written} {o : Opened} {weights₀ weights : List ℤ} {r : Closing} (holds : Holds t s w) (safe : Safe t s) (passed : Passed manner M line s w o)
     (progress : ProgressM (drop 1 (fieldsOf line)) (length (drop 1 (fieldsOf line))) (t .claims) (t .slots) weights₀)
     (closes : ClosesM s (t .claims) weights₀ (t .rows) r weights) where
-  pub m-close : ClosedFor line w r t
+  pub m-close : ClosedFor manner line w r t
   m-close =
       record {
         answer = residual-answer holds safe passed progress closes;

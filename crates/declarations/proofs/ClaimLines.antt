@@ -17,7 +17,7 @@ use Rattle.theory.specs.Text.{Bytes, integer, fieldsOf}
 use Rattle.theory.specs.Packs.{claimKey, claimsOn, claimLimit, numberLimit}
 use Rattle.theory.specs.declared.Letter.the-variants.{C}
 use Rattle.theory.specs.Written.{Written, claimFrom, add}
-use Rattle.theory.specs.Faults.{isClaimNumber, firstOf, claimTests, whole, tests, fault}
+use Rattle.theory.specs.Faults.{Manner, isClaimNumber, firstOf, claimTests, tests, fault}
 use Rattle.theory.proofs.Reading.Presence.{some-is, is-empty, end-filled}
 use Rattle.theory.proofs.Reading.Places.{places-every, not-every}
 use Rattle.theory.proofs.Judging.Sections.{claims-stand}
@@ -60,12 +60,12 @@ pub c-count : {index many : ℕ} {f : Bytes} {row₀ row : List ℤ} {r : Fieldi
 c-count {many = many} {f = f} done is = field-passes many Number (isClaimNumber f) (done .answer) is .1
 
 -- the tests that are left when the fields are read
-c-left : (line : Bytes) (s : State) (w : Written) (o : Opened) → Passed C line s w o
-    → fault whole w line ≡ cond (not (every isClaimNumber (drop 2 (fieldsOf line)))) 10 (cond (leb claimLimit (length (claimsOn (claimKey (claimFrom (fieldsOf line))) (w .pack .claims)))) 12 0)
+c-left : {manner : Manner} (line : Bytes) (s : State) (w : Written) (o : Opened) → Passed manner C line s w o
+    → fault manner w line ≡ cond (not (every isClaimNumber (drop 2 (fieldsOf line)))) 10 (cond (leb claimLimit (length (claimsOn (claimKey (claimFrom (fieldsOf line))) (w .pack .claims)))) 12 0)
 unfolding firstOf tests claimTests
 c-left line s w o passed = passed .left
 
-pub c-fault : (line : Bytes) (s : State) (w : Written) (o : Opened) (index many : ℕ) (row₀ row : List ℤ) (r : Fielding) (f : Fault) → Passed C line s w o → index < length (drop 2 (fieldsOf line)) → FieldC index (at (drop 2 (fieldsOf line)) index) many row₀ r row → r ≡ Misread f → fault whole w line ≡ numberOf f
+pub c-fault : {manner : Manner} (line : Bytes) (s : State) (w : Written) (o : Opened) (index many : ℕ) (row₀ row : List ℤ) (r : Fielding) (f : Fault) → Passed manner C line s w o → index < length (drop 2 (fieldsOf line)) → FieldC index (at (drop 2 (fieldsOf line)) index) many row₀ r row → r ≡ Misread f → fault manner w line ≡ numberOf f
 c-fault line s w o index many row₀ row r f passed less done is =
     let fs = drop 2 (fieldsOf line) in
     let failed = field-fails many Number (isClaimNumber (at fs index)) (done .answer) is in
@@ -74,7 +74,7 @@ c-fault line s w o index many row₀ row r f passed less done is =
 -- ---- what a line adds
 
 -- the tables with the claim that a line writes, and a pack with it
-c-holds : (line : Bytes) (t : Tables) (s : State) (w : Written) (o : Opened) (row : List ℤ) (claims : List ℤ) → Holds t s w → Safe t s → Passed C line s w o
+c-holds : {manner : Manner} (line : Bytes) (t : Tables) (s : State) (w : Written) (o : Opened) (row : List ℤ) (claims : List ℤ) → Holds t s w → Safe t s → Passed manner C line s w o
     → ProgressC (drop 2 (fieldsOf line)) (length (drop 2 (fieldsOf line))) row
     → let count = getD (t .signatures) (64 + o .predicate) 0 in
     count < 16
@@ -119,8 +119,8 @@ module _ {o : Opened} {s : State} {row : List ℤ} {signatures₀ : List ℕ} {c
   pub c-limit : (f : Fault) → r ≡ Misclosed f → f ≡ CountLimit
   c-limit f is = sym (line-fails CountLimit (withClaim (o .predicate) signatures₀ s) (leb claimLimit (getD signatures₀ (64 + o .predicate) 0)) (closes .answer) is .1)
 
-pub c-close : (line : Bytes) (t : Tables) (s : State) (w : Written) (o : Opened) (row : List ℤ) (signatures : List ℕ) (claims : List ℤ) (r : Closing) → Holds t s w → Safe t s → Passed C line s w o → ProgressC (drop 2 (fieldsOf line)) (length (drop 2 (fieldsOf line))) row → ClosesC o s row (t .signatures) (t .claims) r signatures claims
-    → ClosedFor line w r (tables (t .names) signatures claims (t .variables) (t .rows) (t .slots))
+pub c-close : {manner : Manner} (line : Bytes) (t : Tables) (s : State) (w : Written) (o : Opened) (row : List ℤ) (signatures : List ℕ) (claims : List ℤ) (r : Closing) → Holds t s w → Safe t s → Passed manner C line s w o → ProgressC (drop 2 (fieldsOf line)) (length (drop 2 (fieldsOf line))) row → ClosesC o s row (t .signatures) (t .claims) r signatures claims
+    → ClosedFor manner line w r (tables (t .names) signatures claims (t .variables) (t .rows) (t .slots))
 c-close line t s w o row signatures claims r holds safe passed done closes =
     let fs = drop 2 (fieldsOf line) in
     let good = places-every isClaimNumber fs [] (λ i less. some-is _ _ (done .read i less)) in

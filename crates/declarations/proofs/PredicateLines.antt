@@ -16,7 +16,7 @@ use Rattle.theory.specs.Text.{Bytes, natural, fieldsOf}
 use Rattle.theory.specs.Packs.{predicateLimit, keyOf, declaredAs}
 use Rattle.theory.specs.declared.Letter.the-variants.{P}
 use Rattle.theory.specs.Written.{Written, predicateFrom, add, field}
-use Rattle.theory.specs.Faults.{lineArity, isKind, isGiven, firstOf, predicateTests, whole, tests, fault}
+use Rattle.theory.specs.Faults.{Manner, lineArity, isKind, isGiven, firstOf, predicateTests, tests, fault}
 use Rattle.theory.proofs.Reading.Presence.{some-is, is-empty}
 use Rattle.theory.proofs.Judging.Sections.{predicates-stand}
 use Rattle.theory.proofs.Judging.LineKeys.{declared-with}
@@ -78,8 +78,8 @@ pub p-misread : {index many : ℕ} {f : Bytes} {small₀ small : List ℕ} {r : 
 p-misread {index} {many} {f} done less is = field-fails many Number (goodAt index f) (answer index less done) is .1
 
 -- the tests that are left when the fields are read
-p-left : (line : Bytes) (s : State) (w : Written) (o : Opened) → Passed P line s w o
-    → fault whole w line ≡ cond (not (goodAt 0 (at (drop 2 (fieldsOf line)) 0) && goodAt 1 (at (drop 2 (fieldsOf line)) 1))) 10 (cond (leb predicateLimit (length (w .pack .predicates))) 12 0)
+p-left : {manner : Manner} (line : Bytes) (s : State) (w : Written) (o : Opened) → Passed manner P line s w o
+    → fault manner w line ≡ cond (not (goodAt 0 (at (drop 2 (fieldsOf line)) 0) && goodAt 1 (at (drop 2 (fieldsOf line)) 1))) 10 (cond (leb predicateLimit (length (w .pack .predicates))) 12 0)
 unfolding firstOf tests predicateTests
 p-left line s w o passed = rw (getD-drop 2 (fieldsOf line) 0 [], getD-drop 2 (fieldsOf line) 1 []) (passed .left)
 
@@ -88,7 +88,7 @@ either-bad zero less fs bad = and-not-left (goodAt 0 (at fs 0)) (goodAt 1 (at fs
 either-bad (suc zero) less fs bad = and-not-right (goodAt 0 (at fs 0)) (goodAt 1 (at fs 1)) bad
 either-bad (suc (suc index)) less fs bad = absurd (omega arith)
 
-pub p-fault : (line : Bytes) (s : State) (w : Written) (o : Opened) (index many : ℕ) (small₀ small : List ℕ) (r : Fielding) (f : Fault) → Passed P line s w o → index < 2 → FieldP index (at (drop 2 (fieldsOf line)) index) many small₀ r small → r ≡ Misread f → fault whole w line ≡ numberOf f
+pub p-fault : {manner : Manner} (line : Bytes) (s : State) (w : Written) (o : Opened) (index many : ℕ) (small₀ small : List ℕ) (r : Fielding) (f : Fault) → Passed manner P line s w o → index < 2 → FieldP index (at (drop 2 (fieldsOf line)) index) many small₀ r small → r ≡ Misread f → fault manner w line ≡ numberOf f
 p-fault line s w o index many small₀ small r f passed less done is =
     let fs = drop 2 (fieldsOf line) in
     let failed = field-fails many Number (goodAt index (at fs index)) (answer index less done) is in
@@ -106,7 +106,7 @@ p-signature line known small signatures done =
     rw (← getD-drop 2 (fieldsOf line) 0 [], ← getD-drop 2 (fieldsOf line) 1 [], arity, kind)
 
 -- the key is new, now that its arity is read
-p-new : (line : Bytes) (s : State) (w : Written) (o : Opened) (small : List ℕ) → Passed P line s w o → ProgressP (drop 2 (fieldsOf line)) 2 small
+p-new : {manner : Manner} (line : Bytes) (s : State) (w : Written) (o : Opened) (small : List ℕ) → Passed manner P line s w o → ProgressP (drop 2 (fieldsOf line)) 2 small
     → declaredAs (keyOf (predicateFrom (fieldsOf line))) (w .pack .predicates) ≡ none
 unfolding predicateFrom lineArity
 p-new line s w o small passed done =
@@ -115,7 +115,7 @@ p-new line s w o small passed done =
     rw arity (sym (declared-with (field 1 fields) (w .pack .predicates) (natural 8 (field 2 fields)) (getD small 0 0) arity) ∙ passed .named .isNew)
 
 -- the tables with the predicate that a line writes, and a pack with it
-p-holds : (line : Bytes) (t : Tables) (s : State) (w : Written) (o : Opened) → Holds t s w → Safe t s → Passed P line s w o → declaredAs (keyOf (predicateFrom (fieldsOf line))) (w .pack .predicates) ≡ none → s .predicates < 32
+p-holds : {manner : Manner} (line : Bytes) (t : Tables) (s : State) (w : Written) (o : Opened) → Holds t s w → Safe t s → Passed manner P line s w o → declaredAs (keyOf (predicateFrom (fieldsOf line))) (w .pack .predicates) ≡ none → s .predicates < 32
     → let x = predicateFrom (fieldsOf line) in
     Holds (tables (withWords (t .names) (s .predicates) (wordsOf (field 1 (fieldsOf line)))) (withSignature (t .signatures) (s .predicates) (x .arguments) (flag (x .kind))) (t .claims) (t .variables) (t .rows) (t .slots))
     (withPredicates (s .predicates + 1) s) (record { pack = add P (fieldsOf line) (w .pack); ended = w .ended })
@@ -154,8 +154,8 @@ module _ {o : Opened} {s : State} {small names₀ signatures₀ : List ℕ} {r :
   pub p-limit : (f : Fault) → r ≡ Misclosed f → f ≡ CountLimit
   p-limit f is = sym (line-fails CountLimit (withPredicates (s .predicates + 1) s) (leb predicateLimit (s .predicates)) (closes .answer) is .1)
 
-pub p-close : (line : Bytes) (t : Tables) (s : State) (w : Written) (o : Opened) (small names signatures : List ℕ) (r : Closing) → Holds t s w → Safe t s → Passed P line s w o → ProgressP (drop 2 (fieldsOf line)) 2 small → ClosesP o s small (t .names) (t .signatures) r names signatures
-    → ClosedFor line w r (tables names signatures (t .claims) (t .variables) (t .rows) (t .slots))
+pub p-close : {manner : Manner} (line : Bytes) (t : Tables) (s : State) (w : Written) (o : Opened) (small names signatures : List ℕ) (r : Closing) → Holds t s w → Safe t s → Passed manner P line s w o → ProgressP (drop 2 (fieldsOf line)) 2 small → ClosesP o s small (t .names) (t .signatures) r names signatures
+    → ClosedFor manner line w r (tables names signatures (t .claims) (t .variables) (t .rows) (t .slots))
 p-close line t s w o small names signatures r holds safe passed done closes =
     let fs = drop 2 (fieldsOf line) in
     let known = s .predicates in

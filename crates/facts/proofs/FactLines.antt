@@ -12,12 +12,13 @@ use Rattle.groundwork.proofs.Truth.{by-truth, ltb-lt, ltb-ge}
 use Rattle.theory.specs.Lists.{isEmpty}
 use Rattle.theory.specs.Text.{Bytes, fieldsOf}
 use Rattle.theory.specs.Terms.{arity, allVariables}
-use Rattle.theory.specs.Packs.{Atom, atomKey, claimsOn}
+use Rattle.theory.specs.Sizes.{Measure}
+use Rattle.theory.specs.Packs.{Atom, measureIn, atomKey, claimsOn}
 use Rattle.theory.specs.declared.Letter.the-variants.{G}
 use Rattle.theory.specs.Written.{Written, termsFrom, atomFrom, add}
 use Rattle.theory.specs.Residuals.{numbered}
 use Rattle.theory.specs.Facts.{meetsEvery}
-use Rattle.theory.specs.Faults.{test, firstOf, factTests, whole, tests, fault}
+use Rattle.theory.specs.Faults.{Manner, test, firstOf, factTests, tests, fault}
 use Rattle.theory.proofs.Reading.Presence.{is-empty, empty-is, filled-is}
 use Rattle.theory.proofs.Judging.Keys.{on-arity}
 use Rattle.theory.proofs.Judging.LineWriting.{writes-letter}
@@ -42,8 +43,8 @@ use Rattle.atoms.proofs.AtomLines.{atom-ended, atom-fault, count-terms, few-ter
 use Rattle.facts.specs.Ends.{metBy, withFact, ended, ClosesG}
 use Rattle.facts.proofs.Meeting.{met-is}
 
-pub g-fault : {line : Bytes} {s : State} {w : Written} {o : Opened} {atom index many : ℕ} {variables₀ variables rows₀ rows : List ℕ} {r : Fielding} {f : Fault} → Passed G line s w o → index < length (drop 2 (fieldsOf line))
-    → FieldTerm atom index (at (drop 2 (fieldsOf line)) index) many variables₀ rows₀ r variables rows → r ≡ Misread f → fault whole w line ≡ numberOf f
+pub g-fault : {manner : Manner} {m : Measure} {line : Bytes} {s : State} {w : Written} {o : Opened} {atom index many : ℕ} {variables₀ variables rows₀ rows : List ℕ} {r : Fielding} {f : Fault} → Passed manner G line s w o → index < length (drop 2 (fieldsOf line))
+    → FieldTerm m atom index (at (drop 2 (fieldsOf line)) index) many variables₀ rows₀ r variables rows → r ≡ Misread f → fault manner w line ≡ numberOf f
 unfolding tests factTests
 g-fault {line = line} {w = w} passed inside done bad = passed .left ∙ atom-fault G false (_ ∷ []) _ (fieldsOf line) (w .pack) inside done bad
 
@@ -78,7 +79,7 @@ some-numbered : (xs : List Bytes) → 0 < length (numbered [] xs) → xs ≡ [] 
 unfolding numbered
 some-numbered xs h e = omega (arith, ap (λ (ys : List Bytes). length (numbered [] ys)) e)
 
-module _ {fs : List Bytes} {many : ℕ} {variables rows₀ rows : List ℕ} (terms : Finished 0 fs (numbered [] (allVariables (termsFrom fs))) many variables rows₀ rows) where
+module _ {m : Measure} {fs : List Bytes} {many : ℕ} {variables rows₀ rows : List ℕ} (terms : Finished m 0 fs (numbered [] (allVariables (termsFrom fs))) many variables rows₀ rows) where
   ground-told : ltb 0 many ≡ not (isEmpty (allVariables (termsFrom fs)))
   ground-told =
       by-truth (λ (b : Bool). b ≡ not (isEmpty (allVariables (termsFrom fs)))) (ltb 0 many)
@@ -93,19 +94,19 @@ module _ {fs : List Bytes} {many : ℕ} {variables rows₀ rows : List ℕ} (ter
 
 -- ---- the line's end
 
-module _ {line : Bytes} {t : Tables} {s : State} {w : Written} {o : Opened} {many : ℕ} {variables rows : List ℕ} (holds : Holds t s w) (safe : Safe t s) (passed : Passed G line s w o)
-    (done : ProgressTerms 0 [] (drop 2 (fieldsOf line)) (length (drop 2 (fieldsOf line))) many variables (t .rows) rows) where
+module _ {manner : Manner} {line : Bytes} {t : Tables} {s : State} {w : Written} {o : Opened} {many : ℕ} {variables rows : List ℕ} (holds : Holds t s w) (safe : Safe t s) (passed : Passed manner G line s w o)
+    (done : ProgressTerms (measureIn (w .pack)) 0 [] (drop 2 (fieldsOf line)) (length (drop 2 (fieldsOf line))) many variables (t .rows) rows) where
   abbrev fact : Atom
   fact = atomFrom (fieldsOf line)
 
-  terms : Finished 0 (drop 2 (fieldsOf line)) (numbered [] (allVariables (termsFrom (drop 2 (fieldsOf line))))) many variables (t .rows) rows
+  terms : Finished (measureIn (w .pack)) 0 (drop 2 (fieldsOf line)) (numbered [] (allVariables (termsFrom (drop 2 (fieldsOf line))))) many variables (t .rows) rows
   terms = finished (few-terms (passed .named) holds safe) refl done
 
   abbrev met : Bool
   met = metBy o (t .signatures) (t .claims) rows
 
   -- what the tables say of its claims, where it is ground
-  met-told : ltb 0 many ≡ false → met ≡ meetsEvery (w .pack .claims) fact
+  met-told : ltb 0 many ≡ false → met ≡ meetsEvery (w .pack) fact
   unfolding atomFrom
   met-told e =
       let key = passed .named .is in
@@ -133,13 +134,13 @@ module _ {line : Bytes} {t : Tables} {s : State} {w : Written} {o : Opened} {man
     ended = holds .ended;
   }
 
-  pub g-close : {r : Closing} → ClosesG o s many (t .signatures) (t .claims) rows r → ClosedFor line w r (tables (t .names) (t .signatures) (t .claims) variables rows (t .slots))
+  pub g-close : {r : Closing} → ClosesG o s many (t .signatures) (t .claims) rows r → ClosedFor manner line w r (tables (t .names) (t .signatures) (t .claims) variables rows (t .slots))
   unfolding tests factTests atomFrom
   g-close closes = record {
     answer =
         passed .left
         ∙ atom-ended G false (_ ∷ []) _ (fieldsOf line) (w .pack) (terms .good)
-        ∙ rw (← ground-told terms) (end-number o s (ltb 0 many) met (meetsEvery (w .pack .claims) fact) met-told (closes .answer));
+        ∙ rw (← ground-told terms) (end-number o s (ltb 0 many) met (meetsEvery (w .pack) fact) met-told (closes .answer));
     holds = λ next fine. rw (← end-done o s (ltb 0 many) met (closes .answer) fine .2, writes-letter G w line (passed .first) refl) fact-holds;
   }
 

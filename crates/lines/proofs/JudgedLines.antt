@@ -4,7 +4,7 @@ use mathlib.Core.List.{List}
 use lib.IntN.{ℤ}
 use Rattle.theory.specs.Text.{Bytes}
 use Rattle.theory.specs.Written.{Written}
-use Rattle.theory.specs.Faults.{whole, fault}
+use Rattle.theory.specs.Faults.{Manner, mayStand, fault}
 use Rattle.tables.specs.declared.State.{State}
 use Rattle.tables.specs.declared.Fault.{Fault}
 use Rattle.tables.specs.declared.Fault.the-variants.{Unjustified}
@@ -20,7 +20,7 @@ use Rattle.opening.specs.Opening.{Opens}
 use Rattle.lines.specs.Between.{LineJudged}
 
 -- nothing is asked of the tables after it
-pub refused-line : {line : Bytes} {t t₁ : Tables} {s : State} {weights : List ℤ} (f : Fault) → (numberOf f ≡ 13 → ⊥) → Summable weights (t₁ .rows) → ((w : Written) → Holds t s w → fault whole w line ≡ numberOf f) → LineJudged line s t (Misclosed f) t₁ weights
+pub refused-line : {manner : Manner} {line : Bytes} {t t₁ : Tables} {s : State} {weights : List ℤ} (f : Fault) → (numberOf f ≡ 13 → ⊥) → Summable weights (t₁ .rows) → ((w : Written) → Holds t s w → fault manner w line ≡ numberOf f) → LineJudged manner line s t (Misclosed f) t₁ weights
 refused-line f other summable tells = record {
   safe = λ next e. absurd (done-misclosed (sym e));
   summable = summable;
@@ -31,5 +31,5 @@ refused-line f other summable tells = record {
     last : Misclosed f ≡ Misclosed Unjustified → ⊥
     last e = other (ap numberOf (misclosed-fault e))
 
-pub refused-opening : {line : Bytes} {t : Tables} {s : State} {r : Opening} {weights : List ℤ} → Summable weights (t .rows) → Opens line (t .names) (t .signatures) s r → (f : Fault) → r ≡ Misopened f → LineJudged line s t (Misclosed f) t weights
-refused-opening {t = t} {s} summable opens f e = refused-line f (opens .other f e) summable (λ w holds. opens .tells w (outline t s w holds) .refused f e)
+pub refused-opening : {manner : Manner} → manner .allows ≡ mayStand → {line : Bytes} {t : Tables} {s : State} {r : Opening} {weights : List ℤ} → Summable weights (t .rows) → Opens line (t .names) (t .signatures) s r → (f : Fault) → r ≡ Misopened f → LineJudged manner line s t (Misclosed f) t weights
+refused-opening {manner} same {t = t} {s} summable opens f e = refused-line f (opens .other f e) summable (λ w holds. opens .tells manner same w (outline t s w holds) .refused f e)

@@ -9,6 +9,7 @@ use Rattle.theory.specs.declared.Letter.{Letter}
 use Rattle.theory.specs.declared.Letter.the-variants.{P, C, G, H, B, M, E, NoLetter}
 use Rattle.theory.specs.Text.{Bytes, fieldsOf}
 use Rattle.theory.specs.Written.{Written}
+use Rattle.theory.specs.Faults.{Manner}
 use Rattle.tables.specs.declared.State.{State}
 use Rattle.tables.specs.declared.Fault.{Fault}
 use Rattle.tables.specs.declared.Fault.the-variants.{CountLimit, Unjustified}
@@ -16,6 +17,7 @@ use Rattle.tables.specs.declared.Opened.{Opened}
 use Rattle.tables.specs.declared.Closing.{Closing}
 use Rattle.tables.specs.declared.Closing.the-variants.{Done, Misclosed}
 use Rattle.tables.specs.Faults.{numberOf}
+use Rattle.tables.specs.Sorts.{sortOf}
 use Rattle.tables.specs.Tables.{Tables, tables, Holds, NoWeights, SafeRows, Safe}
 use Rattle.tables.specs.Lines.{skipped, most, Passed, ClosedFor}
 use Rattle.tables.proofs.Outcomes.{done-misclosed}
@@ -54,12 +56,12 @@ pub unweighed : {weights : List ℤ} {rows : List ℕ} → NoWeights weights →
 unweighed clear rows = record { size = clear .size; weight = λ i. rw (clear .zero i) (omega arith); row = rows }
 
 -- a line whose end leaves no residual, with the tables x after it
-leaves-none : {line : Bytes} {s : State} {t t₁ : Tables} {r : Closing} {weights₀ weights : List ℤ} (x : Tables) → t₁ ≡ x → weights ≡ weights₀ → NoWeights weights₀ → SafeRows (t₁ .rows) → ((f : Fault) → r ≡ Misclosed f → numberOf f ≡ 13 → ⊥)
-    → ((next : State) → r ≡ Done next → Safe x next) → ((w : Written) → Holds t s w → ClosedFor line w r x) → LineJudged line s t r t₁ weights
-leaves-none {line} {t₁ = t₁} {r = r} x after same clear rows other safe tells = record {
+leaves-none : {manner : Manner} {line : Bytes} {s : State} {t t₁ : Tables} {r : Closing} {weights₀ weights : List ℤ} (x : Tables) → t₁ ≡ x → weights ≡ weights₀ → NoWeights weights₀ → SafeRows (t₁ .rows) → ((f : Fault) → r ≡ Misclosed f → numberOf f ≡ 13 → ⊥)
+    → ((next : State) → r ≡ Done next → Safe x next) → ((w : Written) → Holds t s w → ClosedFor manner line w r x) → LineJudged manner line s t r t₁ weights
+leaves-none {manner} {line} {t₁ = t₁} {r = r} x after same clear rows other safe tells = record {
   safe = λ next done. (subst⁻¹ (λ (y : Tables). Safe y next) after (safe next done), subst⁻¹ NoWeights same clear);
   summable = subst⁻¹ (λ (ws : List ℤ). Summable ws (t₁ .rows)) same (unweighed clear rows);
-  tells = λ w holds. subst⁻¹ (ClosedFor line w r) after (tells w holds);
+  tells = λ w holds. subst⁻¹ (ClosedFor manner line w r) after (tells w holds);
   left = λ w holds bad. absurd (other Unjustified bad refl);
 }
 
@@ -76,7 +78,7 @@ abbrev pub closedTables : Stores → Tabled → Tables
 closedTables x y = tables (y .names) (y .signatures) (y .claims) (x .variables) (x .rows) (y .slots)
 
 module _ {line : Bytes} {t : Tables} {s : State} {o : Opened} (safe : Safe t s) {many from index : ℕ} {x : Stores} where
-  pub closable : (letter : Letter) → FieldsRead letter line t s o many from index x → length (fieldsFrom line o) ≤ most letter s → ((letter ≡ P → ⊥) → o .predicate < 32) → (letter ≡ M → s .multipliers < 16) → index ≡ length (fieldsFrom line o)
+  pub closable : (letter : Letter) → FieldsRead letter line t s o many from index x → length (fieldsFrom line o) ≤ most (sortOf letter) s → ((letter ≡ P → ⊥) → o .predicate < 32) → (letter ≡ M → s .multipliers < 16) → index ≡ length (fieldsFrom line o)
       → CloseNeeds letter o s (x .rows) (unclosed t x)
   closable P read few place due past = tt
   closable C read few place due past = (place claim-other, safe .signatures, safe .sizes .claims)
@@ -89,13 +91,13 @@ module _ {line : Bytes} {t : Tables} {s : State} {o : Opened} (safe : Safe t s) 
   closable NoLetter read few place due past = tt
 
   -- all fields are read
-  whole : (letter : Letter) → FieldsRead letter line t s o many from index x → index ≡ length (fieldsFrom line o) → (w : Written) → Holds t s w → (passed : Passed letter line s w o)
-      → Progress letter line w s t (length (drop (skipped letter) (fieldsOf line))) many x
-  whole letter read past w holds passed = subst (λ (n : ℕ). Progress letter line w s t n many x) (past ∙ ap length (passed .rest)) (read .tells w holds passed)
+  whole : (letter : Letter) → FieldsRead letter line t s o many from index x → index ≡ length (fieldsFrom line o) → {manner : Manner} (w : Written) → Holds t s w → (passed : Passed manner letter line s w o)
+      → Progress (sortOf letter) line w s t (length (drop (skipped (sortOf letter)) (fieldsOf line))) many x
+  whole letter read past w holds passed = subst (λ (n : ℕ). Progress (sortOf letter) line w s t n many x) (past ∙ ap length (passed .rest)) (read .tells w holds passed)
 
-  module _ {r : Closing} {y : Tabled} where
-    pub closed : (letter : Letter) → FieldsRead letter line t s o many from index x → length (fieldsFrom line o) ≤ most letter s → ((letter ≡ P → ⊥) → o .predicate < 32) → (letter ≡ M → s .multipliers < 16) → index ≡ length (fieldsFrom line o)
-        → ((w : Written) → Holds t s w → Passed letter line s w o) → CloseLeaves letter o s many (x .small) (x .row) (x .rows) (unclosed t x) r y → LineJudged line s t r (closedTables x y) (y .weights)
+  module _ {manner : Manner} {r : Closing} {y : Tabled} where
+    pub closed : (letter : Letter) → FieldsRead letter line t s o many from index x → length (fieldsFrom line o) ≤ most (sortOf letter) s → ((letter ≡ P → ⊥) → o .predicate < 32) → (letter ≡ M → s .multipliers < 16) → index ≡ length (fieldsFrom line o)
+        → ((w : Written) → Holds t s w → Passed manner letter line s w o) → CloseLeaves manner letter o s many (x .small) (x .row) (x .rows) (unclosed t x) r y → LineJudged manner line s t r (closedTables x y) (y .weights)
     closed P read few place due past passed done =
         let (variables, rows, clear) = read .untouched in
         leaves-none (tables (y .names) (y .signatures) (t .claims) (t .variables) (t .rows) (t .slots)) (λ i. tables (y .names) (y .signatures) (done .1 i .claims) (variables i) (rows i) (done .1 i .slots))
@@ -129,7 +131,7 @@ module _ {line : Bytes} {t : Tables} {s : State} {o : Opened} (safe : Safe t s) 
         record {
           safe = λ next good. (subst⁻¹ (λ (z : Tables). Safe z next) same (m-safe safe (due refl) closes good), m-cleared closes good);
           summable = rw rows (weighed-closing safe r refl closes slots (read .weighed));
-          tells = λ w holds. let p = passed w holds in subst⁻¹ (ClosedFor line w r) same (m-close holds safe p (whole M read past w holds p) closes);
+          tells = λ w holds. let p = passed w holds in subst⁻¹ (ClosedFor manner line w r) same (m-close holds safe p (whole M read past w holds p) closes);
           left = λ w holds bad.
               let p = passed w holds in
               let left = m-left holds safe p (whole M read past w holds p) closes Unjustified bad in

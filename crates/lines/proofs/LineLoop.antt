@@ -10,7 +10,7 @@ use Rattle.groundwork.proofs.Lists.{same-everywhere}
 use Rattle.groundwork.proofs.Truth.{by-truth, eqb-equal, eqb-different}
 use Rattle.theory.specs.Text.{Bytes, fieldsOf, linesOf}
 use Rattle.theory.specs.Written.{Written, write, writeAll, multipliersFrom}
-use Rattle.theory.specs.Faults.{whole, fault, lastRule, residualDue}
+use Rattle.theory.specs.Faults.{Manner, fault, lastRule, residualDue}
 use Rattle.theory.specs.Check.{Judgement, refused, judge}
 use Rattle.text.specs.Scans.{part, Finds}
 use Rattle.text.proofs.Cuts.{lines-done, lines-step}
@@ -38,13 +38,13 @@ stopped-fault e = cc
 
 -- ---- verdicts
 
-judge-passed : (w : Written) (k : ℕ) (l : Bytes) (ls : List Bytes) → fault whole w l ≡ 0 → judge whole w k (l ∷ ls) ≡ judge whole (write w l) (k + 1) ls
+judge-passed : (manner : Manner) (w : Written) (k : ℕ) (l : Bytes) (ls : List Bytes) → fault manner w l ≡ 0 → judge manner w k (l ∷ ls) ≡ judge manner (write w l) (k + 1) ls
 unfolding judge
-judge-passed w k l ls e = rw e refl
+judge-passed manner w k l ls e = rw e refl
 
-judge-refused : (w : Written) (k : ℕ) (l : Bytes) (ls : List Bytes) (n : ℕ) → fault whole w l ≡ n → (n ≡ 0 → ⊥) → judge whole w k (l ∷ ls) ≡ refused w (k + 1) l n
+judge-refused : (manner : Manner) (w : Written) (k : ℕ) (l : Bytes) (ls : List Bytes) (n : ℕ) → fault manner w l ≡ n → (n ≡ 0 → ⊥) → judge manner w k (l ∷ ls) ≡ refused w (k + 1) l n
 unfolding judge
-judge-refused w k l ls n e some = rw (e, eqb-different n 0 some) refl
+judge-refused manner w k l ls n e some = rw (e, eqb-different n 0 some) refl
 
 -- the answer of a line with a fault, by what the state counts, and its residual
 module _ (w : Written) (k : ℕ) (l : Bytes) (f : Fault) where
@@ -76,7 +76,7 @@ writeAll-none w = refl
 pub zeros-clear : NoWeights (replicate 81 (pos 0))
 zeros-clear = record { size = length-replicate 81 (pos 0); zero = λ i. same-everywhere (pos 0) 81 i }
 
-pub lines-begin : {text : Bytes} {start : State} {t : Tables} {weights : List ℤ} → Safe t start → NoWeights weights → LinesRead text start t start t weights 0 0
+pub lines-begin : {manner : Manner} {text : Bytes} {start : State} {t : Tables} {weights : List ℤ} → Safe t start → NoWeights weights → LinesRead manner text start t start t weights 0 0
 lines-begin safe clear =
     record {
       within = omega arith;
@@ -87,9 +87,9 @@ lines-begin safe clear =
       tells = λ w₀ holds. record { w = w₀; holds = holds; judged = refl; written = refl; counted = omega arith };
     }
 
-module _ {text : Bytes} {start : State} {t₀ : Tables} {s : State} {t : Tables} {weights : List ℤ} {line at : ℕ} (read : LinesRead text start t₀ s t weights line at) where
+module _ {manner : Manner} {text : Bytes} {start : State} {t₀ : Tables} {s : State} {t : Tables} {weights : List ℤ} {line at : ℕ} (read : LinesRead manner text start t₀ s t weights line at) where
   -- past the end of the text
-  pub lines-end : length text ≤ at → {form : Form} → LoadsLines text start t₀ (record { ending = AllPass; line = line; state = s; residual = form }) (t .names) (t .signatures) (t .claims)
+  pub lines-end : length text ≤ at → {form : Form} → LoadsLines manner text start t₀ (record { ending = AllPass; line = line; state = s; residual = form }) (t .names) (t .signatures) (t .claims)
   lines-end past {form} =
       record {
         state = read .safe .state;
@@ -100,7 +100,7 @@ module _ {text : Bytes} {start : State} {t₀ : Tables} {s : State} {t : Tables}
       none : linesOf (drop at text) ≡ []
       none = lines-done text at past
 
-      reached : (w₀ : Written) → Reached text w₀ s t line at → LinesLoadedFor text w₀ (record { ending = AllPass; line = line; state = s; residual = form }) (t .names) (t .signatures) (t .claims)
+      reached : (w₀ : Written) → Reached manner text w₀ s t line at → LinesLoadedFor manner text w₀ (record { ending = AllPass; line = line; state = s; residual = form }) (t .names) (t .signatures) (t .claims)
       reached w₀ there =
           let written : writeAll w₀ (linesOf text) ≡ there .w = there .written ∙ ap (writeAll (there .w)) none ∙ writeAll-none (there .w) in
           record {
@@ -111,12 +111,12 @@ module _ {text : Bytes} {start : State} {t₀ : Tables} {s : State} {t : Tables}
             holds = λ e. record { variables = t .variables; rows = t .rows; slots = t .slots; safe = read .safe; holds = rw written (there .holds) };
           }
 
-  module _ {end : ℕ} (inside : at < length text) (finds : Finds text 10 at end) {r : Closing} {t₁ : Tables} {weights₁ : List ℤ} (judged : LineJudged (part text at end) s t r t₁ weights₁) where
+  module _ {end : ℕ} (inside : at < length text) (finds : Finds text 10 at end) {r : Closing} {t₁ : Tables} {weights₁ : List ℤ} (judged : LineJudged manner (part text at end) s t r t₁ weights₁) where
     lines : linesOf (drop at text) ≡ part text at end ∷ linesOf (drop (end + 1) text)
     lines = lines-step text at end inside finds
 
     -- the next line passes
-    pub lines-more : {next : State} → r ≡ Done next → LinesRead text start t₀ next t₁ weights₁ (line + 1) (end + 1)
+    pub lines-more : {next : State} → r ≡ Done next → LinesRead manner text start t₀ next t₁ weights₁ (line + 1) (end + 1)
     lines-more {next} good =
         record {
           within = omega (arith, finds .high);
@@ -127,21 +127,21 @@ module _ {text : Bytes} {start : State} {t₀ : Tables} {s : State} {t : Tables}
           tells = λ w₀ holds. reached w₀ (read .tells w₀ holds);
         }
       where
-        reached : (w₀ : Written) → Reached text w₀ s t line at → Reached text w₀ next t₁ (line + 1) (end + 1)
+        reached : (w₀ : Written) → Reached manner text w₀ s t line at → Reached manner text w₀ next t₁ (line + 1) (end + 1)
         reached w₀ there =
             let w = there .w in
             let after = judged .tells w (there .holds) in
             record {
               w = write w (part text at end);
               holds = after .holds next good;
-              judged = there .judged ∙ ap (judge whole w line) lines ∙ judge-passed w line (part text at end) _ (after .answer ∙ ap closingNumber good);
+              judged = there .judged ∙ ap (judge manner w line) lines ∙ judge-passed manner w line (part text at end) _ (after .answer ∙ ap closingNumber good);
               written = there .written ∙ ap (writeAll w) lines ∙ writeAll-more w (part text at end) _;
               counted = let count = rw lines at (there .counted) in omega arith;
             }
 
     -- the next line is refused
     pub lines-refused : {f : Fault} → r ≡ Misclosed f → {form : Form} → (f ≡ Unjustified → SumsTo weights₁ (t₁ .rows) (width (s .variables)) (s .subgoals + 1) form) → {names signatures : List ℕ} {claims : List ℤ}
-        → LoadsLines text start t₀ (record { ending = Stopped f; line = line + 1; state = s; residual = form }) names signatures claims
+        → LoadsLines manner text start t₀ (record { ending = Stopped f; line = line + 1; state = s; residual = form }) names signatures claims
     lines-refused {f} bad {form} taken {names} {signatures} {claims} =
         record {
           state = read .safe .state;
@@ -149,12 +149,12 @@ module _ {text : Bytes} {start : State} {t₀ : Tables} {s : State} {t : Tables}
           tells = λ w₀ holds. reached w₀ (read .tells w₀ holds);
         }
       where
-        reached : (w₀ : Written) → Reached text w₀ s t line at → LinesLoadedFor text w₀ (record { ending = Stopped f; line = line + 1; state = s; residual = form }) names signatures claims
+        reached : (w₀ : Written) → Reached manner text w₀ s t line at → LinesLoadedFor manner text w₀ (record { ending = Stopped f; line = line + 1; state = s; residual = form }) names signatures claims
         reached w₀ there =
             let w = there .w in
             let answer = judged .tells w (there .holds) .answer ∙ ap closingNumber bad in
             let misclosed : f ≡ Unjustified → r ≡ Misclosed Unjustified = λ e. bad ∙ ap Misclosed e in
-            let judgement : judge whole w₀ 0 (linesOf text) ≡ refused w (line + 1) (part text at end) (numberOf f) = there .judged ∙ ap (judge whole w line) lines ∙ judge-refused w line (part text at end) _ (numberOf f) answer (number-some f) in
+            let judgement : judge manner w₀ 0 (linesOf text) ≡ refused w (line + 1) (part text at end) (numberOf f) = there .judged ∙ ap (judge manner w line) lines ∙ judge-refused manner w line (part text at end) _ (numberOf f) answer (number-some f) in
             record {
               refused = λ g e. ap (λ (v : Judgement). v .returned) judgement ∙ rw (← stopped-fault e) (returned-as w (line + 1) (part text at end) f s (there .holds .rules)
                   (λ is. there .holds .last (judged .left w (there .holds) (misclosed is) .ruled) .multipliers));

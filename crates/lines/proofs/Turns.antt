@@ -9,6 +9,7 @@ use mir.Syntax.{w64}
 use mir.Val.{Fits}
 use Rattle.theory.specs.Text.{Bytes}
 use Rattle.theory.specs.Written.{Written}
+use Rattle.theory.specs.Faults.{Manner, mayStand}
 use Rattle.text.specs.Scans.{part, partsFrom, Finds}
 use Rattle.forms.specs.declared.Form.{Form}
 use Rattle.tables.specs.declared.State.{State}
@@ -21,6 +22,7 @@ use Rattle.tables.specs.declared.Fielding.the-variants.{Read, Misread}
 use Rattle.tables.specs.declared.Closing.{Closing}
 use Rattle.tables.specs.declared.Closing.the-variants.{Done, Misclosed}
 use Rattle.tables.specs.Faults.{numberOf}
+use Rattle.tables.specs.Sorts.{sortOf}
 use Rattle.tables.specs.Tables.{Tables, Holds}
 use Rattle.tables.specs.Lines.{Passed, SafeOpened}
 use Rattle.tables.proofs.Outlines.{outline}
@@ -38,34 +40,35 @@ use Rattle.lines.proofs.JudgedLines.{refused-line, refused-opening}
 use Rattle.lines.proofs.LineLoop.{lines-more, lines-refused}
 
 -- a turn of the loop over lines up to its call of `open`: the lines before it are read, and its own is found
-pub record Turn (text : Bytes) (start : State) (t₀ : Tables) (s : State) (t : Tables) (weights : List ℤ) (number at end : ℕ) (r : Opening) : Type 0 where
-  pub read : LinesRead text start t₀ s t weights number at
+pub record Turn (manner : Manner) (text : Bytes) (start : State) (t₀ : Tables) (s : State) (t : Tables) (weights : List ℤ) (number at end : ℕ) (r : Opening) : Type 0 where
+  pub allows : manner .allows ≡ mayStand
+  pub read : LinesRead manner text start t₀ s t weights number at
   pub inside : at < length text
   pub finds : Finds text 10 at end
   pub opens : Opens (part text at end) (t .names) (t .signatures) s r
 
-pub turn-begins : {text : Bytes} {start : State} {t₀ : Tables} {s : State} {t : Tables} {weights : List ℤ} {number at : ℕ} → LinesRead text start t₀ s t weights number at
-    → {line : Bytes} {o : Opened} {many : ℕ} → many ≡ variablesBefore (o .letter) s → FieldsRead (o .letter) line t s o many (o .from) 0 (emptied t weights)
+pub turn-begins : {manner : Manner} {text : Bytes} {start : State} {t₀ : Tables} {s : State} {t : Tables} {weights : List ℤ} {number at : ℕ} → LinesRead manner text start t₀ s t weights number at
+    → {line : Bytes} {o : Opened} {many : ℕ} → many ≡ variablesBefore (sortOf (o .letter)) s → FieldsRead (o .letter) line t s o many (o .from) 0 (emptied t weights)
 turn-begins {s = s} {t} {weights} read {line} {o} is = subst⁻¹ (λ (n : ℕ). FieldsRead (o .letter) line t s o n (o .from) 0 (emptied t weights)) is (fields-begin (o .letter) (read .safe) (read .clear))
 
-module _ {text : Bytes} {start : State} {t₀ : Tables} {s : State} {t : Tables} {weights : List ℤ} {number at end : ℕ} {r : Opening} (turn : Turn text start t₀ s t weights number at end r) where
+module _ {manner : Manner} {text : Bytes} {start : State} {t₀ : Tables} {s : State} {t : Tables} {weights : List ℤ} {number at end : ℕ} {r : Opening} (turn : Turn manner text start t₀ s t weights number at end r) where
   -- refused when it is opened
-  pub turn-unopened : {f : Fault} → r ≡ Misopened f → {form : Form} {names signatures : List ℕ} {claims : List ℤ} → LoadsLines text start t₀ (record { ending = Stopped f; line = number + 1; state = s; residual = form }) names signatures claims
+  pub turn-unopened : {f : Fault} → r ≡ Misopened f → {form : Form} {names signatures : List ℕ} {claims : List ℤ} → LoadsLines manner text start t₀ (record { ending = Stopped f; line = number + 1; state = s; residual = form }) names signatures claims
   turn-unopened {f} e =
-      lines-refused (turn .read) (turn .inside) (turn .finds) (refused-opening (unweighed (turn .read .clear) (turn .read .safe .rows)) (turn .opens) f e) refl
+      lines-refused (turn .read) (turn .inside) (turn .finds) (refused-opening (turn .allows) (unweighed (turn .read .clear) (turn .read .safe .rows)) (turn .opens) f e) refl
       (λ is. absurd (turn .opens .other f e (ap numberOf is)))
 
   module _ {o : Opened} (opened : r ≡ Line o) where
     safe-opened : SafeOpened (part text at end) s o
     safe-opened = turn .opens .safe o opened
 
-    passed : (w : Written) → Holds t s w → Passed (o .letter) (part text at end) s w o
-    passed w holds = turn .opens .tells w (outline t s w holds) .passed o opened
+    passed : (w : Written) → Holds t s w → Passed manner (o .letter) (part text at end) s w o
+    passed w holds = turn .opens .tells manner (turn .allows) w (outline t s w holds) .passed o opened
 
     -- multipliers 0 are passed over
-    module _ {many from index z : ℕ} {x₀ : Stores} (fields : FieldsRead (o .letter) (part text at end) t s o many from index x₀) (skips : Skips (part text at end) from (o .letter) z) where
+    module _ {many from index z : ℕ} {x₀ : Stores} (fields : FieldsRead (o .letter) (part text at end) t s o many from index x₀) (skips : Skips (part text at end) from (sortOf (o .letter)) z) where
       pub turn-skipped : FieldsRead (o .letter) (part text at end) t s o many (from + 2 * z) (index + z) x₀
-      turn-skipped = fields-skipped (turn .read .safe) (safe-opened .short) (o .letter) (safe-opened .few) fields skips
+      turn-skipped = fields-skipped (turn .read .safe) (safe-opened .short) (o .letter) refl (safe-opened .few) fields skips
 
       module _ (within : from ≤ length (part text at end)) where
         pub turn-index-moved : Fits w64 (index + z)
@@ -93,7 +96,7 @@ module _ {text : Bytes} {start : State} {t₀ : Tables} {s : State} {t : Tables}
           turn-more = fields-more (turn .read .safe) (safe-opened .short) (o .letter) (safe-opened .few) fields within found x done
 
           -- refused at a field
-          pub turn-misread : {f : Fault} → field ≡ Misread f → {form : Form} {names signatures : List ℕ} {claims : List ℤ} → LoadsLines text start t₀ (record { ending = Stopped f; line = number + 1; state = s; residual = form }) names signatures claims
+          pub turn-misread : {f : Fault} → field ≡ Misread f → {form : Form} {names signatures : List ℕ} {claims : List ℤ} → LoadsLines manner text start t₀ (record { ending = Stopped f; line = number + 1; state = s; residual = form }) names signatures claims
           turn-misread {f} bad =
               let early = fields-early (turn .read .safe) (safe-opened .short) (o .letter) (safe-opened .few) fields within found x done f bad in
               lines-refused (turn .read) (turn .inside) (turn .finds) {t₁ = t}
@@ -108,11 +111,11 @@ module _ {text : Bytes} {start : State} {t₀ : Tables} {s : State} {t : Tables}
         pub turn-closable : CloseReady (o .letter) o s (x₀ .rows) (unclosed t x₀)
         turn-closable = close-ready (closable (turn .read .safe) (o .letter) fields (safe-opened .few) (safe-opened .place) (safe-opened .due) all)
 
-        module _ {close : Closing} {y : Tabled} (done : CloseDone (o .letter) o s many (x₀ .small) (x₀ .row) (x₀ .rows) (unclosed t x₀) close y) where
-          judged : LineJudged (part text at end) s t close (closedTables x₀ y) (y .weights)
+        module _ {close : Closing} {y : Tabled} (done : CloseDone manner (o .letter) o s many (x₀ .small) (x₀ .row) (x₀ .rows) (unclosed t x₀) close y) where
+          judged : LineJudged manner (part text at end) s t close (closedTables x₀ y) (y .weights)
           judged = closed (turn .read .safe) (o .letter) fields (safe-opened .few) (safe-opened .place) (safe-opened .due) all passed (done .of (o .letter) refl)
 
-          pub turn-done : {next : State} → close ≡ Done next → LinesRead text start t₀ next (closedTables x₀ y) (y .weights) (number + 1) (end + 1)
+          pub turn-done : {next : State} → close ≡ Done next → LinesRead manner text start t₀ next (closedTables x₀ y) (y .weights) (number + 1) (end + 1)
           turn-done = lines-more (turn .read) (turn .inside) (turn .finds) judged
 
           pub turn-summable : Summable (y .weights) (x₀ .rows)
@@ -120,5 +123,5 @@ module _ {text : Bytes} {start : State} {t₀ : Tables} {s : State} {t : Tables}
 
           -- refused at its end
           pub turn-refused : {f : Fault} → close ≡ Misclosed f → {form : Form} → SumsTo (y .weights) (x₀ .rows) (width (s .variables)) (s .subgoals + 1) form → {names signatures : List ℕ} {claims : List ℤ}
-              → LoadsLines text start t₀ (record { ending = Stopped f; line = number + 1; state = s; residual = form }) names signatures claims
+              → LoadsLines manner text start t₀ (record { ending = Stopped f; line = number + 1; state = s; residual = form }) names signatures claims
           turn-refused bad sums = lines-refused (turn .read) (turn .inside) (turn .finds) judged bad (λ is. sums)

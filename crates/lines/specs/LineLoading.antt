@@ -8,7 +8,7 @@ use lib.ListN.{length, replicate}
 use lib.IntN.{ℤ}
 use Rattle.theory.specs.Text.{Bytes, linesOf}
 use Rattle.theory.specs.Written.{Written, writeAll}
-use Rattle.theory.specs.Faults.{whole}
+use Rattle.theory.specs.Faults.{Manner}
 use Rattle.theory.specs.Check.{Numbers, numbers, judge}
 use Rattle.forms.specs.declared.Form.{Form}
 use Rattle.tables.specs.declared.State.{State}
@@ -40,15 +40,15 @@ pub record HoldsWith (names signatures : List ℕ) (claims : List ℤ) (s : Stat
   pub safe : Safe (tables names signatures claims variables rows slots) s
   pub holds : Holds (tables names signatures claims variables rows slots) s w
 
--- lines that are judged after lines that write w
-pub record LinesLoadedFor (text : Bytes) (w : Written) (r : LoadedLines) (names signatures : List ℕ) (claims : List ℤ) : Type 0 where
-  pub refused : (f : Fault) → r .ending ≡ Stopped f → judge whole w 0 (linesOf text) .returned ≡ faultNumbers f (r .line) (r .state .rules) (r .state .multipliers + 1)
-  pub residue : (f : Fault) → r .ending ≡ Stopped f → (f ≡ Unjustified → length (r .residual .coefficients) ≡ 16) → judge whole w 0 (linesOf text) .residue ≡ faultResidue f (r .residual)
+-- lines that are judged in some manner after lines that write w
+pub record LinesLoadedFor (manner : Manner) (text : Bytes) (w : Written) (r : LoadedLines) (names signatures : List ℕ) (claims : List ℤ) : Type 0 where
+  pub refused : (f : Fault) → r .ending ≡ Stopped f → judge manner w 0 (linesOf text) .returned ≡ faultNumbers f (r .line) (r .state .rules) (r .state .multipliers + 1)
+  pub residue : (f : Fault) → r .ending ≡ Stopped f → (f ≡ Unjustified → length (r .residual .coefficients) ≡ 16) → judge manner w 0 (linesOf text) .residue ≡ faultResidue f (r .residual)
   pub lines : r .ending ≡ AllPass → r .line ≡ length (linesOf text)
-  pub passed : r .ending ≡ AllPass → judge whole w 0 (linesOf text) ≡ judge whole (writeAll w (linesOf text)) (r .line) []
+  pub passed : r .ending ≡ AllPass → judge manner w 0 (linesOf text) ≡ judge manner (writeAll w (linesOf text)) (r .line) []
   pub holds : r .ending ≡ AllPass → HoldsWith names signatures claims (r .state) (writeAll w (linesOf text))
 
-pub record LoadsLines (text : Bytes) (start : State) (t₀ : Tables) (r : LoadedLines) (names signatures : List ℕ) (claims : List ℤ) : Type 0 where
+pub record LoadsLines (manner : Manner) (text : Bytes) (start : State) (t₀ : Tables) (r : LoadedLines) (names signatures : List ℕ) (claims : List ℤ) : Type 0 where
   pub state : SafeState (r .state)
   pub few : r .line ≤ length text
-  pub tells : (w : Written) → Holds t₀ start w → LinesLoadedFor text w r names signatures claims
+  pub tells : (w : Written) → Holds t₀ start w → LinesLoadedFor manner text w r names signatures claims

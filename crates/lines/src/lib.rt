@@ -3,6 +3,8 @@ ghost use mathlib.Core.Path.{_≡_};
 ghost use Prim.Native.Nat.{_≤_};
 ghost use lib.ListN.{length};
 ghost use Rattle.words.specs.Classes.{Classes};
+ghost use Rattle.tables.specs.Manners.{mannerOf};
+ghost use Rattle.tables.specs.Sorts.{sortOf};
 ghost use Rattle.tables.specs.Tables.{Safe};
 ghost use Rattle.lines.specs.Steps.{stores, FieldReady, FieldDone, Skips, variablesBefore, tabled, ClosesE, CloseReady, CloseDone};
 ghost use Rattle.lines.specs.LineLoading.{unruled, LoadsLines};
@@ -12,6 +14,7 @@ use tables::Closing;
 use tables::Fault;
 use tables::Fielding;
 use tables::Hints;
+use tables::Manner;
 use tables::Names;
 use tables::Opened;
 use tables::Opening;
@@ -70,11 +73,21 @@ fn field(
     }
 }
 
-/// The end of an `E` line: every ruled predicate with a claim heads a rule.
-fn close_end(state: State) -> Closing
-    ensures { λ r. ⌜ ClosesE state r ⌝ }
+/// Whether a ruled predicate with a claim has to head a rule.
+fn refuses_headless(manner: Manner) -> bool
+    ensures { λ r. ⌜ r ≡ mannerOf manner .refusesHeadless ⌝ }
 {
-    if !tables::is_within(state.owing, state.headed) {
+    match manner {
+        Manner::Whole => true,
+        Manner::ButForHeads => false,
+    }
+}
+
+/// The end of an `E` line: every ruled predicate with a claim heads a rule, where that is asked.
+fn close_end(manner: Manner, state: State) -> Closing
+    ensures { λ r. ⌜ ClosesE (mannerOf manner) state r ⌝ }
+{
+    if refuses_headless(manner) & !tables::is_within(state.owing, state.headed) {
         return Closing::Misclosed(Fault::Headless);
     }
     let mut next = state;
@@ -84,6 +97,7 @@ fn close_end(state: State) -> Closing
 
 /// A line's last tests, and what it adds to the tables, by its letter.
 fn close(
+    manner: Manner,
     o: Opened,
     state: State,
     many: usize,
@@ -97,7 +111,7 @@ fn close(
     weights: &mut Weights,
 ) -> Closing
     requires { ⌜ CloseReady (o .letter) o state (now rows) (tabled (now names) (now signatures) (now claims) (now slots) (now weights)) ⌝ }
-    ensures { λ r. ⌜ CloseDone (o .letter) o state many (now (small .entry)) (now (row .entry)) (now (rows .entry)) (tabled (now (names .entry)) (now (signatures .entry)) (now (claims .entry)) (now (slots .entry)) (now (weights .entry))) r (tabled (now (names .exit)) (now (signatures .exit)) (now (claims .exit)) (now (slots .exit)) (now (weights .exit))) ⌝ }
+    ensures { λ r. ⌜ CloseDone (mannerOf manner) (o .letter) o state many (now (small .entry)) (now (row .entry)) (now (rows .entry)) (tabled (now (names .entry)) (now (signatures .entry)) (now (claims .entry)) (now (slots .entry)) (now (weights .entry))) r (tabled (now (names .exit)) (now (signatures .exit)) (now (claims .exit)) (now (slots .exit)) (now (weights .exit))) ⌝ }
 {
     let letter = o.letter;
     match letter {
@@ -107,14 +121,14 @@ fn close(
         Letter::H => rules::close_head(o, state, many),
         Letter::B => rules::close_subgoal(o, state, many, signatures, slots),
         Letter::M => certificates::close_multipliers(state, claims, weights, rows),
-        Letter::E => close_end(state),
+        Letter::E => close_end(manner, state),
         Letter::NoLetter => Closing::Misclosed(Fault::Letter),
     }
 }
 
 /// How many variables the rule has when the fields of a line begin.
 fn variables_before(letter: Letter, state: State) -> usize
-    ensures { λ r. ⌜ r ≡ variablesBefore letter state ⌝ }
+    ensures { λ r. ⌜ r ≡ variablesBefore (sortOf letter) state ⌝ }
 {
     match letter {
         Letter::P => state.variables,
@@ -131,17 +145,17 @@ fn variables_before(letter: Letter, state: State) -> usize
 /// How many fields from a place on need not be read: multipliers 0, which change nothing, up to one that is read.
 fn zeros_ahead(letter: Letter, line: &[u8], from: usize) -> usize
     requires { ⌜ from ≤ length (now line) ⌝ }
-    ensures { λ r. ⌜ Skips (now (line .entry)) from letter r ⌝ }
+    ensures { λ r. ⌜ Skips (now (line .entry)) from (sortOf letter) r ⌝ }
 {
     match letter {
-        Letter::P => 0,
-        Letter::C => 0,
-        Letter::G => 0,
-        Letter::H => 0,
-        Letter::B => 0,
         Letter::M => numbers::zeros(line, from),
-        Letter::E => 0,
-        Letter::NoLetter => 0,
+        Letter::P
+        | Letter::C
+        | Letter::G
+        | Letter::H
+        | Letter::B
+        | Letter::E
+        | Letter::NoLetter => 0,
     }
 }
 
@@ -160,9 +174,10 @@ pub struct LoadedLines {
     pub residual: Form,
 }
 
-/// Judges the lines of a text, after lines that have filled the tables and left the state, with no rule among them. Left at
+/// Judges the lines of a text in some manner, after lines that have filled the tables and left the state, with no rule among them. Left at
 /// the first fault.
 pub fn load_lines(
+    manner: Manner,
     text: &[u8],
     start: State,
     names: &mut Names,
@@ -170,7 +185,7 @@ pub fn load_lines(
     claims: &mut Claims,
 ) -> LoadedLines
     requires { ⌜ Safe (unruled (now names) (now signatures) (now claims)) start ⌝ }
-    ensures { λ r. ⌜ LoadsLines (now (text .entry)) start (unruled (now (names .entry)) (now (signatures .entry)) (now (claims .entry))) r (now (names .exit)) (now (signatures .exit)) (now (claims .exit)) ⌝ }
+    ensures { λ r. ⌜ LoadsLines (mannerOf manner) (now (text .entry)) start (unruled (now (names .entry)) (now (signatures .entry)) (now (claims .entry))) r (now (names .exit)) (now (signatures .exit)) (now (claims .exit)) ⌝ }
 {
     let classes = words::class_table();
     let plain = text::is_plain(text);
@@ -242,6 +257,7 @@ pub fn load_lines(
             from = stop + 1;
         }
         let closed = close(
+            manner,
             o,
             state,
             many,

@@ -30,6 +30,7 @@ use Rattle.tables.specs.declared.Opened.{Opened}
 use Rattle.tables.specs.declared.Opening.{Opening}
 use Rattle.tables.specs.declared.Opening.the-variants.{Line, Misopened}
 use Rattle.tables.specs.Tables.{SafeState, SafeSignatures, predicateAt, signature, signatureAt, noArity, Outline}
+use Rattle.tables.specs.Sorts.{sortOf}
 use Rattle.tables.specs.Lines.{skipped, openingTests, most, OldPredicate, NamedFor}
 use Rattle.tables.proofs.Lookup.{place-arity, key-declared, key-absent}
 use Rattle.opening.specs.declared.Named.{Named}
@@ -45,11 +46,11 @@ use Rattle.opening.proofs.Outcomes.{opened, refuses, passes}
 
 -- what the letters that refer to one have in common
 record Shape (l : Letter) : Type 0 where
-  skips : skipped l ≡ 2
-  few : (fields : List Bytes) (s : State) (n : ℕ) → lineArity l fields ≡ some n → n ≤ 8 → length fields ≤ 2 + most l s
+  skips : skipped (sortOf l) ≡ 2
+  few : (fields : List Bytes) (s : State) (n : ℕ) → lineArity l fields ≡ some n → n ≤ 8 → length fields ≤ 2 + most (sortOf l) s
   other : l ≡ M → ⊥
   named : (line : Bytes) (s : State) (w : Written) (o : Opened) → isName (field 1 (fieldsOf line)) ≡ true → o .predicate < length (w .pack .predicates)
-      → meantBy l (fieldsOf line) (w .pack) ≡ some (predicateAt (w .pack .predicates) (o .predicate)) → NamedFor l line s w o
+      → meantBy l (fieldsOf line) (w .pack) ≡ some (predicateAt (w .pack .predicates) (o .predicate)) → NamedFor (sortOf l) line s w o
 
 old-predicate : (k : Key) (more : ℕ) (line : Bytes) (w : Written) (o : Opened) → isName (field 1 (fieldsOf line)) ≡ true → o .predicate < length (w .pack .predicates)
     → declaredAs k (w .pack .predicates) ≡ some (predicateAt (w .pack .predicates) (o .predicate))
@@ -111,23 +112,23 @@ module _ {l : Letter} {names signatures : List ℕ} {s : State} {line : Bytes} {
 module _ {names signatures : List ℕ} {s : State} {line : Bytes} {name : Named} {place : ℕ} (above : s .predicates ≤ place) where
   undeclared : {l : Letter} → Refers l → LookedUp l names signatures s line name place → OpensLetter l line names signatures s (Misopened Declaration)
   undeclared {l} refers looked =
-      refuses l Declaration (λ e. omega arith) λ w outline stands.
-      fault-eight (fieldsOf line) (w .pack) l (refers-names refers) (looked .stands .named) (undeclared-found (fieldsOf line) (w .pack) refers (none-meant looked w outline above))
+      refuses l Declaration (λ e. omega arith) λ manner w outline stands.
+      fault-eight manner (fieldsOf line) (w .pack) l (refers-names refers) (looked .stands .named) (undeclared-found (fieldsOf line) (w .pack) refers (none-meant looked w outline above))
 
   module _ (looked : LookedUp P names signatures s line name place) where
     miscounted : (length (fieldsOf line) ≡ 4 → ⊥) → OpensLetter P line names signatures s (Misopened FieldCount)
     miscounted other =
-        refuses P FieldCount (λ e. omega arith) λ w outline stands.
-        fault-nine (fieldsOf line) (w .pack) (looked .stands .named) (none-is _ (none-meant looked w outline above)) other
+        refuses P FieldCount (λ e. omega arith) λ manner w outline stands.
+        fault-nine manner (fieldsOf line) (w .pack) (looked .stands .named) (none-is _ (none-meant looked w outline above)) other
 
     declared : length line ≤ 1024 → length (fieldsOf line) ≡ 4 → OpensLetter P line names signatures s (Line (opened P (s .predicates) (name .words) (name .stop + 1)))
     declared short four =
         passes P (s .predicates) (name .words) (name .stop + 1) short
         (record { rest = looked .stands .rest; few = omega arith; place = λ e. absurd (e refl); due = λ e. absurd (other-than-m e) })
-        λ w outline stands.
+        λ manner w outline stands.
         let new = none-meant looked w outline above in
         record {
-          left = past-opening (fieldsOf line) (w .pack) P HasName.predicate (looked .stands .named) (none-is _ new) (ap not (equal-eqb (length (fieldsOf line)) 4 four), tt);
+          left = past-opening manner (fieldsOf line) (w .pack) P HasName.predicate (looked .stands .named) (none-is _ new) (ap not (equal-eqb (length (fieldsOf line)) 4 four), tt);
           named = record { named = looked .stands .named; isNew = new; four = four; words = looked .stands .words };
         }
 
@@ -138,7 +139,7 @@ module _ {l : Letter} (names-it : HasName l) {names signatures : List ℕ} {s : 
   barred-told w outline = barred-mark l _ (outline .declares .kind place below)
 
   barred : bars l (getD signatures (32 + place) 0) ≡ true → OpensLetter l line names signatures s (Misopened (barredBy l))
-  barred e = refuses l (barredBy l) (barred-other l) λ w outline stands. fault-barred (fieldsOf line) (w .pack) _ names-it (looked .stands .named) (is-meant looked w outline below) (barred-told w outline ∙ e)
+  barred e = refuses l (barredBy l) (barred-other l) λ manner w outline stands. fault-barred manner (fieldsOf line) (w .pack) _ names-it (looked .stands .named) (is-meant looked w outline below) (barred-told w outline ∙ e)
 
   referred : length line ≤ 1024 → bars l (getD signatures (32 + place) 0) ≡ false → OpensLetter l line names signatures s (Line (opened l place (name .words) (name .stop + 1)))
   referred short free =
@@ -151,11 +152,11 @@ module _ {l : Letter} (names-it : HasName l) {names signatures : List ℕ} {s : 
         place = λ e. omega (arith, looked .few);
         due = λ e. absurd (shape refers .other e);
       })
-      λ w outline stands.
+      λ manner w outline stands.
       let found = is-meant looked w outline below in
       let clear = admitted (fieldsOf line) (w .pack) _ refers found (barred-told w outline ∙ free) in
       record {
-        left = past-opening (fieldsOf line) (w .pack) l names-it (looked .stands .named) (clear .0) (clear .1);
+        left = past-opening manner (fieldsOf line) (w .pack) l names-it (looked .stands .named) (clear .0) (clear .1);
         named = shape refers .named line s w (opened l place (name .words) (name .stop + 1)) (looked .stands .named) (omega (arith, outline .declares .count)) found;
       }
 
@@ -163,7 +164,7 @@ module _ {l : Letter} (names-it : HasName l) {names signatures : List ℕ} {s : 
 
 module _ (l : Letter) (names-it : HasName l) (names signatures : List ℕ) (s : State) (line : Bytes) (naming : Naming) (read : NameRead line naming) where
   pub opens-unnamed : naming ≡ NoName → OpensLetter l line names signatures s (Misopened Name)
-  opens-unnamed other = refuses l Name (λ e. omega arith) λ w outline stands. fault-seven (fieldsOf line) (w .pack) l names-it (read .none other)
+  opens-unnamed other = refuses l Name (λ e. omega arith) λ manner w outline stands. fault-seven manner (fieldsOf line) (w .pack) l names-it (read .none other)
 
   pub name-rest : (name : Named) → naming ≡ Found name → partsFrom 44 line (name .stop + 1) ≡ drop 2 (fieldsOf line)
   name-rest name is = read .found name is .rest
@@ -201,10 +202,10 @@ module _ (l : Letter) (names-it : HasName l) (names signatures : List ℕ) (s : 
 
 -- the commas of an `M` line are the claims on the last rule's subgoals; an `E` line has none
 record Bare (l : Letter) : Type 0 where
-  skips : skipped l ≡ 1
+  skips : skipped (sortOf l) ≡ 1
   opens : openingTests l ≡ 1
-  due : (names signatures : List ℕ) (s : State) (w : Written) → Outline names signatures s w → mayStand (w .pack) l ≡ true → fieldsDue l (w .pack) ≡ most l s + 1
-  named : (line : Bytes) (s : State) (w : Written) (o : Opened) → length (fieldsOf line) ≡ most l s + 1 → NamedFor l line s w o
+  due : (names signatures : List ℕ) (s : State) (w : Written) → Outline names signatures s w → mayStand (w .pack) l ≡ true → fieldsDue l (w .pack) ≡ most (sortOf l) s + 1
+  named : (line : Bytes) (s : State) (w : Written) (o : Opened) → length (fieldsOf line) ≡ most (sortOf l) s + 1 → NamedFor (sortOf l) line s w o
 
 bare : {l : Letter} → Nameless l → Bare l
 unfolding mayStand
@@ -217,12 +218,12 @@ bare Nameless.multipliers = record {
 }
 bare Nameless.end = record { skips = refl; opens = refl; due = λ names signatures s w outline stands. refl; named = λ line s w o e. e }
 
-module _ (l : Letter) (nameless : Nameless l) (s : State) (line : Bytes) (commas : ℕ) (all : commas ≡ most l s) (n : ℕ) (count : n + 1 ≡ length (partsAt 44 line)) where
+module _ (l : Letter) (nameless : Nameless l) (s : State) (line : Bytes) (commas : ℕ) (all : commas ≡ most (sortOf l) s) (n : ℕ) (count : n + 1 ≡ length (partsAt 44 line)) where
   pub bare-miscounted : (n ≡ commas → ⊥) → OpensBare l line s (Misopened FieldCount)
   bare-miscounted other = record {
     opens = λ names signatures.
-        refuses l FieldCount (λ e. omega arith) λ w outline stands.
-        fault-nine-alone (fieldsOf line) (w .pack) l nameless (λ e. other (omega (arith, bare nameless .due names signatures s w outline stands)));
+        refuses l FieldCount (λ e. omega arith) λ manner w outline stands.
+        fault-nine-alone manner (fieldsOf line) (w .pack) l nameless (λ e. other (omega (arith, bare nameless .due names signatures s w outline stands)));
   }
 
   pub bare-passed : Begins line → (l ≡ M → s .multipliers < 16) → length line ≤ 1024 → n ≡ commas → (words : Words) → OpensBare l line s (Line (record { letter = l; predicate = 0; words = words; from = 2 }))
@@ -235,10 +236,10 @@ module _ (l : Letter) (nameless : Nameless l) (s : State) (line : Bytes) (commas
           place = λ e. omega arith;
           due = due;
         })
-        λ w outline stands.
-        let full : length (fieldsOf line) ≡ most l s + 1 = omega arith in
+        λ manner w outline stands.
+        let full : length (fieldsOf line) ≡ most (sortOf l) s + 1 = omega arith in
         record {
-          left = rw (bare nameless .opens) (past-nine-alone (fieldsOf line) (w .pack) l nameless (full ∙ sym (bare nameless .due names signatures s w outline stands)));
+          left = rw (bare nameless .opens) (past-nine-alone manner (fieldsOf line) (w .pack) l nameless (full ∙ sym (bare nameless .due names signatures s w outline stands)));
           named = bare nameless .named line s w _ full;
         };
   }
@@ -261,11 +262,11 @@ nameless-multipliers is = subst⁻¹ Nameless is Nameless.multipliers
 pub nameless-end : {l : Letter} → l ≡ E → Nameless l
 nameless-end is = subst⁻¹ Nameless is Nameless.end
 
-pub commas-multipliers : {l : Letter} (s : State) → l ≡ M → s .slots ≡ most l s
-commas-multipliers s is = ap (λ (k : Letter). most k s) (sym is)
+pub commas-multipliers : {l : Letter} (s : State) → l ≡ M → s .slots ≡ most (sortOf l) s
+commas-multipliers s is = ap (λ (k : Letter). most (sortOf k) s) (sym is)
 
-pub commas-end : {l : Letter} (s : State) → l ≡ E → 0 ≡ most l s
-commas-end s is = ap (λ (k : Letter). most k s) (sym is)
+pub commas-end : {l : Letter} (s : State) → l ≡ E → 0 ≡ most (sortOf l) s
+commas-end s is = ap (λ (k : Letter). most (sortOf k) s) (sym is)
 
 pub opens-bare : {l : Letter} {line : Bytes} {s : State} {r : Opening} → OpensBare l line s r → {names signatures : List ℕ} → OpensLetter l line names signatures s r
 opens-bare opens {names} {signatures} = opens .opens names signatures

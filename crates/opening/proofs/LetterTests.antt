@@ -19,7 +19,7 @@ use Rattle.tables.specs.Faults.{numberOf}
 use Rattle.tables.specs.Lines.{openingTests}
 use Rattle.opening.specs.Opening.{HasName, Nameless, barredBy}
 use Rattle.theory.proofs.Judging.Tests.{Clear, first-passed, first-found, first-clear}
-use Rattle.theory.specs.Faults.{Test, test, firstOf, meantBy, givenIn, ruledIn, lastRule, predicateTests, claimTests, atomTests, factTests, headTests, subgoalTests, multiplierTests, endTests, whole, tests}
+use Rattle.theory.specs.Faults.{Test, test, firstOf, meantBy, givenIn, ruledIn, lastRule, predicateTests, claimTests, atomTests, factTests, headTests, subgoalTests, multiplierTests, endTests, Manner, tests}
 
 -- ---- by letter
 
@@ -97,9 +97,10 @@ module _ (fields : List Bytes) (p : Pack) where
   admitted q Refers.head e free = (rw e free, tt)
   admitted q Refers.subgoal e free = (rw e, tt)
 
-  -- ---- one test after another
+-- ---- one test after another
 
-  name-tests : {l : Letter} → HasName l → tests whole l fields p ≡ test 7 (not (isName (field 1 fields))) ∷ test 8 (findsEight l fields p) ∷ afterEight l fields p ++ drop (openingTests l) (tests whole l fields p)
+module _ (manner : Manner) (fields : List Bytes) (p : Pack) where
+  name-tests : {l : Letter} → HasName l → tests manner l fields p ≡ test 7 (not (isName (field 1 fields))) ∷ test 8 (findsEight l fields p) ∷ afterEight l fields p ++ drop (openingTests l) (tests manner l fields p)
   unfolding tests predicateTests claimTests atomTests factTests headTests subgoalTests
   name-tests HasName.predicate = refl
   name-tests HasName.claim = refl
@@ -107,49 +108,49 @@ module _ (fields : List Bytes) (p : Pack) where
   name-tests HasName.head = refl
   name-tests HasName.subgoal = refl
 
-  nameless-tests : {l : Letter} → Nameless l → tests whole l fields p ≡ test 9 (not (eqb (length fields) (fieldsDue l p))) ∷ drop 1 (tests whole l fields p)
+  nameless-tests : {l : Letter} → Nameless l → tests manner l fields p ≡ test 9 (not (eqb (length fields) (fieldsDue l p))) ∷ drop 1 (tests manner l fields p)
   unfolding tests multiplierTests endTests
   nameless-tests Nameless.multipliers = refl
   nameless-tests Nameless.end = refl
 
   module _ (l : Letter) where
     module _ (named : HasName l) where
-      pub fault-seven : isName (field 1 fields) ≡ false → firstOf (tests whole l fields p) ≡ 7
+      pub fault-seven : isName (field 1 fields) ≡ false → firstOf (tests manner l fields p) ≡ 7
       fault-seven unnamed = ap firstOf (name-tests named) ∙ first-found 7 _ _ (ap not unnamed)
 
       module _ (isNamed : isName (field 1 fields) ≡ true) where
-        past-seven : firstOf (tests whole l fields p) ≡ firstOf (test 8 (findsEight l fields p) ∷ afterEight l fields p ++ drop (openingTests l) (tests whole l fields p))
+        past-seven : firstOf (tests manner l fields p) ≡ firstOf (test 8 (findsEight l fields p) ∷ afterEight l fields p ++ drop (openingTests l) (tests manner l fields p))
         past-seven = ap firstOf (name-tests named) ∙ first-passed 7 _ _ (ap not isNamed)
 
-        pub fault-eight : findsEight l fields p ≡ true → firstOf (tests whole l fields p) ≡ 8
+        pub fault-eight : findsEight l fields p ≡ true → firstOf (tests manner l fields p) ≡ 8
         fault-eight eight = past-seven ∙ first-found 8 _ _ eight
 
         module _ (eight : findsEight l fields p ≡ false) where
-          past-eight : firstOf (tests whole l fields p) ≡ firstOf (afterEight l fields p ++ drop (openingTests l) (tests whole l fields p))
+          past-eight : firstOf (tests manner l fields p) ≡ firstOf (afterEight l fields p ++ drop (openingTests l) (tests manner l fields p))
           past-eight = past-seven ∙ first-passed 8 _ _ eight
 
-          pub past-opening : Clear (afterEight l fields p) → firstOf (tests whole l fields p) ≡ firstOf (drop (openingTests l) (tests whole l fields p))
+          pub past-opening : Clear (afterEight l fields p) → firstOf (tests manner l fields p) ≡ firstOf (drop (openingTests l) (tests manner l fields p))
           past-opening clear = past-eight ∙ first-clear (afterEight l fields p) _ clear
 
     module _ (nameless : Nameless l) where
-      pub fault-nine-alone : (length fields ≡ fieldsDue l p → ⊥) → firstOf (tests whole l fields p) ≡ 9
+      pub fault-nine-alone : (length fields ≡ fieldsDue l p → ⊥) → firstOf (tests manner l fields p) ≡ 9
       fault-nine-alone count = ap firstOf (nameless-tests nameless) ∙ first-found 9 _ _ (ap not (eqb-different (length fields) (fieldsDue l p) count))
 
-      pub past-nine-alone : length fields ≡ fieldsDue l p → firstOf (tests whole l fields p) ≡ firstOf (drop 1 (tests whole l fields p))
+      pub past-nine-alone : length fields ≡ fieldsDue l p → firstOf (tests manner l fields p) ≡ firstOf (drop 1 (tests manner l fields p))
       past-nine-alone count = ap firstOf (nameless-tests nameless) ∙ first-passed 9 _ _ (ap not (equal-eqb (length fields) (fieldsDue l p) count))
 
   -- a predicate that is new, in a line with another number of fields
-  pub fault-nine : isName (field 1 fields) ≡ true → findsEight P fields p ≡ false → (length fields ≡ 4 → ⊥) → firstOf (tests whole P fields p) ≡ 9
-  fault-nine isNamed eight count = past-eight P HasName.predicate isNamed eight ∙ first-found 9 _ (drop 3 (tests whole P fields p)) (ap not (eqb-different (length fields) 4 count))
+  pub fault-nine : isName (field 1 fields) ≡ true → findsEight P fields p ≡ false → (length fields ≡ 4 → ⊥) → firstOf (tests manner P fields p) ≡ 9
+  fault-nine isNamed eight count = past-eight P HasName.predicate isNamed eight ∙ first-found 9 _ (drop 3 (tests manner P fields p)) (ap not (eqb-different (length fields) 4 count))
 
 -- a declared predicate that the line may not name: 8 for a `P` line and for a head, 20 for a fact
-pub fault-barred : (fields : List Bytes) (p : Pack) (q : Predicate) {l : Letter} → HasName l → isName (field 1 fields) ≡ true → meantBy l fields p ≡ some q → isBarred l (some q) ≡ true → firstOf (tests whole l fields p) ≡ numberOf (barredBy l)
+pub fault-barred : (manner : Manner) (fields : List Bytes) (p : Pack) (q : Predicate) {l : Letter} → HasName l → isName (field 1 fields) ≡ true → meantBy l fields p ≡ some q → isBarred l (some q) ≡ true → firstOf (tests manner l fields p) ≡ numberOf (barredBy l)
 unfolding isSome
-fault-barred fields p q HasName.predicate isNamed e barred = fault-eight fields p P HasName.predicate isNamed (rw e)
-fault-barred fields p q HasName.claim isNamed e barred = never-both barred refl
-fault-barred fields p q HasName.fact isNamed e barred = past-eight fields p G HasName.fact isNamed (rw e) ∙ first-found 20 (ruledIn (meantBy G fields p)) (drop 3 (tests whole G fields p)) (rw e barred)
-fault-barred fields p q HasName.head isNamed e barred = fault-eight fields p H HasName.head isNamed (rw e barred)
-fault-barred fields p q HasName.subgoal isNamed e barred = never-both barred refl
+fault-barred manner fields p q HasName.predicate isNamed e barred = fault-eight manner fields p P HasName.predicate isNamed (rw e)
+fault-barred manner fields p q HasName.claim isNamed e barred = never-both barred refl
+fault-barred manner fields p q HasName.fact isNamed e barred = past-eight manner fields p G HasName.fact isNamed (rw e) ∙ first-found 20 (ruledIn (meantBy G fields p)) (drop 3 (tests manner G fields p)) (rw e barred)
+fault-barred manner fields p q HasName.head isNamed e barred = fault-eight manner fields p H HasName.head isNamed (rw e barred)
+fault-barred manner fields p q HasName.subgoal isNamed e barred = never-both barred refl
 
 pub barred-other : (l : Letter) → numberOf (barredBy l) ≡ 13 → ⊥
 barred-other P e = omega arith

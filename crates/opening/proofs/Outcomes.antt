@@ -9,7 +9,7 @@ use Rattle.theory.specs.declared.Letter.{Letter}
 use Rattle.theory.specs.declared.Letter.the-variants.{P, M}
 use Rattle.theory.specs.Text.{Bytes, fieldsOf}
 use Rattle.theory.specs.Written.{lineLetter, Written}
-use Rattle.theory.specs.Faults.{firstOf, isUnfit, mayStand, whole, tests, fault}
+use Rattle.theory.specs.Faults.{Manner, firstOf, isUnfit, mayStand, tests, fault}
 use Rattle.text.specs.Scans.{partsFrom}
 use Rattle.words.specs.declared.Words.{Words}
 use Rattle.tables.specs.declared.State.{State}
@@ -18,6 +18,7 @@ use Rattle.tables.specs.declared.Opened.{Opened}
 use Rattle.tables.specs.declared.Opening.the-variants.{Line, Misopened}
 use Rattle.tables.specs.Faults.{numberOf}
 use Rattle.tables.specs.Tables.{Outline}
+use Rattle.tables.specs.Sorts.{sortOf}
 use Rattle.tables.specs.Lines.{skipped, openingTests, most, NamedFor, Passed, SafeOpened}
 use Rattle.tables.proofs.Outcomes.{line-misopened, line-opened, misopened-fault}
 use Rattle.opening.specs.Opening.{OpenedFor, Opens, OpensLetter}
@@ -32,62 +33,62 @@ module _ (f : Fault) {line : Bytes} {s : State} where
   refused-safe : (o : Opened) → Misopened f ≡ Line o → SafeOpened line s o
   refused-safe o e = absurd (line-misopened (sym e))
 
-  refused-for : (w : Written) → fault whole w line ≡ numberOf f → OpenedFor line s w (Misopened f)
+  refused-for : {manner : Manner} (w : Written) → fault manner w line ≡ numberOf f → OpenedFor manner line s w (Misopened f)
   refused-for w found = record { refused = λ g e. found ∙ ap numberOf (misopened-fault e); passed = λ o e. absurd (line-misopened (sym e)) }
 
-  pub refuses-line : (numberOf f ≡ 13 → ⊥) → {names signatures : List ℕ} → ((w : Written) → Outline names signatures s w → fault whole w line ≡ numberOf f) → Opens line names signatures s (Misopened f)
-  refuses-line other finds = record { safe = refused-safe; other = refused-other f other; tells = λ w outline. refused-for w (finds w outline) }
+  pub refuses-line : (numberOf f ≡ 13 → ⊥) → {names signatures : List ℕ} → ((manner : Manner) → manner .allows ≡ mayStand → (w : Written) → Outline names signatures s w → fault manner w line ≡ numberOf f) → Opens line names signatures s (Misopened f)
+  refuses-line other finds = record { safe = refused-safe; other = refused-other f other; tells = λ manner same w outline. refused-for w (finds manner same w outline) }
 
 -- ---- passed
 
 -- what a passed line needs whatever the lines before it write
 pub record Keeps (l : Letter) (line : Bytes) (s : State) (predicate from : ℕ) : Type 0 where
-  pub rest : partsFrom 44 line from ≡ drop (skipped l) (fieldsOf line)
-  pub few : length (fieldsOf line) ≤ skipped l + most l s
+  pub rest : partsFrom 44 line from ≡ drop (skipped (sortOf l)) (fieldsOf line)
+  pub few : length (fieldsOf line) ≤ skipped (sortOf l) + most (sortOf l) s
   pub place : (l ≡ P → ⊥) → predicate < 32
   pub due : l ≡ M → s .multipliers < 16
 
 -- and what it needs of those
-pub record Clears (l : Letter) (line : Bytes) (s : State) (w : Written) (o : Opened) : Type 0 where
-  pub left : firstOf (tests whole l (fieldsOf line) (w .pack)) ≡ firstOf (drop (openingTests l) (tests whole l (fieldsOf line) (w .pack)))
-  pub named : NamedFor l line s w o
+pub record Clears (manner : Manner) (l : Letter) (line : Bytes) (s : State) (w : Written) (o : Opened) : Type 0 where
+  pub left : firstOf (tests manner l (fieldsOf line) (w .pack)) ≡ firstOf (drop (openingTests l) (tests manner l (fieldsOf line) (w .pack)))
+  pub named : NamedFor (sortOf l) line s w o
 
 abbrev pub opened : Letter → ℕ → Words → ℕ → Opened
 opened l predicate words from = record { letter = l; predicate = predicate; words = words; from = from }
 
 -- the letter's own tests decide
-own-tests : (l : Letter) (line : Bytes) (w : Written) → isUnfit line ≡ false → w .ended ≡ false → mayStand (w .pack) l ≡ true → lineLetter line ≡ l → fault whole w line ≡ firstOf (tests whole l (fieldsOf line) (w .pack))
-own-tests l line w fit unended stands is =
-    past-five w line fit unended (ap (mayStand (w .pack)) is ∙ stands) ∙ ap (λ (m : Letter). firstOf (tests whole m (fieldsOf line) (w .pack))) is
+own-tests : (manner : Manner) (l : Letter) (line : Bytes) (w : Written) → isUnfit line ≡ false → w .ended ≡ false → manner .allows (w .pack) l ≡ true → lineLetter line ≡ l → fault manner w line ≡ firstOf (tests manner l (fieldsOf line) (w .pack))
+own-tests manner l line w fit unended allowed is =
+    past-five manner w line fit unended (ap (manner .allows (w .pack)) is ∙ allowed) ∙ ap (λ (k : Letter). firstOf (tests manner k (fieldsOf line) (w .pack))) is
 
 module _ (l : Letter) {line : Bytes} {names signatures : List ℕ} {s : State} where
-  pub refuses : (f : Fault) → (numberOf f ≡ 13 → ⊥) → ((w : Written) → Outline names signatures s w → mayStand (w .pack) l ≡ true → firstOf (tests whole l (fieldsOf line) (w .pack)) ≡ numberOf f)
+  pub refuses : (f : Fault) → (numberOf f ≡ 13 → ⊥) → ((manner : Manner) (w : Written) → Outline names signatures s w → mayStand (w .pack) l ≡ true → firstOf (tests manner l (fieldsOf line) (w .pack)) ≡ numberOf f)
       → OpensLetter l line names signatures s (Misopened f)
   refuses f other finds = record {
     safe = refused-safe f;
     other = refused-other f other;
-    tells = λ w outline fit unended stands is. refused-for f w (own-tests l line w fit unended stands is ∙ finds w outline stands);
+    tells = λ manner w outline fit unended allowed stands is. refused-for f w (own-tests manner l line w fit unended allowed is ∙ finds manner w outline stands);
   }
 
-  pub passes : (predicate : ℕ) (words : Words) (from : ℕ) → length line ≤ 1024 → Keeps l line s predicate from → ((w : Written) → Outline names signatures s w → mayStand (w .pack) l ≡ true → Clears l line s w (opened l predicate words from)) → OpensLetter l line names signatures s (Line (opened l predicate words from))
+  pub passes : (predicate : ℕ) (words : Words) (from : ℕ) → length line ≤ 1024 → Keeps l line s predicate from → ((manner : Manner) (w : Written) → Outline names signatures s w → mayStand (w .pack) l ≡ true → Clears manner l line s w (opened l predicate words from)) → OpensLetter l line names signatures s (Line (opened l predicate words from))
   passes predicate words from short k clears = record {
     safe = λ o e. subst (SafeOpened line s) (line-opened e) (record {
       short = short;
-      few = omega (arith, ap length (k .rest), length-drop (skipped l) (fieldsOf line));
+      few = omega (arith, ap length (k .rest), length-drop (skipped (sortOf l)) (fieldsOf line));
       place = k .place;
       due = k .due;
     });
     other = λ f e. absurd (line-misopened e);
-    tells = λ w outline fit unended stands is.
-        let clear = clears w outline stands in
+    tells = λ manner w outline fit unended allowed stands is.
+        let clear = clears manner w outline stands in
         record {
           refused = λ f e. absurd (line-misopened e);
-          passed = λ o e. subst (λ (p : Opened). Passed (p .letter) line s w p) (line-opened e) (record {
+          passed = λ o e. subst (λ (p : Opened). Passed manner (p .letter) line s w p) (line-opened e) (record {
             first = is;
             short = short;
             unended = unended;
             stands = stands;
-            left = own-tests l line w fit unended stands is ∙ clear .left;
+            left = own-tests manner l line w fit unended allowed is ∙ clear .left;
             rest = k .rest;
             named = clear .named;
           });

@@ -9,7 +9,7 @@ use Rattle.theory.specs.declared.Letter.{Letter}
 use Rattle.theory.specs.declared.Letter.the-variants.{P, C, G, H, B, M, E, NoLetter}
 use Rattle.theory.specs.Text.{Bytes, isName, fieldsOf}
 use Rattle.theory.specs.Written.{lineLetter, field, Written}
-use Rattle.theory.specs.Faults.{isUnfit, isComplete, mayStand, whole, fault}
+use Rattle.theory.specs.Faults.{isUnfit, isComplete, mayStand, Manner, fault}
 use Rattle.text.specs.Scans.{partsFrom}
 use Rattle.words.specs.Words.{wordsOf}
 use Rattle.tables.specs.declared.State.{State}
@@ -95,20 +95,22 @@ pub record NameRead (line : Bytes) (r : Naming) : Type 0 where
   pub found : (name : Named) → r ≡ Found name → NameStands line name
   pub none : r ≡ NoName → isName (field 1 (fieldsOf line)) ≡ false
 
-pub record OpenedFor (line : Bytes) (s : State) (w : Written) (r : Opening) : Type 0 where
-  pub refused : (f : Fault) → r ≡ Misopened f → fault whole w line ≡ numberOf f
-  pub passed : (o : Opened) → r ≡ Line o → Passed (o .letter) line s w o
+-- a line that is opened, judged in some manner after lines that write w
+pub record OpenedFor (manner : Manner) (line : Bytes) (s : State) (w : Written) (r : Opening) : Type 0 where
+  pub refused : (f : Fault) → r ≡ Misopened f → fault manner w line ≡ numberOf f
+  pub passed : (o : Opened) → r ≡ Line o → Passed manner (o .letter) line s w o
 
+-- in each manner that allows the letters of a whole pack
 pub record Opens (line : Bytes) (names signatures : List ℕ) (s : State) (r : Opening) : Type 0 where
   pub safe : (o : Opened) → r ≡ Line o → SafeOpened line s o
   pub other : (f : Fault) → r ≡ Misopened f → numberOf f ≡ 13 → ⊥
-  pub tells : (w : Written) → Outline names signatures s w → OpenedFor line s w r
+  pub tells : (manner : Manner) → manner .allows ≡ mayStand → (w : Written) → Outline names signatures s w → OpenedFor manner line s w r
 
--- the same for a fit line of a letter that may stand here
+-- the same for a fit line of a letter that may stand here, in each manner that allows it
 pub record OpensLetter (letter : Letter) (line : Bytes) (names signatures : List ℕ) (s : State) (r : Opening) : Type 0 where
   pub safe : (o : Opened) → r ≡ Line o → SafeOpened line s o
   pub other : (f : Fault) → r ≡ Misopened f → numberOf f ≡ 13 → ⊥
-  pub tells : (w : Written) → Outline names signatures s w → isUnfit line ≡ false → w .ended ≡ false → mayStand (w .pack) letter ≡ true → lineLetter line ≡ letter → OpenedFor line s w r
+  pub tells : (manner : Manner) (w : Written) → Outline names signatures s w → isUnfit line ≡ false → w .ended ≡ false → manner .allows (w .pack) letter ≡ true → mayStand (w .pack) letter ≡ true → lineLetter line ≡ letter → OpenedFor manner line s w r
 
 pub record Completes (signatures : List ℕ) (s : State) (r : Bool) : Type 0 where
   pub tells : (names : List ℕ) (w : Written) → Outline names signatures s w → r ≡ isComplete (w .pack)

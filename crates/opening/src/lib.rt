@@ -13,6 +13,7 @@ ghost use Rattle.theory.specs.Faults.{lineArity};
 ghost use Rattle.text.specs.Scans.{partsFrom};
 ghost use Rattle.words.specs.Classes.{Classes};
 ghost use Rattle.tables.specs.Tables.{SafeState, SafeSignatures, noArity};
+ghost use Rattle.tables.specs.Sorts.{sortOf};
 ghost use Rattle.tables.specs.Lines.{most};
 ghost use Rattle.opening.specs.Opening.{declares, bars, barredBy, HasName, Nameless, Begins, LetterRead, NameRead, Completes, Stands, OpensLetter, OpensBare, Opens};
 use numbers::Natural;
@@ -243,7 +244,7 @@ fn open_named(
 
 /// A line of a letter that names no predicate, with a number of commas.
 fn open_bare(letter: Letter, commas: usize, line: &[u8], state: State) -> Opening
-    requires { ⌜ (Nameless letter) × (commas ≡ most letter state) × (Begins (now line)) × (length (now line) ≤ 1024) × (letter ≡ M → state .multipliers < 16) ⌝ }
+    requires { ⌜ (Nameless letter) × (commas ≡ most (sortOf letter) state) × (Begins (now line)) × (length (now line) ≤ 1024) × (letter ≡ M → state .multipliers < 16) ⌝ }
     ensures { λ r. ⌜ OpensBare letter (now (line .entry)) state r ⌝ }
 {
     if text::count(line, b',') != commas {

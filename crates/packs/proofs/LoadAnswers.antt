@@ -97,8 +97,8 @@ fault-number f line rule claim = by-truth (λ b. faultNumbers f line rule claim 
 
 -- ---- the lines are judged
 
-module _ (text : Bytes) (short : length text ≤ 32768) (finished : isFinished text ≡ true) {s : State} {l : LoadedLines} {t₀ : Tables} {names signatures : List ℕ} {claims : List ℤ} (isBegun : s ≡ begun) (isFresh : t₀ ≡ fresh) (loads : LoadsLines text s t₀ l names signatures claims) where
-  loaded : LinesLoadedFor text nothing l names signatures claims
+module _ (text : Bytes) (short : length text ≤ 32768) (finished : isFinished text ≡ true) {s : State} {l : LoadedLines} {t₀ : Tables} {names signatures : List ℕ} {claims : List ℤ} (isBegun : s ≡ begun) (isFresh : t₀ ≡ fresh) (loads : LoadsLines whole text s t₀ l names signatures claims) where
+  loaded : LinesLoadedFor whole text nothing l names signatures claims
   loaded = loads .tells nothing (subst⁻¹ (λ (x : State). Holds t₀ x nothing) isBegun (subst⁻¹ (λ (x : Tables). Holds x begun nothing) isFresh fresh-holds))
 
   verdict : verdictOf text ≡ judge whole nothing 0 (linesOf text)

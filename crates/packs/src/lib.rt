@@ -14,6 +14,7 @@ use forms::Form;
 use lines::Ending;
 use tables::Claims;
 use tables::Fault;
+use tables::Manner;
 use tables::Names;
 use tables::Signatures;
 use tables::State;
@@ -137,7 +138,7 @@ pub fn load(
     if text[len - 1] != b'\n' {
         return refused(Refusal::UnfinishedText);
     }
-    let l = lines::load_lines(text, start(), names, signatures, claims);
+    let l = lines::load_lines(Manner::Whole, text, start(), names, signatures, claims);
     let ending = l.ending;
     let state = l.state;
     let residual = l.residual;

@@ -9,7 +9,7 @@ use lib.ListN.{length}
 use Rattle.groundwork.proofs.Stretches.{elements, from}
 use Rattle.theory.specs.Text.{Bytes}
 use Rattle.theory.specs.Terms.{Term, arity}
-use Rattle.theory.specs.Sizes.{structural}
+use Rattle.theory.specs.Sizes.{Measure}
 use Rattle.theory.specs.Forms.{formOf}
 use Rattle.theory.specs.Packs.{Claim, Atom}
 use Rattle.theory.specs.Residuals.{claimForm}
@@ -32,25 +32,25 @@ width-covers variables i high less = go (decLt 8 variables)
     go (yes many) = absurd (omega (arith, width-whole variables many))
     go (no few) = omega (arith, width-narrow variables (omega arith))
 
-row-number : (rows : List ℕ) (base : ℕ) (xs : List Bytes) (t : Term) (i : ℕ) → i < 17 → RowStands rows base xs t → pos (seen rows (width (length xs)) base i) ≡ formNumber xs (formOf structural t) i
+row-number : {m : Measure} (rows : List ℕ) (base : ℕ) (xs : List Bytes) (t : Term) (i : ℕ) → i < 17 → RowStands m rows base xs t → pos (seen rows (width (length xs)) base i) ≡ formNumber xs (formOf m t) i
 row-number rows base xs t zero less row = ap pos (seen-constant rows (width (length xs)) base) ∙ row .constant
-row-number rows base xs t (suc i) less row = go (decLt i (length xs)) (decLt i (width (length xs)))
+row-number {m} rows base xs t (suc i) less row = go (decLt i (length xs)) (decLt i (width (length xs)))
   where
     form : Bytes → ℤ
-    form = formOf structural t .coefficient
+    form = formOf m t .coefficient
 
-    go : Dec (i < length xs) → Dec (i < width (length xs)) → pos (seen rows (width (length xs)) base (suc i)) ≡ formNumber xs (formOf structural t) (suc i)
+    go : Dec (i < length xs) → Dec (i < width (length xs)) → pos (seen rows (width (length xs)) base (suc i)) ≡ formNumber xs (formOf m t) (suc i)
     go (yes inside) (yes looked) = ap pos (seen-count rows (width (length xs)) base i looked) ∙ (row .coefficient i inside ∙ sym (coefficient-at form xs i inside))
     go (yes inside) (no not-looked) = absurd (omega (arith, width-covers (length xs) i (omega arith) (omega arith)))
     go (no past) (yes looked) = ap pos (seen-count rows (width (length xs)) base i looked ∙ row .beyond i (omega arith) (omega arith)) ∙ sym (coefficient-beyond form xs i (omega arith))
     go (no past) (no not-looked) = ap pos (seen-none rows (width (length xs)) base i (omega arith)) ∙ sym (coefficient-beyond form xs i (omega arith))
 
 -- a claim's numbers as the weights of an atom
-pub claim-number : (rows : List ℕ) (atom : ℕ) (xs : List Bytes) (a : Atom) (claims : List ℤ) (place : ℕ) (c : Claim) (i : ℕ) → i < 17
-    → AtomStands rows atom xs (a .terms) → ClaimAt claims place c → length (c .coefficients) ≡ arity (a .terms)
-    → weightedSum (from claims place) (rowAt rows (length xs) atom i) i ≡ formNumber xs (claimForm structural a c) i
-claim-number rows atom xs a claims place c i less stands numbered full =
-    number-claim xs (from claims place) (rowAt rows (length xs) atom i) i a c full (stands .few)
+pub claim-number : {m : Measure} (rows : List ℕ) (atom : ℕ) (xs : List Bytes) (a : Atom) (claims : List ℤ) (place : ℕ) (c : Claim) (i : ℕ) → i < 17
+    → AtomStands m rows atom xs (a .terms) → ClaimAt claims place c → length (c .coefficients) ≡ arity (a .terms)
+    → weightedSum (from claims place) (rowAt rows (length xs) atom i) i ≡ formNumber xs (claimForm m a c) i
+claim-number {m} rows atom xs a claims place c i less stands numbered full =
+    number-claim xs m (from claims place) (rowAt rows (length xs) atom i) i a c full (stands .few)
     (same-place (elements claims) (place + 0) place (omega arith) ∙ numbered .constant)
     (λ k below. same-place (elements claims) (place + suc k) (place + 1 + k) (omega arith) ∙ numbered .coefficient k below)
     (λ k below. row-number rows (rowPlace atom k) xs _ i less (stands .row k below))

@@ -10,7 +10,7 @@ use Rattle.groundwork.proofs.Lists.{same-everywhere}
 use Rattle.groundwork.proofs.Ring.{neg-as-times}
 use Rattle.theory.specs.Text.{Bytes}
 use Rattle.theory.specs.Terms.{Terms, nil, cons, arity}
-use Rattle.theory.specs.Sizes.{structural}
+use Rattle.theory.specs.Sizes.{Measure}
 use Rattle.theory.specs.Forms.{Form, zeroForm, plus, times, minus, constantForm, formOf}
 use Rattle.theory.specs.Packs.{Claim, Atom}
 use Rattle.theory.specs.Residuals.{weighted as weightedForm, claimForm, combined, residualNumbers}
@@ -67,27 +67,27 @@ module _ (xs : List Bytes) where
 
   -- ---- a claim with an atom's sizes put in
 
-  number-weighted : (row : ℕ → ℤ) (i : ℕ) (cs : List ℤ) (ts : Terms) (n : ℕ) → length cs ≡ arity ts → length cs ≤ n
-      → ((k : ℕ) → k < arity ts → row k ≡ formNumber xs (formOf structural (argument ts k)) i)
-      → sumBelow (λ k. getD cs k (pos 0) *ℤ row k) n ≡ formNumber xs (weightedForm structural cs ts) i
+  number-weighted : (m : Measure) (row : ℕ → ℤ) (i : ℕ) (cs : List ℤ) (ts : Terms) (n : ℕ) → length cs ≡ arity ts → length cs ≤ n
+      → ((k : ℕ) → k < arity ts → row k ≡ formNumber xs (formOf m (argument ts k)) i)
+      → sumBelow (λ k. getD cs k (pos 0) *ℤ row k) n ≡ formNumber xs (weightedForm m cs ts) i
   unfolding weightedForm argument arity
-  number-weighted row i [] ts n full few rows = sum-none _ n (λ k less. zero-*ℤ (row k)) ∙ sym (number-zero i)
-  number-weighted row i (c ∷ cs) nil n full few rows = absurd (omega arith)
-  number-weighted row i (c ∷ cs) (cons t ts) zero full few rows = absurd (omega arith)
-  number-weighted row i (c ∷ cs) (cons t ts) (suc n) full few rows =
-      let first = ap (λ z. c *ℤ z) (rows 0 (omega arith)) ∙ sym (number-times c (formOf structural t) i) in
-      let rest = number-weighted (λ k. row (suc k)) i cs ts n (omega arith) (omega arith) (λ k less. rows (suc k) (omega arith)) in
-      sum-first (λ k. getD (c ∷ cs) k (pos 0) *ℤ row k) n ∙ (ap₂ _+ℤ_ first rest ∙ sym (number-plus (times c (formOf structural t)) (weightedForm structural cs ts) i))
+  number-weighted m row i [] ts n full few rows = sum-none _ n (λ k less. zero-*ℤ (row k)) ∙ sym (number-zero i)
+  number-weighted m row i (c ∷ cs) nil n full few rows = absurd (omega arith)
+  number-weighted m row i (c ∷ cs) (cons t ts) zero full few rows = absurd (omega arith)
+  number-weighted m row i (c ∷ cs) (cons t ts) (suc n) full few rows =
+      let first = ap (λ z. c *ℤ z) (rows 0 (omega arith)) ∙ sym (number-times c (formOf m t) i) in
+      let rest = number-weighted m (λ k. row (suc k)) i cs ts n (omega arith) (omega arith) (λ k less. rows (suc k) (omega arith)) in
+      sum-first (λ k. getD (c ∷ cs) k (pos 0) *ℤ row k) n ∙ (ap₂ _+ℤ_ first rest ∙ sym (number-plus (times c (formOf m t)) (weightedForm m cs ts) i))
 
-  pub number-claim : (weight row : ℕ → ℤ) (i : ℕ) (a : Atom) (c : Claim) → length (c .coefficients) ≡ arity (a .terms) → arity (a .terms) ≤ 8
+  pub number-claim : (m : Measure) (weight row : ℕ → ℤ) (i : ℕ) (a : Atom) (c : Claim) → length (c .coefficients) ≡ arity (a .terms) → arity (a .terms) ≤ 8
       → weight 0 ≡ c .constant → ((k : ℕ) → k < 8 → weight (suc k) ≡ getD (c .coefficients) k (pos 0))
-      → ((k : ℕ) → k < arity (a .terms) → row k ≡ formNumber xs (formOf structural (argument (a .terms) k)) i)
-      → weightedSum weight row i ≡ formNumber xs (claimForm structural a c) i
+      → ((k : ℕ) → k < arity (a .terms) → row k ≡ formNumber xs (formOf m (argument (a .terms) k)) i)
+      → weightedSum weight row i ≡ formNumber xs (claimForm m a c) i
   unfolding claimForm
-  number-claim weight row i a c full few constant coefficient rows =
+  number-claim m weight row i a c full few constant coefficient rows =
       let first = ap (λ z. own z i) constant ∙ sym (number-constant (c .constant) i) in
-      let rest = sum-same _ _ 8 (λ k less. ap (λ z. z *ℤ row k) (coefficient k less)) ∙ number-weighted row i (c .coefficients) (a .terms) 8 full (omega arith) rows in
-      ap₂ _+ℤ_ first rest ∙ sym (number-plus (constantForm (c .constant)) (weightedForm structural (c .coefficients) (a .terms)) i)
+      let rest = sum-same _ _ 8 (λ k less. ap (λ z. z *ℤ row k) (coefficient k less)) ∙ number-weighted m row i (c .coefficients) (a .terms) 8 full (omega arith) rows in
+      ap₂ _+ℤ_ first rest ∙ sym (number-plus (constantForm (c .constant)) (weightedForm m (c .coefficients) (a .terms)) i)
 
   -- ---- multipliers
 

@@ -8,11 +8,12 @@ use Rattle.groundwork.proofs.Lists.{length-end}
 use Rattle.theory.specs.Lists.{ending}
 use Rattle.theory.specs.Text.{Bytes, fieldsOf}
 use Rattle.theory.specs.Terms.{allVariables}
-use Rattle.theory.specs.Packs.{Rule, headAlone, onRules, atomKey, ruleLimit}
+use Rattle.theory.specs.Sizes.{Measure}
+use Rattle.theory.specs.Packs.{Rule, measureIn, headAlone, onRules, atomKey, ruleLimit}
 use Rattle.theory.specs.declared.Letter.the-variants.{H}
 use Rattle.theory.specs.Written.{Written, atomFrom, termsFrom, add}
 use Rattle.theory.specs.Residuals.{numbered, atomsVariables, ruleVariables}
-use Rattle.theory.specs.Faults.{noRule, firstOf, headTests, whole, tests, fault}
+use Rattle.theory.specs.Faults.{Manner, noRule, firstOf, headTests, tests, fault}
 use Rattle.theory.proofs.Judging.LastRule.{lastOf-end}
 use Rattle.theory.proofs.Judging.LineWriting.{writes-letter}
 use Rattle.theory.proofs.Judging.RuleCounts.{multiplierLines-end}
@@ -34,8 +35,8 @@ use Rattle.atoms.proofs.AtomLines.{atom-ended, atom-fault, few-terms, Finished,
 use Rattle.rules.specs.Ends.{withHead, isPast, ClosesH}
 use Rattle.rules.proofs.Ends.{limits-kept, limit-broken}
 
-pub h-fault : {line : Bytes} {s : State} {w : Written} {o : Opened} {atom index many : ℕ} {variables₀ variables rows₀ rows : List ℕ} {r : Fielding} {f : Fault} → Passed H line s w o → index < length (drop 2 (fieldsOf line))
-    → FieldTerm atom index (at (drop 2 (fieldsOf line)) index) many variables₀ rows₀ r variables rows → r ≡ Misread f → fault whole w line ≡ numberOf f
+pub h-fault : {manner : Manner} {m : Measure} {line : Bytes} {s : State} {w : Written} {o : Opened} {atom index many : ℕ} {variables₀ variables rows₀ rows : List ℕ} {r : Fielding} {f : Fault} → Passed manner H line s w o → index < length (drop 2 (fieldsOf line))
+    → FieldTerm m atom index (at (drop 2 (fieldsOf line)) index) many variables₀ rows₀ r variables rows → r ≡ Misread f → fault manner w line ≡ numberOf f
 unfolding tests headTests
 h-fault {line = line} {w = w} passed inside done bad = passed .left ∙ atom-fault H _ [] _ (fieldsOf line) (w .pack) inside done bad
 
@@ -53,7 +54,7 @@ unfolding ruleVariables atomsVariables atomFrom
 variables-of-head fields = ap (numbered []) (append-nil (allVariables (termsFrom (drop 2 fields))))
 
 module _ {line : Bytes} {t : Tables} {s : State} {w : Written} {o : Opened} {many : ℕ} {variables rows : List ℕ} (holds : Holds t s w) (named : OldPredicate (atomKey (atomFrom (fieldsOf line))) 2 line w o) (few : many ≤ 16)
-    (terms : Finished 0 (drop 2 (fieldsOf line)) (headVariables (fieldsOf line)) many variables (t .rows) rows) where
+    (terms : Finished (measureIn (w .pack)) 0 (drop 2 (fieldsOf line)) (headVariables (fieldsOf line)) many variables (t .rows) rows) where
   abbrev filled : Tables
   filled = tables (t .names) (t .signatures) (t .claims) variables rows (t .slots)
 
@@ -87,8 +88,8 @@ module _ {line : Bytes} {t : Tables} {s : State} {w : Written} {o : Opened} {man
     ended = holds .ended;
   }
 
-pub h-close : {line : Bytes} {t : Tables} {s : State} {w : Written} {o : Opened} {many : ℕ} {variables rows : List ℕ} {r : Closing} → Holds t s w → Safe t s → Passed H line s w o
-    → ProgressTerms 0 [] (drop 2 (fieldsOf line)) (length (drop 2 (fieldsOf line))) many variables (t .rows) rows → ClosesH o s many r → ClosedFor line w r (tables (t .names) (t .signatures) (t .claims) variables rows (t .slots))
+pub h-close : {manner : Manner} {line : Bytes} {t : Tables} {s : State} {w : Written} {o : Opened} {many : ℕ} {variables rows : List ℕ} {r : Closing} → Holds t s w → Safe t s → Passed manner H line s w o
+    → ProgressTerms (measureIn (w .pack)) 0 [] (drop 2 (fieldsOf line)) (length (drop 2 (fieldsOf line))) many variables (t .rows) rows → ClosesH o s many r → ClosedFor manner line w r (tables (t .names) (t .signatures) (t .claims) variables rows (t .slots))
 unfolding tests headTests firstOf
 h-close {line = line} {s = s} {w = w} {many = many} holds safe passed done closes =
     let terms = finished (few-terms (passed .named) holds safe) (variables-of-head (fieldsOf line)) done in

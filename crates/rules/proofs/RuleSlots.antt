@@ -11,7 +11,7 @@ use lib.Seq.{getD-append-seam, getD-append-add}
 use Rattle.groundwork.proofs.Lists.{flatMap-end, length-end}
 use Rattle.groundwork.proofs.Truth.{by-truth, eqb-equal, eqb-unequal, ltb-lt, ltb-ge}
 use Rattle.theory.specs.Terms.{arity}
-use Rattle.theory.specs.Sizes.{structural}
+use Rattle.theory.specs.Sizes.{Measure}
 use Rattle.theory.specs.Forms.{zeroForm, plus, constantForm}
 use Rattle.theory.specs.Packs.{Claim, Atom, atomKey, claimsOn, claimsOnAll, noClaim}
 use Rattle.theory.specs.Residuals.{weighted, claimForm, subgoalForms}
@@ -30,32 +30,32 @@ below-sum P a b first next k inside = by-truth (λ t. P k) (ltb k a)
 
 -- ---- the claims and the forms of one subgoal more
 
-module _ (cs : List Claim) where
-  pub claims-more : (subgoals : List Atom) (a : Atom) → claimsOnAll cs (subgoals ++ (a ∷ [])) ≡ claimsOnAll cs subgoals ++ claimsOn (atomKey a) cs
-  claims-more subgoals a = flatMap-end (λ (b : Atom). claimsOn (atomKey b) cs) subgoals a
+pub claims-more : (cs : List Claim) (subgoals : List Atom) (a : Atom) → claimsOnAll cs (subgoals ++ (a ∷ [])) ≡ claimsOnAll cs subgoals ++ claimsOn (atomKey a) cs
+claims-more cs subgoals a = flatMap-end (λ (b : Atom). claimsOn (atomKey b) cs) subgoals a
 
-  forms-more : (subgoals : List Atom) (a : Atom) → subgoalForms structural cs (subgoals ++ (a ∷ [])) ≡ subgoalForms structural cs subgoals ++ map (claimForm structural a) (claimsOn (atomKey a) cs)
+module _ (m : Measure) (cs : List Claim) where
+  forms-more : (subgoals : List Atom) (a : Atom) → subgoalForms m cs (subgoals ++ (a ∷ [])) ≡ subgoalForms m cs subgoals ++ map (claimForm m a) (claimsOn (atomKey a) cs)
   unfolding subgoalForms
   forms-more [] a = append-nil _
-  forms-more (b ∷ subgoals) a = ap (λ fs. map (claimForm structural b) (claimsOn (atomKey b) cs) ++ fs) (forms-more subgoals a) ∙ sym (append-assoc (map (claimForm structural b) (claimsOn (atomKey b) cs)) _ _)
+  forms-more (b ∷ subgoals) a = ap (λ fs. map (claimForm m b) (claimsOn (atomKey b) cs) ++ fs) (forms-more subgoals a) ∙ sym (append-assoc (map (claimForm m b) (claimsOn (atomKey b) cs)) _ _)
 
-  length-forms : (subgoals : List Atom) → length (subgoalForms structural cs subgoals) ≡ length (claimsOnAll cs subgoals)
+  length-forms : (subgoals : List Atom) → length (subgoalForms m cs subgoals) ≡ length (claimsOnAll cs subgoals)
   unfolding subgoalForms mathlib.Core.List.flatMap
   length-forms [] = refl
-  length-forms (a ∷ subgoals) = omega (arith, length-append (map (claimForm structural a) (claimsOn (atomKey a) cs)) (subgoalForms structural cs subgoals), length-map (claimsOn (atomKey a) cs) (claimForm structural a), length-append (claimsOn (atomKey a) cs) (claimsOnAll cs subgoals), length-forms subgoals)
+  length-forms (a ∷ subgoals) = omega (arith, length-append (map (claimForm m a) (claimsOn (atomKey a) cs)) (subgoalForms m cs subgoals), length-map (claimsOn (atomKey a) cs) (claimForm m a), length-append (claimsOn (atomKey a) cs) (claimsOnAll cs subgoals), length-forms subgoals)
 
-form-at : (a : Atom) (cs : List Claim) (j : ℕ) → getD (map (claimForm structural a) cs) j zeroForm ≡ claimForm structural a (getD cs j noClaim)
+form-at : (m : Measure) (a : Atom) (cs : List Claim) (j : ℕ) → getD (map (claimForm m a) cs) j zeroForm ≡ claimForm m a (getD cs j noClaim)
 unfolding claimForm weighted plus constantForm zeroForm noClaim
-form-at a cs j = List·getD-map (claimForm structural a) cs j noClaim
+form-at m a cs j = List·getD-map (claimForm m a) cs j noClaim
 
 -- ---- the slots
 
-module _ (claims : List ℤ) (slots₀ slots : List ℕ) (cs : List Claim) (subgoals : List Atom) (a : Atom) where
+module _ {m : Measure} (claims : List ℤ) (slots₀ slots : List ℕ) (cs : List Claim) (subgoals : List Atom) (a : Atom) where
   pub slot-before : (k : ℕ) → k < length (claimsOnAll cs subgoals) → getD slots k 0 ≡ getD slots₀ k 0 → getD slots (128 + k) 0 ≡ getD slots₀ (128 + k) 0
-      → SlotStands claims slots₀ cs subgoals k → SlotStands claims slots cs (subgoals ++ (a ∷ [])) k
+      → SlotStands m claims slots₀ cs subgoals k → SlotStands m claims slots cs (subgoals ++ (a ∷ [])) k
   slot-before k inside place of stands =
       let claim : getD (claimsOnAll cs (subgoals ++ (a ∷ []))) k noClaim ≡ getD (claimsOnAll cs subgoals) k noClaim = rw (claims-more cs subgoals a) (List·getD-append (claimsOnAll cs subgoals) (claimsOn (atomKey a) cs) noClaim k inside) in
-      let form : getD (subgoalForms structural cs (subgoals ++ (a ∷ []))) k zeroForm ≡ getD (subgoalForms structural cs subgoals) k zeroForm = rw (forms-more cs subgoals a) (List·getD-append (subgoalForms structural cs subgoals) _ zeroForm k (omega (arith, length-forms cs subgoals))) in
+      let form : getD (subgoalForms m cs (subgoals ++ (a ∷ []))) k zeroForm ≡ getD (subgoalForms m cs subgoals) k zeroForm = rw (forms-more m cs subgoals a) (List·getD-append (subgoalForms m cs subgoals) _ zeroForm k (omega (arith, length-forms m cs subgoals))) in
       let subgoal = List·getD-append subgoals (a ∷ []) noAtom (getD slots₀ (128 + k) 0) (stands .subgoal) in
       record {
         claim = rw (place, claim) (stands .claim);
@@ -65,16 +65,16 @@ module _ (claims : List ℤ) (slots₀ slots : List ℕ) (cs : List Claim) (subg
       }
 
   pub slot-after : (k j : ℕ) → k ≡ length (claimsOnAll cs subgoals) + j → ClaimAt claims (getD slots k 0) (getD (claimsOn (atomKey a) cs) j noClaim)
-      → getD slots (128 + k) 0 ≡ length subgoals → length (getD (claimsOn (atomKey a) cs) j noClaim .coefficients) ≡ arity (a .terms) → SlotStands claims slots cs (subgoals ++ (a ∷ [])) k
+      → getD slots (128 + k) 0 ≡ length subgoals → length (getD (claimsOn (atomKey a) cs) j noClaim .coefficients) ≡ arity (a .terms) → SlotStands m claims slots cs (subgoals ++ (a ∷ [])) k
   slot-after k j is stands of full =
       let claim : getD (claimsOnAll cs (subgoals ++ (a ∷ []))) k noClaim ≡ getD (claimsOn (atomKey a) cs) j noClaim = rw (claims-more cs subgoals a, is) (getD-append-add (claimsOnAll cs subgoals) (claimsOn (atomKey a) cs) j noClaim) in
-      let forms = map (claimForm structural a) (claimsOn (atomKey a) cs) in
-      let form : getD (subgoalForms structural cs (subgoals ++ (a ∷ []))) k zeroForm ≡ getD forms j zeroForm = rw (forms-more cs subgoals a, is, ← length-forms cs subgoals) (getD-append-add (subgoalForms structural cs subgoals) forms j zeroForm) in
+      let forms = map (claimForm m a) (claimsOn (atomKey a) cs) in
+      let form : getD (subgoalForms m cs (subgoals ++ (a ∷ []))) k zeroForm ≡ getD forms j zeroForm = rw (forms-more m cs subgoals a, is, ← length-forms m cs subgoals) (getD-append-add (subgoalForms m cs subgoals) forms j zeroForm) in
       let subgoal = getD-append-seam subgoals a [] noAtom in
       record {
         claim = rw claim stands;
         subgoal = omega (arith, length-end subgoals a);
-        form = rw (of, claim, subgoal) (form ∙ form-at a (claimsOn (atomKey a) cs) j);
+        form = rw (of, claim, subgoal) (form ∙ form-at m a (claimsOn (atomKey a) cs) j);
         full = rw (of, claim, subgoal) full;
       }
 

@@ -12,11 +12,12 @@ use Rattle.groundwork.proofs.Truth.{by-truth, not-true, and-left, leb-gt}
 use Rattle.theory.specs.Lists.{_∈_, isEmpty, ending}
 use Rattle.theory.specs.Text.{Bytes, fieldsOf}
 use Rattle.theory.specs.Terms.{allVariables}
-use Rattle.theory.specs.Packs.{Atom, Rule, Pack, onSubgoals, onRules, atomKey, claimsOn, claimsOnAll, subgoalLimit}
+use Rattle.theory.specs.Sizes.{Measure}
+use Rattle.theory.specs.Packs.{Atom, Rule, Pack, measureIn, onSubgoals, onRules, atomKey, claimsOn, claimsOnAll, subgoalLimit}
 use Rattle.theory.specs.declared.Letter.the-variants.{B}
 use Rattle.theory.specs.Written.{Written, onLast, atomFrom, termsFrom, add}
 use Rattle.theory.specs.Residuals.{numbered, atomsVariables, ruleVariables}
-use Rattle.theory.specs.Faults.{noRule, firstOf, isTerm, lastRule, mayStand, subgoalTests, whole, tests, fault}
+use Rattle.theory.specs.Faults.{Manner, noRule, firstOf, isTerm, lastRule, mayStand, subgoalTests, tests, fault}
 use Rattle.theory.proofs.Judging.Keys.{on-arity}
 use Rattle.theory.proofs.Judging.LastRule.{last-changed}
 use Rattle.theory.proofs.Judging.LineWriting.{writes-letter}
@@ -57,20 +58,20 @@ pub b-begin : (line : Bytes) {t : Tables} {s : State} {w : Written} → Holds t 
 b-begin line {t} {s} {w} holds stands =
     let rule = holds .last (ruleful (w .pack) stands) in
     record {
-      terms = λ room. terms-begin (suc (s .subgoals)) (ruleVariables (lastRule (w .pack) .head) (lastRule (w .pack) .subgoals)) (drop 2 (fieldsOf line)) (t .rows) (rule .holdsVariables) (rule .variables);
+      terms = λ room. terms-begin (measureIn (w .pack)) (suc (s .subgoals)) (ruleVariables (lastRule (w .pack) .head) (lastRule (w .pack) .subgoals)) (drop 2 (fieldsOf line)) (t .rows) (rule .holdsVariables) (rule .variables);
       good = λ i h. absurd (omega arith);
     }
 
 pub b-field : {line : Bytes} {t : Tables} {s : State} {w : Written} {index many : ℕ} {variables₀ variables rows₁ rows : List ℕ} {r : Fielding} {n : ℕ} → index < 8
     → index < length (drop 2 (fieldsOf line)) → length rows₁ ≡ 1224 → ProgressSubgoal line w s t index many variables₀ rows₁
-    → FieldTerm (subgoalAtom (s .subgoals)) index (at (drop 2 (fieldsOf line)) index) many variables₀ rows₁ r variables rows → r ≡ Read n → ProgressSubgoal line w s t (suc index) n variables rows
+    → FieldTerm (measureIn (w .pack)) (subgoalAtom (s .subgoals)) index (at (drop 2 (fieldsOf line)) index) many variables₀ rows₁ r variables rows → r ≡ Read n → ProgressSubgoal line w s t (suc index) n variables rows
 b-field {line = line} {s = s} {index = index} place inside size before done fine = record {
   terms = λ room. term-field (omega arith) place inside size (before .terms room) (rw (subgoal-next (s .subgoals) room) at done) fine;
   good = λ i h. below-more (λ j. isTerm (at (drop 2 (fieldsOf line)) j) ≡ true) index (before .good) (t-read done fine .0) i (omega arith);
 }
 
-pub b-fault : {line : Bytes} {s : State} {w : Written} {o : Opened} {atom index many : ℕ} {variables₀ variables rows₀ rows : List ℕ} {r : Fielding} {f : Fault} → Passed B line s w o → index < length (drop 2 (fieldsOf line))
-    → FieldTerm atom index (at (drop 2 (fieldsOf line)) index) many variables₀ rows₀ r variables rows → r ≡ Misread f → fault whole w line ≡ numberOf f
+pub b-fault : {manner : Manner} {m : Measure} {line : Bytes} {s : State} {w : Written} {o : Opened} {atom index many : ℕ} {variables₀ variables rows₀ rows : List ℕ} {r : Fielding} {f : Fault} → Passed manner B line s w o → index < length (drop 2 (fieldsOf line))
+    → FieldTerm m atom index (at (drop 2 (fieldsOf line)) index) many variables₀ rows₀ r variables rows → r ≡ Misread f → fault manner w line ≡ numberOf f
 unfolding tests subgoalTests
 b-fault {line = line} {w = w} passed inside done bad = passed .left ∙ atom-fault B _ [] _ (fieldsOf line) (w .pack) inside done bad
 
@@ -107,7 +108,7 @@ module _ (line : Bytes) (w : Written) where
   -- ---- what the line leaves
 
   module _ {t : Tables} {s : State} {o : Opened} {many : ℕ} {variables rows slots : List ℕ} (holds : Holds t s w) (named : OldPredicate (atomKey added) 2 line w o) (stands : RuleStands t s (w .pack) rule) (few : many ≤ 16)
-      (terms : Finished (suc (s .subgoals)) (drop 2 (fieldsOf line)) all many variables (t .rows) rows) (laid : SlotsAdded (t .slots) (s .slots) (o .predicate) (getD (t .signatures) (64 + o .predicate) 0) (s .subgoals) slots) where
+      (terms : Finished (measureIn (w .pack)) (suc (s .subgoals)) (drop 2 (fieldsOf line)) all many variables (t .rows) rows) (laid : SlotsAdded (t .slots) (s .slots) (o .predicate) (getD (t .signatures) (64 + o .predicate) 0) (s .subgoals) slots) where
     abbrev filled : Tables
     filled = tables (t .names) (t .signatures) (t .claims) variables rows slots
 
@@ -115,16 +116,16 @@ module _ (line : Bytes) (w : Written) where
     count = getD (t .signatures) (64 + o .predicate) 0
 
     -- the rows of the other atoms
-    atom-kept : (atom : ℕ) (a : Atom) → atom < suc (s .subgoals) → ((x : Bytes) → x ∈ allVariables (a .terms) → x ∈ before) → AtomStands (t .rows) atom before (a .terms) → AtomStands rows atom all (a .terms)
+    atom-kept : (atom : ℕ) (a : Atom) → atom < suc (s .subgoals) → ((x : Bytes) → x ∈ allVariables (a .terms) → x ∈ before) → AtomStands (measureIn (w .pack)) (t .rows) atom before (a .terms) → AtomStands (measureIn (w .pack)) rows atom all (a .terms)
     atom-kept atom a earlier within stand =
         rw variables-of-subgoal
         (atom-over-more before (allVariables (termsFrom (drop 2 (fieldsOf line)))) (rw variables-of-subgoal at (terms .holds few .once)) (rw variables-of-subgoal at (terms .holds few .few))
         (t .rows) rows atom (suc (s .subgoals)) (a .terms) earlier (terms .before) within stand)
 
-    subgoal-rows : (i : ℕ) → i < length (rule .subgoals ++ (added ∷ [])) → AtomStands rows (suc i) all (subgoalAt (rule .subgoals ++ (added ∷ [])) i .terms)
+    subgoal-rows : (i : ℕ) → i < length (rule .subgoals ++ (added ∷ [])) → AtomStands (measureIn (w .pack)) rows (suc i) all (subgoalAt (rule .subgoals ++ (added ∷ [])) i .terms)
     unfolding atomFrom
     subgoal-rows =
-        each-and-last (λ a i. AtomStands rows (suc i) all (a .terms)) (rule .subgoals) added noAtom
+        each-and-last (λ a i. AtomStands (measureIn (w .pack)) rows (suc i) all (a .terms)) (rule .subgoals) added noAtom
         (λ i here. atom-kept (suc i) (subgoalAt (rule .subgoals) i) (omega (arith, stands .subgoals)) (subgoal-variable (rule .head) (rule .subgoals) (subgoalAt (rule .subgoals) i) (getD-member (rule .subgoals) i noAtom here)) (stands .subgoalRows i here))
         (rw (← stands .subgoals) (terms .stands few))
 
@@ -134,7 +135,7 @@ module _ (line : Bytes) (w : Written) where
     slots-counted : s .slots + count ≡ length (claimsOnAll (w .pack .claims) (rule .subgoals ++ (added ∷ [])))
     slots-counted = omega (arith, stands .slots, claims-counted, ap length (claims-more (w .pack .claims) (rule .subgoals) added), length-append (claimsOnAll (w .pack .claims) (rule .subgoals)) (claimsOn (atomKey added) (w .pack .claims)))
 
-    slot-added : (j : ℕ) → j < count → SlotStands (t .claims) slots (w .pack .claims) (rule .subgoals ++ (added ∷ [])) (s .slots + j)
+    slot-added : (j : ℕ) → j < count → SlotStands (measureIn (w .pack)) (t .claims) slots (w .pack .claims) (rule .subgoals ++ (added ∷ [])) (s .slots + j)
     unfolding atomFrom
     slot-added j inside =
         let here = rw (holds .claims .count (o .predicate) (named .below)) at inside in
@@ -143,8 +144,8 @@ module _ (line : Bytes) (w : Written) where
         (ap (λ i. getD slots i 0) (omega arith) ∙ laid .ofSubgoal j inside ∙ stands .subgoals)
         (on-arity (atomKey added) (w .pack .claims) j (rw claims-counted at inside))
 
-    slot-stands : (k : ℕ) → k < s .slots + count → SlotStands (t .claims) slots (w .pack .claims) (rule .subgoals ++ (added ∷ [])) k
-    slot-stands = below-sum (SlotStands (t .claims) slots (w .pack .claims) (rule .subgoals ++ (added ∷ []))) (s .slots) count
+    slot-stands : (k : ℕ) → k < s .slots + count → SlotStands (measureIn (w .pack)) (t .claims) slots (w .pack .claims) (rule .subgoals ++ (added ∷ [])) k
+    slot-stands = below-sum (SlotStands (measureIn (w .pack)) (t .claims) slots (w .pack .claims) (rule .subgoals ++ (added ∷ []))) (s .slots) count
         (λ k here. slot-before (t .claims) (t .slots) slots (w .pack .claims) (rule .subgoals) added k (omega (arith, stands .slots)) (laid .before k here) (laid .subgoalBefore k here) (stands .slot k here))
         slot-added
 
@@ -177,8 +178,8 @@ module _ (line : Bytes) (w : Written) where
       ended = holds .ended;
     }
 
-pub b-close : {line : Bytes} {t : Tables} {s : State} {w : Written} {o : Opened} {many : ℕ} {variables rows slots : List ℕ} {r : Closing} → Holds t s w → Safe t s → Passed B line s w o
-    → ProgressSubgoal line w s t (length (drop 2 (fieldsOf line))) many variables rows → ClosesB o s many (t .signatures) (t .slots) r slots → ClosedFor line w r (tables (t .names) (t .signatures) (t .claims) variables rows slots)
+pub b-close : {manner : Manner} {line : Bytes} {t : Tables} {s : State} {w : Written} {o : Opened} {many : ℕ} {variables rows slots : List ℕ} {r : Closing} → Holds t s w → Safe t s → Passed manner B line s w o
+    → ProgressSubgoal line w s t (length (drop 2 (fieldsOf line))) many variables rows → ClosesB o s many (t .signatures) (t .slots) r slots → ClosedFor manner line w r (tables (t .names) (t .signatures) (t .claims) variables rows slots)
 unfolding tests subgoalTests firstOf
 b-close {line} {t} {s} {w} {o} {many} {variables} {rows} {slots} {r} holds safe passed done closes =
     let unempty = ruleful (w .pack) (passed .stands) in
@@ -194,7 +195,7 @@ b-close {line} {t} {s} {w} {o} {many} {variables} {rows} {slots} {r} holds safe 
           (subgoal-holds line w holds (passed .named) stands (kept .0 .few) (terms (kept .0 .room)) (closes .slotsAre (kept .0 .unpassed)) unempty);
     }
   where
-    terms : s .subgoals < 8 → Finished (suc (s .subgoals)) (drop 2 (fieldsOf line)) (all line w) many variables (t .rows) rows
+    terms : s .subgoals < 8 → Finished (measureIn (w .pack)) (suc (s .subgoals)) (drop 2 (fieldsOf line)) (all line w) many variables (t .rows) rows
     terms room = finished (few-terms (passed .named) holds safe) (variables-of-subgoal line w) (done .terms room)
 
 -- the ranges are kept

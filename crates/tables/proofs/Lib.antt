@@ -8,3 +8,4 @@ pub mod PredicateSets
 pub mod Shipping
 pub mod Outlines
 pub mod SlotCounts
+pub mod Manners

@@ -10,7 +10,7 @@ use Rattle.theory.specs.declared.Letter.the-variants.{P, C, G, H, B, M, E, NoLe
 use Rattle.theory.specs.Text.{Bytes, isName, fieldsOf}
 use Rattle.theory.specs.Packs.{Key, keyOf, claimKey, atomKey, declaredAs}
 use Rattle.theory.specs.Written.{lineLetter, field, claimFrom, atomFrom, Written, write}
-use Rattle.theory.specs.Faults.{firstOf, meantBy, mayStand, whole, tests, fault}
+use Rattle.theory.specs.Faults.{Manner, firstOf, meantBy, mayStand, tests, fault}
 use Rattle.text.specs.Scans.{partsFrom}
 use Rattle.words.specs.Words.{wordsOf}
 use Rattle.tables.specs.declared.State.{State}
@@ -18,20 +18,20 @@ use Rattle.tables.specs.declared.Opened.{Opened}
 use Rattle.tables.specs.declared.Closing.{Closing}
 use Rattle.tables.specs.declared.Closing.the-variants.{Done}
 use Rattle.tables.specs.Faults.{closingNumber}
+use Rattle.tables.specs.Sorts.{Sort, declaring, numbering, stating, following, multiplying, ending, none as noSort, sortOf}
 use Rattle.tables.specs.Tables.{Tables, predicateAt, Holds}
 
 -- ## Opened
 
 -- the fields in front of those that are read one by one
-abbrev pub skipped : Letter → ℕ
-skipped P = 2
-skipped C = 2
-skipped G = 2
-skipped H = 2
-skipped B = 2
-skipped M = 1
-skipped E = 1
-skipped NoLetter = 1
+abbrev pub skipped : Sort → ℕ
+skipped declaring = 2
+skipped numbering = 2
+skipped stating = 2
+skipped following = 2
+skipped multiplying = 1
+skipped ending = 1
+skipped noSort = 1
 
 -- how many of a letter's tests the opening does
 abbrev pub openingTests : Letter → ℕ
@@ -45,15 +45,14 @@ openingTests E = 1
 openingTests NoLetter = 0
 
 -- the most fields that are read one by one
-abbrev pub most : Letter → State → ℕ
-most P s = 2
-most C s = 9
-most G s = 8
-most H s = 8
-most B s = 8
-most M s = s .slots
-most E s = 0
-most NoLetter s = 0
+abbrev pub most : Sort → State → ℕ
+most declaring s = 2
+most numbering s = 9
+most stating s = 8
+most following s = 8
+most multiplying s = s .slots
+most ending s = 0
+most noSort s = 0
 
 -- a predicate that is not declared yet, in a line of four fields
 pub record NewPredicate (line : Bytes) (w : Written) (o : Opened) : Type 0 where
@@ -70,30 +69,29 @@ pub record OldPredicate (k : Key) (more : ℕ) (line : Bytes) (w : Written) (o :
   pub is : keyOf (predicateAt (w .pack .predicates) (o .predicate)) ≡ k
   pub full : length (fieldsOf line) ≡ predicateAt (w .pack .predicates) (o .predicate) .arguments + more
 
-abbrev pub NamedFor : Letter → Bytes → State → Written → Opened → Type 0
-NamedFor P line s w o = NewPredicate line w o
-NamedFor C line s w o = OldPredicate (claimKey (claimFrom (fieldsOf line))) 3 line w o
-NamedFor G line s w o = OldPredicate (atomKey (atomFrom (fieldsOf line))) 2 line w o
-NamedFor H line s w o = OldPredicate (atomKey (atomFrom (fieldsOf line))) 2 line w o
-NamedFor B line s w o = OldPredicate (atomKey (atomFrom (fieldsOf line))) 2 line w o
-NamedFor M line s w o = length (fieldsOf line) ≡ s .slots + 1
-NamedFor E line s w o = length (fieldsOf line) ≡ 1
-NamedFor NoLetter line s w o = ⊥
+abbrev pub NamedFor : Sort → Bytes → State → Written → Opened → Type 0
+NamedFor declaring line s w o = NewPredicate line w o
+NamedFor numbering line s w o = OldPredicate (claimKey (claimFrom (fieldsOf line))) 3 line w o
+NamedFor stating line s w o = OldPredicate (atomKey (atomFrom (fieldsOf line))) 2 line w o
+NamedFor following line s w o = OldPredicate (atomKey (atomFrom (fieldsOf line))) 2 line w o
+NamedFor multiplying line s w o = length (fieldsOf line) ≡ s .slots + 1
+NamedFor ending line s w o = length (fieldsOf line) ≡ 1
+NamedFor noSort line s w o = ⊥
 
--- a line of a letter that has passed these tests: the others decide
-pub record Passed (letter : Letter) (line : Bytes) (s : State) (w : Written) (o : Opened) : Type 0 where
+-- a line of a letter that has passed these tests, judged in some manner: the others decide
+pub record Passed (manner : Manner) (letter : Letter) (line : Bytes) (s : State) (w : Written) (o : Opened) : Type 0 where
   pub first : lineLetter line ≡ letter
   pub short : length line ≤ 1024
   pub unended : w .ended ≡ false
   pub stands : mayStand (w .pack) letter ≡ true
-  pub left : fault whole w line ≡ firstOf (drop (openingTests letter) (tests whole letter (fieldsOf line) (w .pack)))
-  pub rest : partsFrom 44 line (o .from) ≡ drop (skipped letter) (fieldsOf line)
-  pub named : NamedFor letter line s w o
+  pub left : fault manner w line ≡ firstOf (drop (openingTests letter) (tests manner letter (fieldsOf line) (w .pack)))
+  pub rest : partsFrom 44 line (o .from) ≡ drop (skipped (sortOf letter)) (fieldsOf line)
+  pub named : NamedFor (sortOf letter) line s w o
 
 -- what holds of an opened line whatever the lines before it write
 pub record SafeOpened (line : Bytes) (s : State) (o : Opened) : Type 0 where
   pub short : length line ≤ 1024
-  pub few : length (partsFrom 44 line (o .from)) ≤ most (o .letter) s
+  pub few : length (partsFrom 44 line (o .from)) ≤ most (sortOf (o .letter)) s
   pub place : (o .letter ≡ P → ⊥) → o .predicate < 32
   pub due : o .letter ≡ M → s .multipliers < 16
 
@@ -105,6 +103,6 @@ at fs i = getD fs i []
 -- ## Closed
 
 -- a line that is read whole, after lines that write w: its fault, and the tables after it
-pub record ClosedFor (line : Bytes) (w : Written) (r : Closing) (t : Tables) : Type 0 where
-  pub answer : fault whole w line ≡ closingNumber r
+pub record ClosedFor (manner : Manner) (line : Bytes) (w : Written) (r : Closing) (t : Tables) : Type 0 where
+  pub answer : fault manner w line ≡ closingNumber r
   pub holds : (next : State) → r ≡ Done next → Holds t next (write w line)

@@ -10,9 +10,9 @@ use Rattle.groundwork.proofs.Bits.{bit}
 use Rattle.theory.specs.Lists.{any, isEmpty}
 use Rattle.theory.specs.Text.{Bytes, isName}
 use Rattle.theory.specs.Terms.{Term, Terms, variable, nil, cons, arity}
-use Rattle.theory.specs.Sizes.{structural}
+use Rattle.theory.specs.Sizes.{Measure}
 use Rattle.theory.specs.Forms.{zeroForm}
-use Rattle.theory.specs.Packs.{Kind, given, ruled, Predicate, Claim, Atom, Rule, Pack, Key, sameKey, keyOf, atomKey, claimsOn, claimsOnAll, noClaim}
+use Rattle.theory.specs.Packs.{Kind, given, ruled, Predicate, Claim, Atom, Rule, Pack, measureIn, Key, sameKey, keyOf, atomKey, claimsOn, claimsOnAll, noClaim}
 use Rattle.theory.specs.Written.{Written}
 use Rattle.theory.specs.Residuals.{claimForm, subgoalForms, ruleVariables}
 use Rattle.theory.specs.Faults.{lastRule, owesRule, headsRule}
@@ -157,9 +157,9 @@ argument (cons t ts) zero = t
 argument (cons t ts) (suc k) = argument ts k
 
 -- the rows of an atom: the head is atom 0, the subgoal at place s atom s + 1
-pub record AtomStands (rows : List ℕ) (atom : ℕ) (xs : List Bytes) (ts : Terms) : Type 0 where
+pub record AtomStands (m : Measure) (rows : List ℕ) (atom : ℕ) (xs : List Bytes) (ts : Terms) : Type 0 where
   pub few : arity ts ≤ 8
-  pub row : (k : ℕ) → k < arity ts → RowStands rows (rowPlace atom k) xs (argument ts k)
+  pub row : (k : ℕ) → k < arity ts → RowStands m rows (rowPlace atom k) xs (argument ts k)
 
 abbrev pub noAtom : Atom
 noAtom = record { name = []; terms = nil }
@@ -168,10 +168,10 @@ abbrev pub subgoalAt : List Atom → ℕ → Atom
 subgoalAt subgoals s = getD subgoals s noAtom
 
 -- the kth claim on the subgoals' predicates: where it stands, and of which subgoal it is
-pub record SlotStands (claims : List ℤ) (slots : List ℕ) (cs : List Claim) (subgoals : List Atom) (k : ℕ) : Type 0 where
+pub record SlotStands (m : Measure) (claims : List ℤ) (slots : List ℕ) (cs : List Claim) (subgoals : List Atom) (k : ℕ) : Type 0 where
   pub claim : ClaimAt claims (getD slots k 0) (getD (claimsOnAll cs subgoals) k noClaim)
   pub subgoal : getD slots (128 + k) 0 < length subgoals
-  pub form : getD (subgoalForms structural cs subgoals) k zeroForm ≡ claimForm structural (subgoalAt subgoals (getD slots (128 + k) 0)) (getD (claimsOnAll cs subgoals) k noClaim)
+  pub form : getD (subgoalForms m cs subgoals) k zeroForm ≡ claimForm m (subgoalAt subgoals (getD slots (128 + k) 0)) (getD (claimsOnAll cs subgoals) k noClaim)
   pub full : length (getD (claimsOnAll cs subgoals) k noClaim .coefficients) ≡ arity (subgoalAt subgoals (getD slots (128 + k) 0) .terms)
 
 pub record RuleStands (t : Tables) (s : State) (p : Pack) (r : Rule) : Type 0 where
@@ -180,10 +180,10 @@ pub record RuleStands (t : Tables) (s : State) (p : Pack) (r : Rule) : Type 0 wh
   pub subgoals : s .subgoals ≡ length (r .subgoals)
   pub variables : s .variables ≡ length (ruleVariables (r .head) (r .subgoals))
   pub holdsVariables : HoldsVariables (t .variables) (ruleVariables (r .head) (r .subgoals))
-  pub headRows : AtomStands (t .rows) 0 (ruleVariables (r .head) (r .subgoals)) (r .head .terms)
-  pub subgoalRows : (i : ℕ) → i < length (r .subgoals) → AtomStands (t .rows) (suc i) (ruleVariables (r .head) (r .subgoals)) (subgoalAt (r .subgoals) i .terms)
+  pub headRows : AtomStands (measureIn p) (t .rows) 0 (ruleVariables (r .head) (r .subgoals)) (r .head .terms)
+  pub subgoalRows : (i : ℕ) → i < length (r .subgoals) → AtomStands (measureIn p) (t .rows) (suc i) (ruleVariables (r .head) (r .subgoals)) (subgoalAt (r .subgoals) i .terms)
   pub slots : s .slots ≡ length (claimsOnAll (p .claims) (r .subgoals))
-  pub slot : (k : ℕ) → k < s .slots → SlotStands (t .claims) (t .slots) (p .claims) (r .subgoals) k
+  pub slot : (k : ℕ) → k < s .slots → SlotStands (measureIn p) (t .claims) (t .slots) (p .claims) (r .subgoals) k
   pub multipliers : s .multipliers ≡ length (r .multipliers)
 
 -- ## All of it

@@ -100,6 +100,12 @@ pub struct State {
     pub ended: bool,
 }
 
+/// How lines are judged: as those of a whole pack, or the same but that no ruled predicate with a claim has to head a rule.
+pub enum Manner {
+    Whole,
+    ButForHeads,
+}
+
 /// What is wrong with a line: one case for each number that a line may have, of document 01's table and of later requests.
 pub enum Fault {
     UnfitLine,

@@ -11,7 +11,7 @@ use lib.Seq.{getD-set-same, getD-set-other}
 use Rattle.groundwork.proofs.Stretches.{replaced}
 use Rattle.theory.specs.Text.{Bytes}
 use Rattle.theory.specs.Terms.{Term}
-use Rattle.theory.specs.Sizes.{sumOfArities}
+use Rattle.theory.specs.Sizes.{sumOfArities, structural}
 use Rattle.theory.proofs.SectionForm.{section-form}
 use Rattle.tokens.specs.declared.Tokens.{Tokens}
 use Rattle.tokens.specs.TokenRows.{SmallArities, PlacesStand, TokensRead}
@@ -21,7 +21,7 @@ use Rattle.terms.specs.TermForms.{RowStands, FormTaken}
 use Rattle.terms.proofs.AritySums.{term-summed}
 
 -- both parts of a term's size in a row are its form
-row-of-parts : (rows : List ℕ) (base : ℕ) (xs : List Bytes) (t : Term) → getD rows base 0 ≡ sumOfArities t → OccurrencesStand rows base xs t → RowStands rows base xs t
+row-of-parts : (rows : List ℕ) (base : ℕ) (xs : List Bytes) (t : Term) → getD rows base 0 ≡ sumOfArities t → OccurrencesStand rows base xs t → RowStands structural rows base xs t
 row-of-parts rows base xs t first second = record {
   constant = rw (section-form t .both) (ap pos first);
   coefficient = λ i inside. rw (section-form t .both) (ap pos (second .counts i inside));
@@ -55,7 +55,7 @@ module _ (field : Bytes) (read : Tokens) (arities places : List ℕ) (read-is : 
       zeros = λ i low past. elsewhere (base + 1 + i) (λ e. omega arith) ∙ stand .zeros i low past;
     }
 
-    pub form-taken : FormTaken field names₀ known rows₀ base r names rows
+    pub form-taken : FormTaken structural field names₀ known rows₀ base r names rows
     form-taken = record {
       high = second .high;
       full = second .full;

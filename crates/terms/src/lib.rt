@@ -3,6 +3,7 @@
 ghost use mathlib.Core.Path.{_≡_};
 ghost use mathlib.Core.Bool.{true};
 ghost use Prim.Native.Nat.{_+_, _≤_};
+ghost use Rattle.theory.specs.Sizes.{structural};
 ghost use Rattle.theory.specs.Measure.{measureOf};
 ghost use Rattle.theory.specs.Answers.{measuredOf};
 ghost use Rattle.tokens.specs.TokenRows.{SmallArities, PlacesStand, TokensRead};
@@ -144,7 +145,7 @@ pub fn form_of_term(
     base: usize,
 ) -> usize
     requires { ⌜ (TokensRead (now field) read (now arities) (now places)) × (read .fine ≡ true) × (known ≤ 17) × (base + 17 ≤ 1224) ⌝ }
-    ensures { λ r. ⌜ FormTaken (now (field .entry)) (now (names .entry)) known (now (rows .entry)) base r (now (names .exit)) (now (rows .exit)) ⌝ }
+    ensures { λ r. ⌜ FormTaken structural (now (field .entry)) (now (names .entry)) known (now (rows .entry)) base r (now (names .exit)) (now (rows .exit)) ⌝ }
 {
     let constant = sum_of_arities(arities, read.symbols);
     let count = read.variables;

@@ -8,8 +8,8 @@ use lib.IntN.{ℤ, pos, _+ℤ_, _*ℤ_}
 use lib.Signed.{_≤ℤ_, nonNeg}
 use Rattle.theory.specs.Lists.{_∈_, every}
 use Rattle.theory.specs.Terms.{AllGround}
-use Rattle.theory.specs.Sizes.{Measure, structural, argumentSizes}
-use Rattle.theory.specs.Packs.{Predicate, Claim, Atom, Pack, atomKey, declaredAs, claimsOn}
+use Rattle.theory.specs.Sizes.{Measure, argumentSizes}
+use Rattle.theory.specs.Packs.{Predicate, Claim, Atom, Pack, measureIn, atomKey, declaredAs, claimsOn}
 
 -- What is a fact: an atom of a declared predicate, so with as many terms as that has arguments, and no variable in them.
 pub record IsFact (p : Pack) (f : Atom) : Type 0 where
@@ -33,11 +33,11 @@ pub record Meets (m : Measure) (f : Atom) (c : Claim) : Type 0 where
 
 -- it meets every claim on its predicate
 pub record MeetsAll (p : Pack) (f : Atom) : Type 0 where
-  pub meets : (c : Claim) → c ∈ claimsOn (atomKey f) (p .claims) → Meets structural f c
+  pub meets : (c : Claim) → c ∈ claimsOn (atomKey f) (p .claims) → Meets (measureIn p) f c
 
 -- the same as a test
 unfoldable pub isMet : Measure → Atom → Claim → Bool
 isMet m f c = nonNeg (claimAt m f c)
 
-abbrev pub meetsEvery : List Claim → Atom → Bool
-meetsEvery claims f = every (isMet structural f) (claimsOn (atomKey f) claims)
+abbrev pub meetsEvery : Pack → Atom → Bool
+meetsEvery p f = every (isMet (measureIn p) f) (claimsOn (atomKey f) (p .claims))

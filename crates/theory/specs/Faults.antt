@@ -9,8 +9,7 @@ use lib.ListN.{length, getD, drop}
 use Rattle.theory.specs.Lists.{every, any, isEmpty, isSome, ending}
 use Rattle.theory.specs.Text.{Bytes, bytes, same, between, isName, natural, integer, fieldsOf}
 use Rattle.theory.specs.Terms.{nil, readTerm, allVariables}
-use Rattle.theory.specs.Sizes.{structural}
-use Rattle.theory.specs.Packs.{Kind, given, ruled, Predicate, Claim, Atom, Rule, Pack, noClaim, headAlone, lineLimit, predicateLimit, claimLimit, ruleLimit, subgoalLimit, variableLimit, numberLimit, Key, key, sameKey, keyOf, claimKey, atomKey, declaredAs, claimsOn, claimsOnAll, fromRules, fromFacts, fromClaims}
+use Rattle.theory.specs.Packs.{Kind, given, ruled, Predicate, Claim, Atom, Rule, Pack, noClaim, headAlone, measureIn, lineLimit, predicateLimit, claimLimit, ruleLimit, subgoalLimit, variableLimit, numberLimit, Key, key, sameKey, keyOf, claimKey, atomKey, declaredAs, claimsOn, claimsOnAll, fromRules, fromFacts, fromClaims}
 use Rattle.theory.specs.declared.Letter.{Letter}
 use Rattle.theory.specs.declared.Letter.the-variants.{P, C, G, H, B, M, E, NoLetter}
 use Rattle.theory.specs.Written.{lineLetter, field, Written, claimFrom, atomFrom, multipliersFrom}
@@ -140,7 +139,7 @@ claimDue p = getD (headClaims p) (length (lastRule p .multipliers)) noClaim
 unfoldable pub residualDue : Pack → List ℕ → List ℤ
 residualDue p multipliers =
     let r = lastRule p in
-    residualNumbers (ruleVariables (r .head) (r .subgoals)) (residual structural (p .claims) (r .head) (r .subgoals) (claimDue p) multipliers)
+    residualNumbers (ruleVariables (r .head) (r .subgoals)) (residual (measureIn p) (p .claims) (r .head) (r .subgoals) (claimDue p) multipliers)
 
 -- ## How lines are judged
 
@@ -191,7 +190,7 @@ factTests fields p =
     let a = atomFrom fields in
     atomTests G false
     (test 20 (ruledIn (meantBy G fields p)) ∷ [])
-    (test 21 (not (isEmpty (allVariables (a .terms)))) ∷ test 22 (not (meetsEvery (p .claims) a)) ∷ [])
+    (test 21 (not (isEmpty (allVariables (a .terms)))) ∷ test 22 (not (meetsEvery p a)) ∷ [])
     fields p
 
 abbrev pub manyVariables : Atom → List Atom → Bool

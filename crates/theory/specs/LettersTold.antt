@@ -11,8 +11,7 @@ use lib.Signed.{_<ℤ_}
 use Rattle.theory.specs.Lists.{_∈_, ending}
 use Rattle.theory.specs.Text.{Bytes, isName, decimal, signedDecimal, fieldsOf}
 use Rattle.theory.specs.Terms.{Term, WrittenAs, allVariables}
-use Rattle.theory.specs.Sizes.{structural}
-use Rattle.theory.specs.Packs.{Kind, given, ruled, Predicate, Claim, Rule, Pack, predicateLimit, claimLimit, ruleLimit, subgoalLimit, variableLimit, numberLimit, key, keyOf, claimKey, atomKey, claimsOn, claimsOnAll, kindLetter}
+use Rattle.theory.specs.Packs.{Kind, given, ruled, Predicate, Claim, Rule, Pack, measureIn, predicateLimit, claimLimit, ruleLimit, subgoalLimit, variableLimit, numberLimit, key, keyOf, claimKey, atomKey, claimsOn, claimsOnAll, kindLetter}
 use Rattle.theory.specs.declared.Letter.{Letter}
 use Rattle.theory.specs.declared.Letter.the-variants.{P, C, G, H, B, M, E, NoLetter}
 use Rattle.theory.specs.Written.{lineLetter, field, atomFrom, multipliersFrom}
@@ -150,6 +149,6 @@ pub record LetterTold (p : Pack) (l : Bytes) (numbers : List ℕ) : Type 0 where
   -- 21: some variable occurs; 22: it fails a claim on its predicate
   pub variable : lineLetter l ≡ G → (21 ∈ numbers) ↔ ((x : Bytes) × (x ∈ allVariables (atomFrom (fieldsOf l) .terms)))
   pub unmet : lineLetter l ≡ G → (22 ∈ numbers)
-      ↔ ((c : Claim) × (c ∈ claimsOn (atomKey (atomFrom (fieldsOf l))) (p .claims)) × (claimAt structural (atomFrom (fieldsOf l)) c <ℤ pos 0))
+      ↔ ((c : Claim) × (c ∈ claimsOn (atomKey (atomFrom (fieldsOf l))) (p .claims)) × (claimAt (measureIn p) (atomFrom (fieldsOf l)) c <ℤ pos 0))
   -- 24
   pub headless : lineLetter l ≡ E → (24 ∈ numbers) ↔ ((x : Predicate) × Headless p x)

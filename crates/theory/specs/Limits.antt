@@ -11,9 +11,8 @@ use lib.Signed.{_≤ℤ_}
 use Rattle.theory.specs.Lists.{_∈_, every}
 use Rattle.theory.specs.Text.{Bytes, isName}
 use Rattle.theory.specs.Terms.{AllWellFormed, AllGround}
-use Rattle.theory.specs.Sizes.{structural}
 use Rattle.theory.specs.Forms.{Form}
-use Rattle.theory.specs.Packs.{given, ruled, Predicate, Claim, Atom, Rule, Pack, opening, textLimit, lineLimit, predicateLimit, claimLimit, ruleLimit, subgoalLimit, variableLimit, numberLimit, Key, keyOf, claimKey, atomKey, declaredAs, claimsOn, claimsOnAll, packLines, written, noClaim}
+use Rattle.theory.specs.Packs.{given, ruled, Predicate, Claim, Atom, Rule, Pack, opening, measureIn, textLimit, lineLimit, predicateLimit, claimLimit, ruleLimit, subgoalLimit, variableLimit, numberLimit, Key, keyOf, claimKey, atomKey, declaredAs, claimsOn, claimsOnAll, packLines, written, noClaim}
 use Rattle.theory.specs.Residuals.{residual, ruleVariables, areaNeeded}
 use Rattle.theory.specs.Facts.{MeetsAll}
 
@@ -92,7 +91,7 @@ pub record NonNegative (xs : List Bytes) (f : Form) : Type 0 where
 
 -- these multipliers justify the claim numbered i, from 0, on the head of a rule under an opening
 abbrev pub JustifiedBy : Pack → Rule → ℕ → List ℕ → Type 0
-JustifiedBy o r i ms = NonNegative (ruleVariables (r .head) (r .subgoals)) (residual structural (o .claims) (r .head) (r .subgoals) (getD (claimsOn (atomKey (r .head)) (o .claims)) i noClaim) ms)
+JustifiedBy o r i ms = NonNegative (ruleVariables (r .head) (r .subgoals)) (residual (measureIn o) (o .claims) (r .head) (r .subgoals) (getD (claimsOn (atomKey (r .head)) (o .claims)) i noClaim) ms)
 
 -- Every claim on a rule's head is justified by the rule's own multipliers for it.
 pub record RuleJustified (o : Pack) (r : Rule) : Type 0 where

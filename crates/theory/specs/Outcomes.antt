@@ -8,8 +8,7 @@ use lib.ListN.{length, getD, drop}
 use lib.Signed.{_<ℤ_}
 use Rattle.theory.specs.Lists.{_∈_}
 use Rattle.theory.specs.Text.{Bytes, linesOf}
-use Rattle.theory.specs.Sizes.{structural}
-use Rattle.theory.specs.Packs.{Rule, Pack, textLimit, noClaim, atomKey, claimsOn, multiplierLine, line as lineOf}
+use Rattle.theory.specs.Packs.{Rule, Pack, measureIn, textLimit, noClaim, atomKey, claimsOn, multiplierLine, line as lineOf}
 use Rattle.theory.specs.Written.{Written, nothing, write, writeAll, packOf}
 use Rattle.theory.specs.Residuals.{areaNeeded, residual, ruleVariables, residualNumbers}
 use Rattle.theory.specs.Faults.{Manner, whole, fault, lastRule}
@@ -49,7 +48,7 @@ packBefore first = writeAll nothing (first .before) .pack
 
 -- the numbers that the residual of the claim numbered so, from 1, on a rule's head has with some multipliers
 abbrev pub residualFor : Pack → Rule → ℕ → List ℕ → List ℤ
-residualFor p r claim ms = residualNumbers (ruleVariables (r .head) (r .subgoals)) (residual structural (p .claims) (r .head) (r .subgoals) (getD (claimsOn (atomKey (r .head)) (p .claims)) (claim - 1) noClaim) ms)
+residualFor p r claim ms = residualNumbers (ruleVariables (r .head) (r .subgoals)) (residual (measureIn p) (p .claims) (r .head) (r .subgoals) (getD (claimsOn (atomKey (r .head)) (p .claims)) (claim - 1) noClaim) ms)
 
 -- An unjustified claim: the first fault is a 13, on a line of multipliers of this rule, the last one so far, for this claim on its
 -- head, the one that is due there; rules and claims are counted from 1. The multipliers fit, and a number of the residual is below 0.

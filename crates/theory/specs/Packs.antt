@@ -10,6 +10,7 @@ use lib.IntN.{ℤ, pos}
 use lib.ListN.{length}
 use Rattle.theory.specs.Text.{Bytes, bytes, same, joined, decimal, signedDecimal}
 use Rattle.theory.specs.Terms.{Terms, nil, cons, arity, writtenTerm}
+use Rattle.theory.specs.Sizes.{Measure, structural}
 
 -- Given: facts come from outside. Ruled: facts come from rules.
 pub data Kind : Type 0 where
@@ -79,6 +80,10 @@ onRules change p = record { predicates = p .predicates; claims = p .claims; fact
 -- a pack's opening: the pack without its rules
 abbrev pub opening : Pack → Pack
 opening p = onRules (λ (rules : List Rule). []) p
+
+-- The measure by which every size of a pack is taken: whatever the pack, the structural one.
+abbrev pub measureIn : Pack → Measure
+measureIn p = structural
 
 -- ## Limits
 

@@ -13,7 +13,7 @@ use Rattle.theory.specs.Text.{Bytes, linesOf}
 use Rattle.theory.specs.Terms.{Term, variables, Substitution, under}
 use Rattle.theory.specs.Sizes.{sumOfArities, occurrencesIn, Measure, structural, constantOf, coefficientOf, size}
 use Rattle.theory.specs.Forms.{formOf, Once, valueAt}
-use Rattle.theory.specs.Packs.{Predicate, Claim, Atom, Pack, key, claimKey, atomKey, declaredAs, claimsOn, onClaims}
+use Rattle.theory.specs.Packs.{Predicate, Claim, Atom, Pack, measureIn, key, claimKey, atomKey, declaredAs, claimsOn, onClaims}
 use Rattle.theory.specs.Written.{packOf}
 use Rattle.theory.specs.Residuals.{areaNeeded}
 use Rattle.theory.specs.Faults.{whole, butForHeads}
@@ -116,28 +116,28 @@ pub record ClaimsKept (text : Bytes) (Given : Atom → Type 0) : Type 0 where
       → (f : Atom) → Derivable (packOf text) Given f → MeetsAll (packOf text) f
   -- reserve gives a bound: with the query's known sizes, its asked size is no larger
   pub boundKept : (query : Bytes) (bound claim : ℕ) → reserveOf text query ≡ fields (code "B") bound claim
-      → (f : Atom) → Derivable (packOf text) Given f → HasKnownSizes structural (queryOf query) f → sizeAt structural (queryOf query .asked) f ≤ bound
+      → (f : Atom) → Derivable (packOf text) Given f → HasKnownSizes (measureIn (packOf text)) (queryOf query) f → sizeAt (measureIn (packOf text)) (queryOf query .asked) f ≤ bound
   -- reserve says "impossible": there is none with the query's known sizes
   pub noneSuch : (query : Bytes) (claim : ℕ) → reserveOf text query ≡ fields (code "I") 0 claim
-      → (f : Atom) → Derivable (packOf text) Given f → HasKnownSizes structural (queryOf query) f → ⊥
+      → (f : Atom) → Derivable (packOf text) Given f → HasKnownSizes (measureIn (packOf text)) (queryOf query) f → ⊥
 
 -- The same of the calls' own answers: the first premise of each part is the equation that the call's contract promises.
 pub record AnswersKept (text : Bytes) (Given : Atom → Type 0) : Type 0 where
   pub accepted : (area : List ℤ) (answer : Verdict) → numbersOf answer ≡ checkOf text area .returned → (counts : Counts) → answer ≡ Accepted counts
       → (f : Atom) → Derivable (packOf text) Given f → MeetsAll (packOf text) f
   pub bounded : (query : Bytes) (answer : Reservation) → reservedFields answer ≡ reserveOf text query → (bound : Bound) → answer ≡ Bounded bound
-      → (f : Atom) → Derivable (packOf text) Given f → HasKnownSizes structural (queryOf query) f → sizeAt structural (queryOf query .asked) f ≤ bound .size
+      → (f : Atom) → Derivable (packOf text) Given f → HasKnownSizes (measureIn (packOf text)) (queryOf query) f → sizeAt (measureIn (packOf text)) (queryOf query .asked) f ≤ bound .size
   pub impossible : (query : Bytes) (answer : Reservation) → reservedFields answer ≡ reserveOf text query → (claim : ℕ) → answer ≡ Impossible claim
-      → (f : Atom) → Derivable (packOf text) Given f → HasKnownSizes structural (queryOf query) f → ⊥
+      → (f : Atom) → Derivable (packOf text) Given f → HasKnownSizes (measureIn (packOf text)) (queryOf query) f → ⊥
 
 -- And of the words, as the firmware sees them, taken apart by the header's functions.
 pub record WordsKept (text : Bytes) (Given : Atom → Type 0) : Type 0 where
   pub accepted : (area : List ℤ) (word : ℕ) → word ≡ checkWord (checkOf text area .returned) → wordNumber word ≡ 0
       → (f : Atom) → Derivable (packOf text) Given f → MeetsAll (packOf text) f
   pub bounded : (query : Bytes) (word : ℕ) → word ≡ reserveWord (reserveOf text query) → wordLetter word ≡ code "B"
-      → (f : Atom) → Derivable (packOf text) Given f → HasKnownSizes structural (queryOf query) f → sizeAt structural (queryOf query .asked) f ≤ wordMiddle word
+      → (f : Atom) → Derivable (packOf text) Given f → HasKnownSizes (measureIn (packOf text)) (queryOf query) f → sizeAt (measureIn (packOf text)) (queryOf query .asked) f ≤ wordMiddle word
   pub impossible : (query : Bytes) (word : ℕ) → word ≡ reserveWord (reserveOf text query) → wordLetter word ≡ code "I"
-      → (f : Atom) → Derivable (packOf text) Given f → HasKnownSizes structural (queryOf query) f → ⊥
+      → (f : Atom) → Derivable (packOf text) Given f → HasKnownSizes (measureIn (packOf text)) (queryOf query) f → ⊥
 
 -- All three of the same given facts.
 pub record Kept (text : Bytes) (Given : Atom → Type 0) : Type 0 where

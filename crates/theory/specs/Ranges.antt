@@ -7,9 +7,8 @@ use lib.IntN.{pos, natAbs}
 use lib.ListN.{take}
 use Rattle.theory.specs.Lists.{_∈_}
 use Rattle.theory.specs.Text.{Bytes, linesOf, fieldsOf}
-use Rattle.theory.specs.Sizes.{structural}
 use Rattle.theory.specs.Forms.{Form, times}
-use Rattle.theory.specs.Packs.{Claim, Atom, Rule, atomKey, claimsOn}
+use Rattle.theory.specs.Packs.{Claim, Atom, Rule, Pack, measureIn, atomKey, claimsOn}
 use Rattle.theory.specs.declared.Letter.the-variants.{M}
 use Rattle.theory.specs.Written.{lineLetter, nothing, writeAll, multipliersFrom}
 use Rattle.theory.specs.Residuals.{claimForm, subgoalForms, combined, residual}
@@ -25,16 +24,16 @@ abbrev pub upTo : ℕ → Claim → Claim
 upTo i c = record { name = c .name; constant = c .constant; coefficients = take i (c .coefficients) }
 
 -- All that is worked out for a claim on a rule's head with some multipliers, each sum at every step.
-pub record FormsInRange (claims : List Claim) (r : Rule) (c : Claim) (ms : List ℕ) : Type 0 where
-  pub head : (i : ℕ) → InRange (claimForm structural (r .head) (upTo i c))
-  pub subgoals : (a : Atom) → a ∈ r .subgoals → (d : Claim) → d ∈ claimsOn (atomKey a) claims → (i : ℕ) → InRange (claimForm structural a (upTo i d))
-  pub multiples : (f : Form) → f ∈ subgoalForms structural claims (r .subgoals) → (m : ℕ) → m ∈ ms → InRange (times (pos m) f)
-  pub sums : (i : ℕ) → InRange (combined (take i ms) (subgoalForms structural claims (r .subgoals)))
+pub record FormsInRange (p : Pack) (r : Rule) (c : Claim) (ms : List ℕ) : Type 0 where
+  pub head : (i : ℕ) → InRange (claimForm (measureIn p) (r .head) (upTo i c))
+  pub subgoals : (a : Atom) → a ∈ r .subgoals → (d : Claim) → d ∈ claimsOn (atomKey a) (p .claims) → (i : ℕ) → InRange (claimForm (measureIn p) a (upTo i d))
+  pub multiples : (f : Form) → f ∈ subgoalForms (measureIn p) (p .claims) (r .subgoals) → (m : ℕ) → m ∈ ms → InRange (times (pos m) f)
+  pub sums : (i : ℕ) → InRange (combined (take i ms) (subgoalForms (measureIn p) (p .claims) (r .subgoals)))
   -- what is left after i of the multiples are taken away, and in the end the residual
-  pub left : (i : ℕ) → InRange (residual structural claims (r .head) (r .subgoals) c (take i ms))
+  pub left : (i : ℕ) → InRange (residual (measureIn p) (p .claims) (r .head) (r .subgoals) c (take i ms))
 
 -- Of every line of multipliers that is judged, in texts that are accepted or refused at 13 or later.
 pub record FormsFit (text : Bytes) : Type 0 where
   pub inRange : (before : List Bytes) (l : Bytes) (after : List Bytes) → linesOf text ≡ before ++ l ∷ after → AllFine whole nothing before → lineLetter l ≡ M
       → (fault whole (writeAll nothing before) l ≡ 0) ⊎ (fault whole (writeAll nothing before) l ≡ 13)
-      → FormsInRange (writeAll nothing before .pack .claims) (lastRule (writeAll nothing before .pack)) (claimDue (writeAll nothing before .pack)) (multipliersFrom (fieldsOf l))
+      → FormsInRange (writeAll nothing before .pack) (lastRule (writeAll nothing before .pack)) (claimDue (writeAll nothing before .pack)) (multipliersFrom (fieldsOf l))

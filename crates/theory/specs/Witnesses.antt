@@ -11,7 +11,7 @@ use Prim.Native.String.{String}
 use Rattle.theory.specs.Text.{Bytes, bytes, linesOf}
 use Rattle.theory.specs.Terms.{Term, Terms, symbol, nil, cons, variables, allVariables}
 use Rattle.theory.specs.Sizes.{structural, size}
-use Rattle.theory.specs.Packs.{Atom}
+use Rattle.theory.specs.Packs.{Atom, measureIn}
 use Rattle.theory.specs.declared.Letter.the-variants.{M}
 use Rattle.theory.specs.Written.{lineLetter, nothing, writeAll, packOf}
 use Rattle.theory.specs.Faults.{whole, fault}
@@ -97,8 +97,8 @@ Derived text f = Derivable (packOf (bytes text)) (GivenFact (packOf (bytes text)
 pub record Reached (text : Bytes) (Given : Atom → Type 0) (query : Bytes) (bound claim : ℕ) (f : Atom) : Type 0 where
   pub answer : reserveOf text query ≡ fields (code "B") bound claim
   pub derived : Derivable (packOf text) Given f
-  pub known : HasKnownSizes structural (queryOf query) f
-  pub reached : sizeAt structural (queryOf query .asked) f ≡ bound
+  pub known : HasKnownSizes (measureIn (packOf text)) (queryOf query) f
+  pub reached : sizeAt (measureIn (packOf text)) (queryOf query .asked) f ≡ bound
 
 -- A line of multipliers is judged, after lines without a fault, and has this number: the premises of `FormsFit` (Ranges).
 pub record LineJudged (text : Bytes) (number : ℕ) : Type 0 where

@@ -3,15 +3,15 @@ use borrow.Author.Needs.{needs}
 use mathlib.Core.Path.{refl}
 use Rattle.theory.specs.declared.Letter.the-variants.{P, C, M, E, NoLetter}
 use Rattle.atoms.proofs.StatedAtoms.{atom-high}
-use Rattle.lines.proofs.Steps.{field-done, atom-ready, atom-done}
+use Rattle.lines.proofs.Steps.{ready-of, done-of, atom-ready, atom-done}
 use Rattle.lines.proofs.field.Statement.{statement}
 use Rattle.lines.proofs.field.Tie as tie
 
 field-predicate-requires : tie.Need-field-predicate-requires
-field-predicate-requires c κs = c .before .before .before .before .pre .0 .of P (search needs)
+field-predicate-requires c κs = ready-of P (c .before .before .before .before .pre .0) (search needs)
 
 field-claim-requires : tie.Need-field-claim-requires
-field-claim-requires c κs = c .before .before .before .before .pre .0 .of C (search needs)
+field-claim-requires c κs = ready-of C (c .before .before .before .before .pre .0) (search needs)
 
 field-term-requires : tie.Need-field-term-requires
 field-term-requires c κs =
@@ -22,13 +22,13 @@ field-term-requires c κs =
     (rw (stated .atom-of .ensures) (atom-high (start .args .letter) (start .args .state .subgoals)), ready .0, ready .1, ready .2, pre .1, pre .2, pre .3)
 
 field-multiplier-requires : tie.Need-field-multiplier-requires
-field-multiplier-requires c κs = c .before .before .before .before .pre .0 .of M (search needs)
+field-multiplier-requires c κs = ready-of M (c .before .before .before .before .pre .0) (search needs)
 
 returns : tie.Need-returns
-returns c = let pre = c .before .before .before .before .before .pre in ((pre .1, pre .2), field-done P (search needs) (c .field-predicate .ensures, refl))
+returns c = let pre = c .before .before .before .before .before .pre in ((pre .1, pre .2), done-of P (search needs) (c .field-predicate .ensures, refl))
 
 returns-2 : tie.Need-returns-2
-returns-2 c = let pre = c .before .before .before .before .before .pre in ((pre .1, pre .2), field-done C (search needs) (c .field-claim .ensures, refl))
+returns-2 c = let pre = c .before .before .before .before .before .pre in ((pre .1, pre .2), done-of C (search needs) (c .field-claim .ensures, refl))
 
 returns-3 : tie.Need-returns-3
 returns-3 c =
@@ -37,13 +37,13 @@ returns-3 c =
     (done .0, atom-done (stated .before .match .keys3) (rw (stated .atom-of .ensures) at (done .1)) refl)
 
 returns-4 : tie.Need-returns-4
-returns-4 c = let pre = c .before .before .before .before .before .pre in ((pre .1, pre .2), field-done M (search needs) (c .field-multiplier .ensures, refl))
+returns-4 c = let pre = c .before .before .before .before .before .pre in ((pre .1, pre .2), done-of M (search needs) (c .field-multiplier .ensures, refl))
 
 returns-5 : tie.Need-returns-5
-returns-5 c = absurd (c .before .before .before .pre .0 .of E (search needs))
+returns-5 c = absurd (ready-of E (c .before .before .before .pre .0) (search needs))
 
 returns-6 : tie.Need-returns-6
-returns-6 c = absurd (c .before .before .before .pre .0 .of NoLetter (search needs))
+returns-6 c = absurd (ready-of NoLetter (c .before .before .before .pre .0) (search needs))
 
 pub field-spec : {M : Type 1} → statement M
 field-spec =

@@ -11,8 +11,7 @@ use lib.Seq.{drop-cons}
 use Rattle.theory.specs.Lists.{every, isSome, isEmpty, ending}
 use Rattle.theory.specs.Text.{Bytes, isName}
 use Rattle.theory.specs.Terms.{arity, AllWellFormed, allVariables}
-use Rattle.theory.specs.Sizes.{structural}
-use Rattle.theory.specs.Packs.{ruled, Claim, Atom, Pack, ruleLimit, subgoalLimit, variableLimit, termFields, factLine, headLine, subgoalLine, onSubgoals, onFacts, onRules, headAlone, fromRules}
+use Rattle.theory.specs.Packs.{ruled, Claim, Atom, Pack, measureIn, ruleLimit, subgoalLimit, variableLimit, termFields, factLine, headLine, subgoalLine, onSubgoals, onFacts, onRules, headAlone, fromRules}
 use Rattle.theory.specs.declared.Letter.{Letter}
 use Rattle.theory.specs.declared.Letter.the-variants.{G, H, B}
 use Rattle.theory.specs.Written.{field, atomFrom, add, onLast}
@@ -80,24 +79,24 @@ atom-read letter states isRefused afterName afterTerms fields p first c =
     }
 
 -- the test of 22, and what it says
-met-each : (claims : List Claim) (f : Atom) → meetsEvery claims f ≡ true → MeetsEach claims f
+met-each : (p : Pack) (f : Atom) → meetsEvery p f ≡ true → MeetsEach (measureIn p) (p .claims) f
 unfolding isMet
-met-each claims f e c m = record { holds = nonneg-test _ (every-member (isMet structural f) e m) }
+met-each p f e c m = record { holds = nonneg-test _ (every-member (isMet (measureIn p) f) e m) }
 
-each-met : (claims : List Claim) (f : Atom) → MeetsEach claims f → meetsEvery claims f ≡ true
+each-met : (p : Pack) (f : Atom) → MeetsEach (measureIn p) (p .claims) f → meetsEvery p f ≡ true
 unfolding isMet
-each-met claims f meets = members-every (isMet structural f) _ (λ c m. test-nonneg _ (meets c m .holds))
+each-met p f meets = members-every (isMet (measureIn p) f) _ (λ c m. test-nonneg _ (meets c m .holds))
 
 pub fact-step : {m : Manner} (p : Pack) (fields : List Bytes) → Faultless m G p fields → Step p fields (add G fields p)
 unfolding add tests factTests mayStand letterField factLine
 fact-step p fields h =
     let a = atomFrom fields in
     let looked = meantBy G fields p in
-    let read = atom-read G StatesAtom.fact false (test 20 (ruledIn looked) ∷ []) (test 21 (not (isEmpty (allVariables (a .terms)))) ∷ test 22 (not (meetsEvery (p .claims) a)) ∷ []) fields p (h .first) (h .clear) in
+    let read = atom-read G StatesAtom.fact false (test 20 (ruledIn looked) ∷ []) (test 21 (not (isEmpty (allVariables (a .terms)))) ∷ test 22 (not (meetsEvery p a)) ∷ []) fields p (h .first) (h .clear) in
     let fits = read .fits in
     let isGiven = given-kind (fits .predicate .kind) (sym (ruled-in looked (fits .predicate) (read .found)) ∙ read .named .0) in
     let ground = is-empty (allVariables (a .terms)) (not-false _ (read .ended .0)) in
-    let meets = met-each (p .claims) a (not-false _ (read .ended .1 .0)) in
+    let meets = met-each p a (not-false _ (read .ended .1 .0)) in
     subst (λ (fs : List Bytes). Step p fs (onFacts (ending a) p)) (read .again)
     (factStep a (is-empty (fromRules p) (h .stands)) (record { atom = fits; isGiven = isGiven; ground = ground }) meets)
 
@@ -163,7 +162,7 @@ module _ (letter : Letter) (states : StatesAtom letter) (p : Pack) (a : Atom) (f
       then or-neither _ _ (ap not (some-is _ _ atom-found)) allowed
       then both-clear afterName _ named (ap not (written-are-terms (a .terms) (fits .formed)) then ended)
 
-pub fact-readable : {m : Manner} (p : Pack) (f : Atom) → fromRules p ≡ [] → FactFits (p .predicates) f → MeetsEach (p .claims) f → Readable m G p (factLine f) (onFacts (ending f) p)
+pub fact-readable : {m : Manner} (p : Pack) (f : Atom) → fromRules p ≡ [] → FactFits (p .predicates) f → MeetsEach (measureIn p) (p .claims) f → Readable m G p (factLine f) (onFacts (ending f) p)
 unfolding tests factTests mayStand factLine letterField isGiven
 fact-readable p f later fits meets =
     let atom = fits .atom in
@@ -174,7 +173,7 @@ fact-readable p f later fits meets =
         clear = rw (atom-again f (atom .formed) G)
             (atom-clear G StatesAtom.fact p f atom false _ _ refl
             ((ruled-in _ (atom .predicate) (atom-found G StatesAtom.fact p f atom) ∙ rw (fits .isGiven)) then tt)
-            (ap not (empty-is (allVariables (f .terms)) (fits .ground)) then ap not (each-met (p .claims) f meets) then tt));
+            (ap not (empty-is (allVariables (f .terms)) (fits .ground)) then ap not (each-met p f meets) then tt));
       };
       adds = fact-adds f (atom .formed) p (atom .named);
     }

@@ -15,8 +15,7 @@ use Rattle.groundwork.proofs.Order.{nonneg-test, below-zero}
 use Rattle.theory.specs.Lists.{_∈_, any, every, isSome, isEmpty}
 use Rattle.theory.specs.Text.{Bytes, isName, natural, integer, decimal, fieldsOf}
 use Rattle.theory.specs.Terms.{Term, WrittenAs, readTerm, allVariables}
-use Rattle.theory.specs.Sizes.{structural}
-use Rattle.theory.specs.Packs.{given, ruled, Predicate, Claim, Atom, Pack, Key, sameKey, keyOf, claimKey, atomKey, declaredAs, claimsOn, predicateLimit, claimLimit, ruleLimit, subgoalLimit, variableLimit, numberLimit}
+use Rattle.theory.specs.Packs.{given, ruled, Predicate, Claim, Atom, Pack, measureIn, Key, sameKey, keyOf, claimKey, atomKey, declaredAs, claimsOn, predicateLimit, claimLimit, ruleLimit, subgoalLimit, variableLimit, numberLimit}
 use Rattle.theory.specs.declared.Letter.{Letter}
 use Rattle.theory.specs.declared.Letter.the-variants.{P, C, G, H, B, M, E, NoLetter}
 use Rattle.theory.specs.Written.{lineLetter, field, Written, atomFrom, multipliersFrom, kindFrom}
@@ -136,11 +135,11 @@ unfolding isEmpty
 some-member [] = (λ e. never-both e refl, λ h. absurd (List·Memᴰ·not-nil (h .1)))
 some-member (x ∷ xs) = (λ e. (x, List·Memᴰ·head refl), λ h. refl)
 
-unmet-told : (claims : List Claim) (f : Atom) → (not (meetsEvery claims f) ≡ true) ↔ ((c : Claim) × (c ∈ claimsOn (atomKey f) claims) × (claimAt structural f c <ℤ pos 0))
+unmet-told : (p : Pack) (f : Atom) → (not (meetsEvery p f) ≡ true) ↔ ((c : Claim) × (c ∈ claimsOn (atomKey f) (p .claims)) × (claimAt (measureIn p) f c <ℤ pos 0))
 unfolding isMet
-unmet-told claims f = (
-  λ e. let (c, m, fails) = some-failing (isMet structural f) (claimsOn (atomKey f) claims) (not-true _ e) in (c, m, below-zero (claimAt structural f c) fails),
-  λ h. ap not (by-truth (λ (b : Bool). b ≡ false) (meetsEvery claims f) (λ e. absurd (clashℤ (h .2) (nonneg-test _ (every-member (isMet structural f) e (h .1))))) (λ e. refl)),
+unmet-told p f = (
+  λ e. let (c, m, fails) = some-failing (isMet (measureIn p) f) (claimsOn (atomKey f) (p .claims)) (not-true _ e) in (c, m, below-zero (claimAt (measureIn p) f c) fails),
+  λ h. ap not (by-truth (λ (b : Bool). b ≡ false) (meetsEvery p f) (λ e. absurd (clashℤ (h .2) (nonneg-test _ (every-member (isMet (measureIn p) f) e (h .1))))) (λ e. refl)),
 )
 
 headless-told : (p : Pack) → (any (isHeadless p) (p .predicates) ≡ true) ↔ ((x : Predicate) × Headless p x)
@@ -275,6 +274,6 @@ module _ (w : Written) (l : Bytes) (unended : w .ended ≡ false) (reached : Rea
     subgoals = λ is. told w l 12 _ (of-letter B is 12 refl refl ∙ or-false _) (one-told _ _ (limit-told subgoalLimit _) (past-told variableLimit _));
     unjustified = λ is. told w l 13 _ (of-letter M is 13 refl refl ∙ or-false _) (negative-told (residualDue p (multipliersFrom fields)));
     variable = λ is. told w l 21 _ (of-letter G is 21 refl refl ∙ or-false _) (some-member (allVariables (atomFrom fields .terms)));
-    unmet = λ is. told w l 22 _ (of-letter G is 22 refl refl ∙ or-false _) (unmet-told (p .claims) (atomFrom fields));
+    unmet = λ is. told w l 22 _ (of-letter G is 22 refl refl ∙ or-false _) (unmet-told p (atomFrom fields));
     headless = λ is. told w l 24 _ (of-letter E is 24 refl refl ∙ or-false _) (headless-told p);
   }

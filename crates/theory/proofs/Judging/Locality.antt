@@ -8,8 +8,8 @@ use lib.Dec.{leb}
 use lib.ListN.{length}
 use Rattle.theory.specs.Lists.{isEmpty, _∈_}
 use Rattle.theory.specs.Text.{Bytes, fieldsOf}
-use Rattle.theory.specs.Sizes.{Measure, structural}
-use Rattle.theory.specs.Packs.{Claim, Atom, Pack, ruleLimit, atomKey, claimsOn, claimsOnAll}
+use Rattle.theory.specs.Sizes.{Measure}
+use Rattle.theory.specs.Packs.{Claim, Atom, Pack, measureIn, ruleLimit, atomKey, claimsOn, claimsOnAll}
 use Rattle.theory.specs.declared.Letter.{Letter}
 use Rattle.theory.specs.declared.Letter.the-variants.{H, B, M}
 use Rattle.theory.specs.Written.{lineLetter, multipliersFrom}
@@ -24,10 +24,11 @@ pub data OfRule : Letter → Type 0 where
   multipliers : OfRule M
 
 -- Two packs are alike for a line: it means the same predicate in both (by the arity of an `H` line, which is that of a `B`
--- line too), their last rules are the same, both or neither have come to the limit of rules, and they have the same claims on
--- the predicates of the last rule.
+-- line too), they have one measure, their last rules are the same, both or neither have come to the limit of rules, and they have
+-- the same claims on the predicates of the last rule.
 pub record Alike (fields : List Bytes) (p q : Pack) : Type 0 where
   pub found : meantBy H fields p ≡ meantBy H fields q
+  pub measure : measureIn p ≡ measureIn q
   pub started : isEmpty (p .rules) ≡ isEmpty (q .rules)
   pub rule : lastRule p ≡ lastRule q
   pub full : leb ruleLimit (length (p .rules)) ≡ leb ruleLimit (length (q .rules))
@@ -59,7 +60,7 @@ module _ (fields : List Bytes) (p q : Pack) (alike : Alike fields p q) where
   -- the residual that an `M` line leaves
   pub residual-alike : (ms : List ℕ) → residualDue p ms ≡ residualDue q ms
   unfolding residualDue residual
-  residual-alike ms = rw (head-alike, alike .rule, forms-alike structural (p .claims) (q .claims) (lastRule q .subgoals) (λ a m. alike .claims a (List·Memᴰ·tail m)))
+  residual-alike ms = rw (alike .measure, head-alike, alike .rule, forms-alike (measureIn q) (p .claims) (q .claims) (lastRule q .subgoals) (λ a m. alike .claims a (List·Memᴰ·tail m)))
 
   found-subgoal : meantBy B fields p ≡ meantBy B fields q
   unfolding lineArity

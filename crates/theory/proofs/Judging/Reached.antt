@@ -9,7 +9,7 @@ use native.Mathlib.Omega.{arith}
 use lib.ListN.{length}
 use Rattle.theory.specs.Lists.{_∈_, ending}
 use Rattle.theory.specs.Text.{Bytes}
-use Rattle.theory.specs.Packs.{Predicate, Claim, Atom, Rule, Pack, predicateLimit, claimLimit, ruleLimit, Key, keyOf, claimKey, declaredAs, claimsOn, onSubgoals, onMultipliers, onPredicates, onClaims, onFacts, onRules, opening, headAlone, fromRules, fromFacts, fromClaims}
+use Rattle.theory.specs.Packs.{Predicate, Claim, Atom, Rule, Pack, measureIn, predicateLimit, claimLimit, ruleLimit, Key, keyOf, claimKey, declaredAs, claimsOn, onSubgoals, onMultipliers, onPredicates, onClaims, onFacts, onRules, opening, headAlone, fromRules, fromFacts, fromClaims}
 use Rattle.theory.specs.Faults.{noRule, lastRule, isComplete}
 use Rattle.theory.specs.Limits.{PredicateFits, ClaimFits, FactFits}
 use Rattle.theory.specs.Written.{onLast}
@@ -33,7 +33,7 @@ pub record Reached (p : Pack) : Type 0 where
   pub claims : (c : Claim) → c ∈ p .claims → ClaimFits (p .predicates) c
   pub fewClaims : (k : Key) → length (claimsOn k (p .claims)) ≤ claimLimit
   pub facts : (f : Atom) → f ∈ p .facts → FactFits (p .predicates) f
-  pub met : (f : Atom) → f ∈ p .facts → MeetsEach (p .claims) f
+  pub met : (f : Atom) → f ∈ p .facts → MeetsEach (measureIn p) (p .claims) f
   pub rules : (r : Rule) → r ∈ p .rules → Begun (opening p) r
   pub earlier : (r : Rule) → r ∈ dropLast (p .rules) → IsWhole (p .claims) r
   pub fewRules : length (p .rules) ≤ ruleLimit
@@ -80,7 +80,7 @@ after-claim c p reached later fits room = record {
     factless : (p .facts ≡ []) × (fromRules p ≡ [])
     factless = no-facts p later
 
-after-fact : (f : Atom) (p : Pack) → Reached p → fromRules p ≡ [] → FactFits (p .predicates) f → MeetsEach (p .claims) f → Reached (onFacts (ending f) p)
+after-fact : (f : Atom) (p : Pack) → Reached p → fromRules p ≡ [] → FactFits (p .predicates) f → MeetsEach (measureIn p) (p .claims) f → Reached (onFacts (ending f) p)
 after-fact f p reached later fits meets = record {
   predicates = reached .predicates;
   distinct = reached .distinct;
@@ -88,7 +88,7 @@ after-fact f p reached later fits meets = record {
   claims = reached .claims;
   fewClaims = reached .fewClaims;
   facts = all-end (FactFits (p .predicates)) (p .facts) f (reached .facts) fits;
-  met = all-end (MeetsEach (p .claims)) (p .facts) f (reached .met) meets;
+  met = all-end (MeetsEach (measureIn p) (p .claims)) (p .facts) f (reached .met) meets;
   rules = λ r m. absurd (member-unempty m (no-rules p later));
   earlier = reached .earlier;
   fewRules = reached .fewRules;

@@ -7,8 +7,8 @@ use Prim.Native.Nat.{ℕ, _≤_, _<_}
 use lib.ListN.{length}
 use Rattle.theory.specs.Lists.{_∈_, ending}
 use Rattle.theory.specs.Text.{Bytes}
-use Rattle.theory.specs.Sizes.{structural}
-use Rattle.theory.specs.Packs.{ruled, Predicate, Claim, Atom, Rule, Pack, predicateLimit, claimLimit, ruleLimit, subgoalLimit, variableLimit, keyOf, claimKey, declaredAs, claimsOn, predicateLine, claimLine, factLine, headLine, subgoalLine, multiplierLine, onSubgoals, onMultipliers, onPredicates, onClaims, onFacts, onRules, opening, headAlone, atomKey, fromRules, fromFacts, fromClaims}
+use Rattle.theory.specs.Sizes.{Measure}
+use Rattle.theory.specs.Packs.{ruled, Predicate, Claim, Atom, Rule, Pack, measureIn, predicateLimit, claimLimit, ruleLimit, subgoalLimit, variableLimit, keyOf, claimKey, declaredAs, claimsOn, predicateLine, claimLine, factLine, headLine, subgoalLine, multiplierLine, onSubgoals, onMultipliers, onPredicates, onClaims, onFacts, onRules, opening, headAlone, atomKey, fromRules, fromFacts, fromClaims}
 use Rattle.theory.specs.Written.{onLast}
 use Rattle.theory.specs.Residuals.{ruleVariables}
 use Rattle.theory.specs.Faults.{isComplete, lastRule}
@@ -19,8 +19,8 @@ abbrev pub parts : List Predicate → List Claim → List Atom → List Rule →
 parts ps cs fs rs = record { predicates = ps; claims = cs; facts = fs; rules = rs }
 
 -- a fact meets every claim on its predicate
-abbrev pub MeetsEach : List Claim → Atom → Type 0
-MeetsEach claims f = (c : Claim) → c ∈ claimsOn (atomKey f) claims → Meets structural f c
+abbrev pub MeetsEach : Measure → List Claim → Atom → Type 0
+MeetsEach m claims f = (c : Claim) → c ∈ claimsOn (atomKey f) claims → Meets m f c
 
 -- after lines that write p, the line with these fields may come next, and then they write the other pack
 pub data Step (p : Pack) : List Bytes → Pack → Type 0 where
@@ -28,7 +28,7 @@ pub data Step (p : Pack) : List Bytes → Pack → Type 0 where
       → length (p .predicates) < predicateLimit → Step p (predicateLine x) (onPredicates (ending x) p)
   claimStep : (c : Claim) → fromFacts p ≡ [] → ClaimFits (p .predicates) c → length (claimsOn (claimKey c) (p .claims)) < claimLimit
       → Step p (claimLine c) (onClaims (ending c) p)
-  factStep : (f : Atom) → fromRules p ≡ [] → FactFits (p .predicates) f → MeetsEach (p .claims) f
+  factStep : (f : Atom) → fromRules p ≡ [] → FactFits (p .predicates) f → MeetsEach (measureIn p) (p .claims) f
       → Step p (factLine f) (onFacts (ending f) p)
   headStep : (a : Atom) → isComplete p ≡ true → (fits : AtomFits (p .predicates) a) → fits .predicate .kind ≡ ruled
       → length (p .rules) < ruleLimit → length (ruleVariables a []) ≤ variableLimit

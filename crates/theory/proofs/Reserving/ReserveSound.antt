@@ -4,11 +4,10 @@ use Prim.Native.Nat.{ℕ, _≤_}
 use native.Mathlib.Omega.{arith}
 use lib.Signed.{clashℤ}
 use Rattle.theory.specs.Lists.{_∈_}
-use Rattle.theory.specs.Packs.{Claim, Atom, Pack, Key, claimsOn}
+use Rattle.theory.specs.Packs.{Claim, Atom, Pack, measureIn, Key, claimsOn}
 use Rattle.theory.specs.Reserve.{Query, queryKey, sizeAt, HasKnownSizes}
 use Rattle.theory.specs.SmallestBound.{UsableClaim, BoundGiven, ImpossibleBy}
 use Rattle.theory.specs.Facts.{MeetsAll}
-use Rattle.theory.specs.Sizes.{structural}
 use Rattle.theory.proofs.Reserving.Bounds.{Bounding, numerator-nonneg, asked-bounded}
 use Rattle.theory.proofs.Judging.Keys.{on-member}
 use Rattle.theory.proofs.Reserving.ClaimWords.{usable-passes, numerator-told, bound-only}
@@ -19,7 +18,7 @@ module _ (p : Pack) (Holds : Atom → Type 0)
     (meets : (f : Atom) → Holds f → MeetsAll p f)
     (q : Query) (asks : Asks q)
   where
-    bounding : (n : ℕ) (c : Claim) (f : Atom) → UsableClaim p q n c → Holds f → HasKnownSizes structural q f → Bounding structural q c f
+    bounding : (n : ℕ) (c : Claim) (f : Atom) → UsableClaim p q n c → Holds f → HasKnownSizes (measureIn p) q f → Bounding (measureIn p) q c f
     bounding n c f usable holds known =
         let member = numbered-member (usable .numbered) in
         let claimed = on-member (queryKey q) (p .claims) c member .1 in
@@ -32,8 +31,8 @@ module _ (p : Pack) (Holds : Atom → Type 0)
           meets = meets f holds .meets c (subst (λ k. c ∈ claimsOn k (p .claims)) (sym (known .ofPredicate)) member);
         }
 
-    pub bound-kept : (bound n : ℕ) → BoundGiven p q bound n → (f : Atom) → Holds f → HasKnownSizes structural q f → sizeAt structural (q .asked) f ≤ bound
-    bound-kept bound n b f holds known = omega (arith, asked-bounded structural q (b .claim) f (bounding n (b .claim) f (b .usable) holds known), bound-only q (b .claim) (b .usable .isUsable) bound (b .isBound))
+    pub bound-kept : (bound n : ℕ) → BoundGiven p q bound n → (f : Atom) → Holds f → HasKnownSizes (measureIn p) q f → sizeAt (measureIn p) (q .asked) f ≤ bound
+    bound-kept bound n b f holds known = omega (arith, asked-bounded (measureIn p) q (b .claim) f (bounding n (b .claim) f (b .usable) holds known), bound-only q (b .claim) (b .usable .isUsable) bound (b .isBound))
 
-    pub none-such : (n : ℕ) → ImpossibleBy p q n → (f : Atom) → Holds f → HasKnownSizes structural q f → ⊥
-    none-such n i f holds known = clashℤ (i .negative) (rw (numerator-told q (i .claim)) at (numerator-nonneg structural q (i .claim) f (bounding n (i .claim) f (i .usable) holds known)))
+    pub none-such : (n : ℕ) → ImpossibleBy p q n → (f : Atom) → Holds f → HasKnownSizes (measureIn p) q f → ⊥
+    none-such n i f holds known = clashℤ (i .negative) (rw (numerator-told q (i .claim)) at (numerator-nonneg (measureIn p) q (i .claim) f (bounding n (i .claim) f (i .usable) holds known)))

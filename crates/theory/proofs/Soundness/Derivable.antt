@@ -9,9 +9,9 @@ use Rattle.groundwork.proofs.Lists.{member-getD}
 use Rattle.theory.specs.Lists.{_∈_}
 use Rattle.theory.specs.Text.{Bytes}
 use Rattle.theory.specs.Terms.{Substitution}
-use Rattle.theory.specs.Sizes.{Measure, structural, size}
+use Rattle.theory.specs.Sizes.{Measure, size}
 use Rattle.theory.specs.Forms.{Form, valueAt}
-use Rattle.theory.specs.Packs.{Claim, Atom, Rule, Pack, atomKey, claimsOn, noClaim}
+use Rattle.theory.specs.Packs.{Claim, Atom, Rule, Pack, measureIn, atomKey, claimsOn, noClaim}
 use Rattle.theory.specs.Residuals.{subgoalForms, combined, residual, ruleVariables}
 use Rattle.theory.specs.Limits.{Formed, NonNegative, Justified}
 use Rattle.theory.specs.Facts.{IsFact, Meets, MeetsAll}
@@ -69,6 +69,6 @@ module _ (p : Pack) (Given : Atom → Type 0) (givenFact : (f : Atom) → Given 
   derivable-meets justified f (byRule r m σ below) = record {
     meets = λ c n.
         let found = member-getD noClaim (rw (key-under σ (r .head)) at n) in
-        let subgoals : SubgoalsMeet structural (p .claims) r σ = λ a l d k. derivable-meets justified (atomUnder σ a) (below a l) .meets d (rw (key-under σ a) k) in
-        subst (Meets structural (atomUnder σ (r .head))) (found .2) (rule-keeps structural (p .claims) r σ subgoals _ _ (justified .rules r m .every (found .0) (found .1)));
+        let subgoals : SubgoalsMeet (measureIn p) (p .claims) r σ = λ a l d k. derivable-meets justified (atomUnder σ a) (below a l) .meets d (rw (key-under σ a) k) in
+        subst (Meets (measureIn p) (atomUnder σ (r .head))) (found .2) (rule-keeps (measureIn p) (p .claims) r σ subgoals _ _ (justified .rules r m .every (found .0) (found .1)));
   }

@@ -13,9 +13,8 @@ use Rattle.groundwork.proofs.Lists.{flatMap-member, length-flatMap, getD-member
 use Rattle.theory.specs.Lists.{_∈_}
 use Rattle.theory.specs.Text.{Bytes, fieldsOf}
 use Rattle.theory.specs.Terms.{AllWellFormed}
-use Rattle.theory.specs.Sizes.{structural}
 use Rattle.theory.specs.Forms.{Form}
-use Rattle.theory.specs.Packs.{Claim, Atom, Rule, Pack, lineLimit, claimLimit, subgoalLimit, numberLimit, noClaim, atomKey, claimsOn, headLine, subgoalLine, claimLine, factLine, predicateLine, ruleLines, line, fromRules, fromFacts, fromClaims, fromPredicates, opening}
+use Rattle.theory.specs.Packs.{Claim, Atom, Rule, Pack, measureIn, lineLimit, claimLimit, subgoalLimit, numberLimit, noClaim, atomKey, claimsOn, headLine, subgoalLine, claimLine, factLine, predicateLine, ruleLines, line, fromRules, fromFacts, fromClaims, fromPredicates, opening}
 use Rattle.theory.specs.declared.Letter.the-variants.{M}
 use Rattle.theory.specs.Written.{lineLetter, Written, nothing, writeAll, multipliersFrom}
 use Rattle.theory.specs.Residuals.{claimForm, subgoalForms}
@@ -32,7 +31,7 @@ use Rattle.theory.proofs.Judging.FaultNumbers.{OfLetter, past-place, pa
 use Rattle.theory.proofs.Judging.FineRuns.{ReachedShort, reached-short}
 use Rattle.theory.proofs.Judging.MultiplierLines.{multipliers-fit}
 use Rattle.theory.proofs.Soundness.SubgoalForms.{of-subgoal}
-use Rattle.theory.proofs.Soundness.FormBounds.{Within, within-more, within-times, within-combined, within-residual, structural-moderate, within-claim}
+use Rattle.theory.proofs.Soundness.FormBounds.{Moderate, Within, within-more, within-times, within-combined, within-residual, structural-moderate, within-claim}
 
 -- of a claim's form: its numbers times what the tokens of a line count
 abbrev claimFormLimit : ℕ
@@ -53,6 +52,10 @@ take-member {A} {a} i l m = subst (λ (k : List A). a ∈ k) (take-append-drop i
 
 -- a rule of a pack that lines have written so far
 module _ (p : Pack) (so : ReachedShort p) (r : Rule) (isRule : r ∈ p .rules) where
+  -- no symbol counts more than nine
+  moderate : Moderate 9 (measureIn p)
+  moderate = structural-moderate
+
   begun : Begun (opening p) r
   begun = so .reached .rules r isRule
 
@@ -70,14 +73,14 @@ module _ (p : Pack) (so : ReachedShort p) (r : Rule) (isRule : r ∈ p .rules) w
   subgoal-tokens a n = le-trans (atom-line-length _ a) (rule-line _ (List·Memᴰ·tail (Memᴰ·append-left _ (Memᴰ·map subgoalLine n))))
 
   claim-within : (a : Atom) → AllWellFormed (a .terms) → tokenCount (a .terms) ≤ lineLimit → (c : Claim) → c ∈ p .claims → (cs : List ℤ) → ((z : ℤ) → z ∈ cs → z ∈ c .coefficients)
-      → Within claimFormLimit (claimForm structural a (record { name = c .name; constant = c .constant; coefficients = cs }))
+      → Within claimFormLimit (claimForm (measureIn p) a (record { name = c .name; constant = c .constant; coefficients = cs }))
   claim-within a formed few c m cs part =
       let claim = so .reached .claims c m in
-      within-claim 9 structural structural-moderate numberLimit lineLimit a _ (claim .constant) (λ z n. claim .coefficients z (part z n)) formed few
+      within-claim 9 (measureIn p) moderate numberLimit lineLimit a _ (claim .constant) (λ z n. claim .coefficients z (part z n)) formed few
 
-  form-within : (f : Form) → f ∈ subgoalForms structural (p .claims) (r .subgoals) → Within claimFormLimit f
+  form-within : (f : Form) → f ∈ subgoalForms (measureIn p) (p .claims) (r .subgoals) → Within claimFormLimit f
   form-within f n =
-      let found = of-subgoal structural (p .claims) (r .subgoals) f n in
+      let found = of-subgoal (measureIn p) (p .claims) (r .subgoals) f n in
       let a = found .subgoal in
       let claimed = on-member (atomKey a) (p .claims) (found .claim) (found .isClaim) .0 in
       rw (found .is) (claim-within a (begun .subgoals a (found .isSubgoal) .formed) (subgoal-tokens a (found .isSubgoal)) (found .claim) claimed (found .claim .coefficients) (λ z k. k))
@@ -94,7 +97,7 @@ module _ (p : Pack) (so : ReachedShort p) (r : Rule) (isRule : r ∈ p .rules) w
     small : (i : ℕ) (k : ℕ) → k ∈ take i ms → k ≤ numberLimit
     small i k n = fit .small k (take-member i ms n)
 
-    pub forms-in-range : FormsInRange (p .claims) r c ms
+    pub forms-in-range : FormsInRange p r c ms
     forms-in-range = record {
       head = λ i. small-range (claim-within (r .head) (begun .head .formed) head-tokens c isClaim (take i (c .coefficients)) (λ z n. take-member i _ n));
       subgoals = λ a m d n i.
@@ -102,7 +105,7 @@ module _ (p : Pack) (so : ReachedShort p) (r : Rule) (isRule : r ∈ p .rules) w
       multiples = λ f n k l. in-range (within-more (omega arith) (within-times (pos k) f (fit .small k l) (form-within f n)));
       sums = λ i. in-range (within-more (omega (arith, some-few i)) (within-combined numberLimit claimFormLimit (take i ms) _ (small i) form-within));
       left = λ i.
-          in-range (within-more (omega (arith, some-few i)) (within-residual numberLimit claimFormLimit structural (p .claims) (r .head) (r .subgoals) c (take i ms)
+          in-range (within-more (omega (arith, some-few i)) (within-residual numberLimit claimFormLimit (measureIn p) (p .claims) (r .head) (r .subgoals) c (take i ms)
           (claim-within (r .head) (begun .head .formed) head-tokens c isClaim (c .coefficients) (λ z n. n)) (small i) form-within));
     }
 
@@ -129,7 +132,7 @@ module _ (before : List Bytes) (l : Bytes) (fine : AllFine whole nothing before)
       let (counted, rest) = passed-over 9 n _ _ (λ h. apart 9 (λ k. omega arith) (λ k. omega arith) (sym h)) (rw isM at (place .found)) in
       multipliers-fit (w .pack) (fieldsOf l) counted (passed-over 10 n _ _ (λ h. apart 10 (λ k. omega arith) (λ k. omega arith) (sym h)) rest .0)
 
-  judged-range : FormsInRange (w .pack .claims) (lastRule (w .pack)) (claimDue (w .pack)) (multipliersFrom (fieldsOf l))
+  judged-range : FormsInRange (w .pack) (lastRule (w .pack)) (claimDue (w .pack)) (multipliersFrom (fieldsOf l))
   judged-range =
       let p = w .pack in
       let claimed = on-member (atomKey (lastRule p .head)) (p .claims) (claimDue p) (getD-member (headClaims p) (length (lastRule p .multipliers)) noClaim (due-from-incomplete p due)) .0 in

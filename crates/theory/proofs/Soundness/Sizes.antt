@@ -2,7 +2,7 @@
 use mathlib.Core.Path.{_≡_, refl, sym, _∙_, ap, ap₂}
 use mathlib.Core.Bool.{Bool, true, false, cond}
 use mathlib.Core.List.{List, [], _∷_, _++_, flatten}
-use mathlib.Core.List.{List·Memᴰ·head, List·Memᴰ·not-nil, List·Memᴰ·cases-cons, Memᴰ·cast, Memᴰ·append-left, Memᴰ·append-right}
+use mathlib.Core.List.{List·Memᴰ·head, List·Memᴰ·not-nil, List·Memᴰ·cases-cons, List·Memᴰ·append-cases, Memᴰ·cast, Memᴰ·append-left, Memᴰ·append-right}
 use mathlib.Core.Logic.{⊎-elim}
 use Prim.Native.Nat.{ℕ, suc, _+_}
 use native.Mathlib.Omega.{arith}
@@ -47,6 +47,22 @@ mutual
   pub all-ground-under : (σ : Substitution) (ts : Terms) → AllGround (allUnder σ ts)
   all-ground-under σ nil = refl
   all-ground-under σ (cons t ts) = ap₂ (λ xs ys. xs ++ ys) (ground-under σ t) (all-ground-under σ ts)
+
+-- ---- what counts in a term stands in it
+
+mutual
+  unfolding counted variables flagged flatten
+
+  pub counted-variable : (m : Measure) (t : Term) {x : Bytes} → x ∈ counted m t → x ∈ variables t
+  counted-variable m (variable y) n = n
+  counted-variable m (symbol f ts) n = flagged-variable m ts (m f (arity ts) .flags) n
+
+  flagged-variable : (m : Measure) (ts : Terms) (flags : List Bool) {x : Bytes} → x ∈ flatten (flagged flags (argumentsCounted m ts)) → x ∈ allVariables ts
+  flagged-variable m nil [] n = absurd (List·Memᴰ·not-nil n)
+  flagged-variable m nil (flag ∷ flags) n = absurd (List·Memᴰ·not-nil n)
+  flagged-variable m (cons t ts) [] n = absurd (List·Memᴰ·not-nil n)
+  flagged-variable m (cons t ts) (true ∷ flags) n = ⊎-elim (λ k. Memᴰ·append-left (allVariables ts) (counted-variable m t k)) (λ k. Memᴰ·append-right (variables t) (flagged-variable m ts flags k)) (List·Memᴰ·append-cases (counted m t) n)
+  flagged-variable m (cons t ts) (false ∷ flags) n = Memᴰ·append-right (variables t) (flagged-variable m ts flags n)
 
 -- ---- forms of terms
 
