@@ -89,7 +89,7 @@ pub fn time(kinds: Vec<Kind>) -> Vec<Timed> {
     rows
 }
 
-/// A table in Markdown, as README has it: check in the library against the plain one, its cost, and the library's sheet
+/// A table in Markdown, as bench/README.md has it: check in the library against the plain one, its cost, and the library's sheet
 /// against its check.
 pub fn show(rows: &[Timed]) {
     println!("| packs | library / plain | library | sheet / check |");

@@ -95,8 +95,8 @@ struct cerrundix_answer cerrundix_import(const uint8_t *text, size_t text_length
 #define CERRUNDIX_IMPORT_ROOM(text_length) (2 * (size_t)(text_length))
 
 /* The first three calls by prefixed names, for code that has the prefix everywhere. Where a name is a macro, as when the
- * archive's own names are changed (README.md), the declaration above has the name that it stands for, and there is none
- * here. */
+ * archive's own names are changed (docs/LIBRARY.md), the declaration above has the name that it stands for, and there is
+ * none here. */
 #ifndef check
 static inline uint64_t cerrundix_check(const uint8_t *text, size_t text_length, int64_t *area, size_t area_length) {
     return check(text, text_length, area, area_length);

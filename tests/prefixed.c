@@ -1,5 +1,5 @@
 // Calls the library by prefixed names alone; tests/renaming builds it twice. With -DRENAMED it is a program that has
-// functions check, reserve and measure of its own, and includes the header by README's recipe, from recipe.h.
+// functions check, reserve and measure of its own, and includes the header by docs/LIBRARY.md's recipe, from recipe.h.
 #ifdef RENAMED
 #include "recipe.h"
 static int own_calls;

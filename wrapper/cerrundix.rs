@@ -1,21 +1,53 @@
-//! A safe wrapper over libcerrundix.a, with no dependencies: the answers as enums, the residual by value.
+//! A safe wrapper over libcerrundix.a, with no dependencies: the answers as enums, the residual by value. `calls` has them
+//! as C sees them.
 
-mod calls {
-    /// Four numbers by value: 0 and counts, or those of a refusal.
-    #[repr(C)]
-    pub struct Answer {
-        pub number: u64,
-        pub line: u64,
-        pub rule: u64,
-        pub claim: u64,
+/// The five calls on slices, with the answers as the library gives them: C words, to be taken apart as the header does, or
+/// four numbers.
+pub mod calls {
+    mod library {
+        #[repr(C)]
+        pub struct Answer {
+            pub number: u64,
+            pub line: u64,
+            pub rule: u64,
+            pub claim: u64,
+        }
+
+        extern "C" {
+            pub fn check(text: *const u8, text_length: usize, area: *mut i64, area_length: usize) -> u64;
+            pub fn reserve(text: *const u8, text_length: usize, query: *const u8, query_length: usize) -> u64;
+            pub fn measure(term: *const u8, term_length: usize) -> u64;
+            pub fn cerrundix_sheet(text: *const u8, text_length: usize, page: *mut u8, page_length: usize) -> Answer;
+            pub fn cerrundix_import(text: *const u8, text_length: usize, buffer: *mut u8, buffer_length: usize) -> Answer;
+        }
     }
 
-    extern "C" {
-        pub fn check(text: *const u8, text_length: usize, area: *mut i64, area_length: usize) -> u64;
-        pub fn reserve(text: *const u8, text_length: usize, query: *const u8, query_length: usize) -> u64;
-        pub fn measure(term: *const u8, term_length: usize) -> u64;
-        pub fn cerrundix_sheet(text: *const u8, text_length: usize, page: *mut u8, page_length: usize) -> Answer;
-        pub fn cerrundix_import(text: *const u8, text_length: usize, buffer: *mut u8, buffer_length: usize) -> Answer;
+    /// The area changes only for 13, and then only its first 17 numbers.
+    pub fn check(text: &[u8], area: &mut [i64]) -> u64 {
+        // Safe: both buffers are live for the call and do not overlap, and the library stays within their lengths.
+        unsafe { library::check(text.as_ptr(), text.len(), area.as_mut_ptr(), area.len()) }
+    }
+
+    pub fn reserve(text: &[u8], query: &[u8]) -> u64 {
+        // Safe: both buffers are live for the call, and the library only reads them, within their lengths.
+        unsafe { library::reserve(text.as_ptr(), text.len(), query.as_ptr(), query.len()) }
+    }
+
+    pub fn measure(term: &[u8]) -> u64 {
+        // Safe: the buffer is live for the call, and the library only reads it, within its length.
+        unsafe { library::measure(term.as_ptr(), term.len()) }
+    }
+
+    pub fn sheet(text: &[u8], page: &mut [u8]) -> [u64; 4] {
+        // Safe: as for check.
+        let answer = unsafe { library::cerrundix_sheet(text.as_ptr(), text.len(), page.as_mut_ptr(), page.len()) };
+        [answer.number, answer.line, answer.rule, answer.claim]
+    }
+
+    pub fn import(text: &[u8], buffer: &mut [u8]) -> [u64; 4] {
+        // Safe: as for check.
+        let answer = unsafe { library::cerrundix_import(text.as_ptr(), text.len(), buffer.as_mut_ptr(), buffer.len()) };
+        [answer.number, answer.line, answer.rule, answer.claim]
     }
 }
 
@@ -111,8 +143,7 @@ pub const fn import_room(text_length: usize) -> usize {
 /// Checks a pack.
 pub fn check(pack: &[u8]) -> Verdict {
     let mut residual: Residual = [0; 17];
-    // Safe: both buffers are live for the call and do not overlap, and the library stays within their lengths.
-    let word = unsafe { calls::check(pack.as_ptr(), pack.len(), residual.as_mut_ptr(), residual.len()) };
+    let word = calls::check(pack, &mut residual);
     let (number, line, rule, claim) = (word as u8, (word >> 8) as u16, (word >> 24) as u8, word >> 32);
     match number {
         0 => Verdict::Accepted { lines: line, rules: rule, multiplier_lines: claim as u16 },
@@ -123,8 +154,7 @@ pub fn check(pack: &[u8]) -> Verdict {
 
 /// Reserves by a pack and a query.
 pub fn reserve(pack: &[u8], query: &[u8]) -> Reservation {
-    // Safe: both buffers are live for the call, and the library only reads them, within their lengths.
-    let word = unsafe { calls::reserve(pack.as_ptr(), pack.len(), query.as_ptr(), query.len()) };
+    let word = calls::reserve(pack, query);
     let (letter, claim, middle) = (word as u8, (word >> 8) as u8, word >> 16);
     match letter {
         b'B' => Reservation::Bound { size: middle, claim },
@@ -136,8 +166,7 @@ pub fn reserve(pack: &[u8], query: &[u8]) -> Reservation {
 
 /// Measures a ground term: its size, or the refusal 4, 11 or 19.
 pub fn measure(term: &[u8]) -> Result<u64, u8> {
-    // Safe: the buffer is live for the call, and the library only reads it, within its length.
-    let word = unsafe { calls::measure(term.as_ptr(), term.len()) };
+    let word = calls::measure(term);
     match word as u8 {
         0 => Ok(word >> 8),
         refusal => Err(refusal),
@@ -147,13 +176,10 @@ pub fn measure(term: &[u8]) -> Result<u64, u8> {
 /// Writes the sheet of a pack to the front of a page: a line of 64 columns and byte 10 for each rule. The rest of the page
 /// stays as it is, and all of it unless the sheet is filed. A page of `SHEET_LIMIT` bytes is long enough for every pack.
 pub fn sheet(pack: &[u8], page: &mut [u8]) -> Filing {
-    // Safe: both buffers are live for the call and do not overlap, and the library stays within their lengths.
-    let answer = unsafe { calls::cerrundix_sheet(pack.as_ptr(), pack.len(), page.as_mut_ptr(), page.len()) };
-    let calls::Answer { number, line, rule, claim } = answer;
-    match (number, line, rule, claim) {
-        (0, lines, rules, multiplier_lines) => Filing::Filed { lines, rules, multiplier_lines },
-        (23, 0, 0, 0) => Filing::ShortPage,
-        _ => Filing::Refused { number, line, rule, claim },
+    match calls::sheet(pack, page) {
+        [0, lines, rules, multiplier_lines] => Filing::Filed { lines, rules, multiplier_lines },
+        [23, 0, 0, 0] => Filing::ShortPage,
+        [number, line, rule, claim] => Filing::Refused { number, line, rule, claim },
     }
 }
 
@@ -161,14 +187,11 @@ pub fn sheet(pack: &[u8], page: &mut [u8]) -> Filing {
 /// byte 10. The rest of the buffer stays as it is, and all of it if the text is refused. A buffer of `import_room` bytes is
 /// long enough.
 pub fn import(text: &[u8], buffer: &mut [u8]) -> Result<Imported, ImportRefusal> {
-    // Safe: both buffers are live for the call and do not overlap, and the library stays within their lengths.
-    let answer = unsafe { calls::cerrundix_import(text.as_ptr(), text.len(), buffer.as_mut_ptr(), buffer.len()) };
-    let calls::Answer { number, line, rule, claim } = answer;
-    match (number, line, rule, claim) {
-        (0, clauses, bytes, 0) => Ok(Imported { clauses, bytes }),
-        (25, byte, 0, 0) => Err(ImportRefusal::NotInSubset { byte }),
-        (26, clause, 0, 0) => Err(ImportRefusal::PastLimit { clause }),
-        (27, clause, 0, 0) => Err(ImportRefusal::ShortBuffer { clause }),
-        _ => Err(ImportRefusal::Unknown([number, line, rule, claim])),
+    match calls::import(text, buffer) {
+        [0, clauses, bytes, 0] => Ok(Imported { clauses, bytes }),
+        [25, byte, 0, 0] => Err(ImportRefusal::NotInSubset { byte }),
+        [26, clause, 0, 0] => Err(ImportRefusal::PastLimit { clause }),
+        [27, clause, 0, 0] => Err(ImportRefusal::ShortBuffer { clause }),
+        numbers => Err(ImportRefusal::Unknown(numbers)),
     }
 }
