@@ -1,8 +1,8 @@
--- `page_writers::put_front` meets its contract. Assumes nothing.
-use Rattle.page_writers.proofs.PageParts.{front-put}
+-- `term_lines::put_front` meets its contract. Assumes nothing.
+use Rattle.term_lines.proofs.Pieces.{front-put}
 use borrow.Author.Needs.{needs}
-use Rattle.page_writers.proofs.put_front.Statement.{statement}
-use Rattle.page_writers.proofs.put_front.Tie as tie
+use Rattle.term_lines.proofs.put_front.Statement.{statement}
+use Rattle.term_lines.proofs.put_front.Tie as tie
 
 returns : tie.Need-returns
 returns c = search (needs, front-put)

@@ -1,8 +1,8 @@
--- `page_writers::put_numbered` meets its contract. Assumes nothing.
-use Rattle.page_writers.proofs.PageParts.{numbered-put}
+-- `term_lines::put_numbered` meets its contract. Assumes nothing.
+use Rattle.term_lines.proofs.Pieces.{numbered-put}
 use borrow.Author.Needs.{needs}
-use Rattle.page_writers.proofs.put_numbered.Statement.{statement}
-use Rattle.page_writers.proofs.put_numbered.Tie as tie
+use Rattle.term_lines.proofs.put_numbered.Statement.{statement}
+use Rattle.term_lines.proofs.put_numbered.Tie as tie
 
 returns : tie.Need-returns
 returns c = search (needs, numbered-put)

@@ -1,8 +1,8 @@
--- `page_writers::put_number` meets its contract. Assumes nothing.
-use Rattle.page_writers.proofs.PageParts.{number-put}
+-- `pages::put_number` meets its contract. Assumes nothing.
+use Rattle.pages.proofs.Places.{number-put}
 use borrow.Author.Needs.{needs}
-use Rattle.page_writers.proofs.put_number.Statement.{statement}
-use Rattle.page_writers.proofs.put_number.Tie as tie
+use Rattle.pages.proofs.put_number.Statement.{statement}
+use Rattle.pages.proofs.put_number.Tie as tie
 
 returns : tie.Need-returns
 returns c = search (needs, number-put)

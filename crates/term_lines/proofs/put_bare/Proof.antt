@@ -1,8 +1,8 @@
--- `page_writers::put_bare` meets its contract. Assumes nothing.
-use Rattle.page_writers.proofs.PageParts.{bare-put}
+-- `term_lines::put_bare` meets its contract. Assumes nothing.
+use Rattle.term_lines.proofs.Pieces.{bare-put}
 use borrow.Author.Needs.{needs}
-use Rattle.page_writers.proofs.put_bare.Statement.{statement}
-use Rattle.page_writers.proofs.put_bare.Tie as tie
+use Rattle.term_lines.proofs.put_bare.Statement.{statement}
+use Rattle.term_lines.proofs.put_bare.Tie as tie
 
 returns : tie.Need-returns
 returns c = search (needs, bare-put)

@@ -1,8 +1,8 @@
--- `page_writers::put_byte` meets its contract. Assumes nothing.
-use Rattle.page_writers.proofs.PageParts.{byte-put}
+-- `pages::put_byte` meets its contract. Assumes nothing.
+use Rattle.pages.proofs.Places.{byte-put}
 use borrow.Author.Needs.{needs}
-use Rattle.page_writers.proofs.put_byte.Statement.{statement}
-use Rattle.page_writers.proofs.put_byte.Tie as tie
+use Rattle.pages.proofs.put_byte.Statement.{statement}
+use Rattle.pages.proofs.put_byte.Tie as tie
 
 returns : tie.Need-returns
 returns c = search (needs, byte-put)
