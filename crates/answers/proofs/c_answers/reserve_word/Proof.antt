@@ -1,9 +1,9 @@
--- `cerrundix::reserve_word` meets its contract. Assumes nothing.
+-- `answers::c_answers::reserve_word` meets its contract. Assumes nothing.
 use mathlib.Core.Path.{refl}
 use borrow.Author.Needs.{needs}
 use Rattle.theory.specs.Words.{reserveWord}
-use Rattle.cerrundix.proofs.reserve_word.Statement.{statement}
-use Rattle.cerrundix.proofs.reserve_word.Tie as tie
+use Rattle.answers.proofs.c_answers.reserve_word.Statement.{statement}
+use Rattle.answers.proofs.c_answers.reserve_word.Tie as tie
 
 returns : tie.Need-returns
 unfolding reserveWord

@@ -1,9 +1,9 @@
--- `cerrundix::check_word` meets its contract. Assumes nothing.
+-- `answers::c_answers::check_word` meets its contract. Assumes nothing.
 use mathlib.Core.Path.{refl}
 use borrow.Author.Needs.{needs}
 use Rattle.theory.specs.Words.{checkWord}
-use Rattle.cerrundix.proofs.check_word.Statement.{statement}
-use Rattle.cerrundix.proofs.check_word.Tie as tie
+use Rattle.answers.proofs.c_answers.check_word.Statement.{statement}
+use Rattle.answers.proofs.c_answers.check_word.Tie as tie
 
 returns : tie.Need-returns
 unfolding checkWord

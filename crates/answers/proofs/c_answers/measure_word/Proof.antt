@@ -1,9 +1,9 @@
--- `cerrundix::measure_word` meets its contract. Assumes nothing.
+-- `answers::c_answers::measure_word` meets its contract. Assumes nothing.
 use mathlib.Core.Path.{refl}
 use borrow.Author.Needs.{needs}
 use Rattle.theory.specs.Words.{measureWord}
-use Rattle.cerrundix.proofs.measure_word.Statement.{statement}
-use Rattle.cerrundix.proofs.measure_word.Tie as tie
+use Rattle.answers.proofs.c_answers.measure_word.Statement.{statement}
+use Rattle.answers.proofs.c_answers.measure_word.Tie as tie
 
 returns : tie.Need-returns
 unfolding measureWord

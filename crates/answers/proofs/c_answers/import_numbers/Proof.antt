@@ -1,9 +1,9 @@
--- `cerrundix::import_numbers` meets its contract. Assumes nothing.
+-- `answers::c_answers::import_numbers` meets its contract. Assumes nothing.
 use mathlib.Core.Path.{sym, _∙_, ap}
 use borrow.Author.Needs.{needs}
 use Rattle.clause_theory.specs.Importations.{importNumbers}
-use Rattle.cerrundix.proofs.import_numbers.Statement.{statement}
-use Rattle.cerrundix.proofs.import_numbers.Tie as tie
+use Rattle.answers.proofs.c_answers.import_numbers.Statement.{statement}
+use Rattle.answers.proofs.c_answers.import_numbers.Tie as tie
 
 returns : tie.Need-returns
 returns c = c .import-answer .ensures ∙ ap importNumbers (sym (c .before .before .importation .given .1))
