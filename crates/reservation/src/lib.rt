@@ -24,7 +24,7 @@ pub fn answer(
     requires { ⌜ (known ≤ 32) × (SafeSignatures (now signatures)) × (SafeClaims (now claims)) ⌝ }
     ensures { λ r. ⌜ Answers (now (query .entry)) (now (names .entry)) (now (signatures .entry)) (now (claims .entry)) known r ⌝ }
 {
-    let mut sizes = [65536u32; 8];
+    let mut sizes = [tables::UNKNOWN_SIZE; 8];
     let tested = queries::open_query(query, names, signatures, known, &mut sizes);
     match tested {
         Tested::Refused(refusal) => Reservation::QueryRefused(refusal),

@@ -44,6 +44,9 @@ pub type Slots = [u16; 256];
 /// Where names and variables stood before: any content will do.
 pub type Hints = words::Hints;
 
+/// What stands for an unknown size among those that a query gives: one more than the largest.
+pub const UNKNOWN_SIZE: u32 = 65536;
+
 /// The table of names before any line: zeros, as in the next two.
 pub fn no_names() -> Names
     ensures { λ r. ⌜ r ≡ replicate 64 0 ⌝ }
