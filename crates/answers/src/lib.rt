@@ -1,4 +1,4 @@
-// The answers of the calls as document 01's numbers and fields.
+// The answers of the calls as numbers: as document 01's numbers and fields, and as C gets them.
 ghost use mathlib.Core.Path.{_≡_};
 ghost use Rattle.theory.specs.Check.{numbers};
 ghost use Rattle.theory.specs.Reserve.{fields};
@@ -12,6 +12,15 @@ use theory::QueryRefusal;
 use theory::Refusal;
 use theory::Reservation;
 use theory::Verdict;
+
+mod c_answers;
+
+pub use c_answers::Answer;
+pub use c_answers::check_word;
+pub use c_answers::four_numbers;
+pub use c_answers::import_numbers;
+pub use c_answers::measure_word;
+pub use c_answers::reserve_word;
 
 /// Check's four numbers.
 pub struct Four {

@@ -11,31 +11,32 @@ use mir.Val.{SFits}
 use Rattle.groundwork.proofs.Magnitude.{natAbs-neg, natAbs-sub, mag-le-natAbs}
 use Rattle.groundwork.proofs.Truth.{never-both, ge-ltb, equal-eqb, eqb-different}
 use Rattle.forms.proofs.Results.{kept, Exact, exact-product}
+use Rattle.tables.specs.QuerySizes.{unknownSize}
 use Rattle.bounds.specs.Bounds.{blocked, share}
 
 -- ---- whether an argument rules a claim out
 
 module _ (number : ℤ) (size : ℕ) where
-  pub blocked-unknown : (flag : Bool) → SFits w64 number → size ≡ 65536 → flag ≡ ltZ (pos 0) (kept number) → flag ≡ blocked number size
-  blocked-unknown flag fits unknown e = rw (equal-eqb size 65536 unknown) (rw (toZ-ofZ fits) at e)
+  pub blocked-unknown : (flag : Bool) → SFits w64 number → size ≡ unknownSize → flag ≡ ltZ (pos 0) (kept number) → flag ≡ blocked number size
+  blocked-unknown flag fits unknown e = rw (equal-eqb size unknownSize unknown) (rw (toZ-ofZ fits) at e)
 
-  pub blocked-known : (size ≡ 65536 → ⊥) → false ≡ blocked number size
-  blocked-known other = rw (eqb-different size 65536 other)
+  pub blocked-known : (size ≡ unknownSize → ⊥) → false ≡ blocked number size
+  blocked-known other = rw (eqb-different size unknownSize other)
 
 -- ---- what an argument adds
 
-pub share-none : (number : ℤ) (size : ℕ) → size ≡ 65536 → pos 0 ≡ share number size
-share-none number size e = rw (equal-eqb size 65536 e)
+pub share-none : (number : ℤ) (size : ℕ) → size ≡ unknownSize → pos 0 ≡ share number size
+share-none number size e = rw (equal-eqb size unknownSize e)
 
-module _ (number : ℤ) (size : ℕ) (r : ℤ) (small : (natAbs number ≤ 9999) × (size ≤ 65536)) (read : r ≡ pos size) where
+module _ (number : ℤ) (size : ℕ) (r : ℤ) (small : (natAbs number ≤ 9999) × (size ≤ unknownSize)) (read : r ≡ pos size) where
   product : Exact _*ℤ_ number r
   product = rw read (exact-product number (pos size) (omega arith) (omega arith))
 
   pub share-fits : SFits w64 (kept number *ℤ kept r)
   share-fits = product .fits
 
-  pub share-is : (size ≡ 65536 → ⊥) → kept (kept number *ℤ kept r) ≡ share number size
-  share-is other = product .result ∙ rw (read, eqb-different size 65536 other)
+  pub share-is : (size ≡ unknownSize → ⊥) → kept (kept number *ℤ kept r) ≡ share number size
+  share-is other = product .result ∙ rw (read, eqb-different size unknownSize other)
 
 -- ---- 0 − z, of a number below 0
 

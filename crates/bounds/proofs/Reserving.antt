@@ -2,7 +2,7 @@
 use mathlib.Core.Path.{_≡_, refl, sym, _∙_, ap}
 use mathlib.Core.Bool.{true, false, cond}
 use mathlib.Core.List.{List, _∷_}
-use Prim.Native.Nat.{ℕ, _+_, _*_, _≤_, _<_}
+use Prim.Native.Nat.{ℕ, _+_, _≤_, _<_}
 use Prim.Native.Char.{code}
 use native.Mathlib.Numerals.{add-one}
 use native.Mathlib.Omega.{arith}
@@ -15,6 +15,7 @@ use Rattle.theory.specs.Reserve.{Query, boundBy, fields}
 use Rattle.theory.specs.declared.Bound.{Bound}
 use Rattle.theory.specs.declared.Reservation.the-variants.{Bounded, NoBound, Impossible}
 use Rattle.theory.proofs.Reserving.UsableClaims.{isImpossible}
+use Rattle.tables.specs.Tables.{claimPlace}
 use Rattle.bounds.specs.Bounds.{UsedFor, Uses, boundOf, smallerOf, betterOf, reservationFrom, ClaimsStand, ReservesBy}
 use Rattle.bounds.specs.declared.Use.{Use}
 use Rattle.bounds.proofs.Resuming.{settled, resumed, from-first}
@@ -46,13 +47,13 @@ module _ {claims : List ℤ} {predicate count arity asked : ℕ} {sizes : List �
 
   module _ {i : ℕ} {best : Bound} (reserving : Reserving claims predicate count arity asked sizes i best) where
     -- a turn
-    module _ (less : i < count) {u : Use} (uses : Uses claims ((predicate * 16 + i) * 9) arity asked sizes u) (k : ℕ) (is : k ≡ i + 1) where
+    module _ (less : i < count) {place : ℕ} (here : place ≡ claimPlace predicate i) {u : Use} (uses : Uses claims place arity asked sizes u) (k : ℕ) (is : k ≡ i + 1) where
       module _ {q : Query} {cs : List Claim} (stands : ClaimsStand claims predicate count arity asked sizes q cs) where
         within : i < length cs
         within = omega (arith, stands .all)
 
         used : UsedFor q (getD cs i noClaim) u
-        used = uses .tells q _ (record { at = stands .at i within; full = stands .full i within; known = stands .known; stand = stands .stand }) (stands .asks)
+        used = uses .tells q _ (record { at = rw here (stands .at i within); full = stands .full i within; known = stands .known; stand = stands .stand }) (stands .asks)
 
         remaining : reservationFrom 1 q cs ≡ resumed q best k (getD cs i noClaim ∷ drop (i + 1) cs)
         remaining = reserving .tells q cs stands ∙ rw (is, add-one i, drop-cons cs i noClaim within)

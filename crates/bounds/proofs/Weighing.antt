@@ -20,7 +20,7 @@ use Rattle.forms.proofs.Results.{kept, Exact, constant-adds}
 use Rattle.theory.specs.Packs.{Claim}
 use Rattle.theory.specs.Reserve.{Query, unknownsAtMostZero, knownPart, numerator}
 use Rattle.tables.specs.Tables.{SafeClaims}
-use Rattle.tables.specs.QuerySizes.{entryOf, SafeSizes}
+use Rattle.tables.specs.QuerySizes.{unknownSize, entryOf, SafeSizes}
 use Rattle.bounds.specs.Bounds.{blocked, share, ClaimStands, Weighs}
 
 -- ---- one argument
@@ -30,19 +30,19 @@ at-most-zero (pos zero) = refl
 at-most-zero (pos (suc n)) = rw (gt-leb (suc n) 0 (omega arith), lt-ltb 0 (suc n) (omega arith))
 at-most-zero (negsuc n) = refl
 
--- a known size is below 65536, which stands for an unknown one
+-- a known size is below unknownSize, which stands for an unknown one
 module _ (number : ℤ) (numbers : List ℤ) where
-  unknowns-first : (size : Option ℕ) (sizes : List (Option ℕ)) → ((s : ℕ) → size ≡ some s → s < 65536)
+  unknowns-first : (size : Option ℕ) (sizes : List (Option ℕ)) → ((s : ℕ) → size ≡ some s → s < unknownSize)
       → unknownsAtMostZero (number ∷ numbers) (size ∷ sizes) ≡ (not (blocked number (entryOf size)) && unknownsAtMostZero numbers sizes)
   unfolding unknownsAtMostZero
   unknowns-first none sizes small = rw (at-most-zero number)
-  unknowns-first (some s) sizes small = rw (eqb-different s 65536 (λ e. omega (arith, small s refl)))
+  unknowns-first (some s) sizes small = rw (eqb-different s unknownSize (λ e. omega (arith, small s refl)))
 
-  known-first : (size : Option ℕ) (sizes : List (Option ℕ)) → ((s : ℕ) → size ≡ some s → s < 65536)
+  known-first : (size : Option ℕ) (sizes : List (Option ℕ)) → ((s : ℕ) → size ≡ some s → s < unknownSize)
       → knownPart (number ∷ numbers) (size ∷ sizes) ≡ share number (entryOf size) +ℤ knownPart numbers sizes
   unfolding knownPart
   known-first none sizes small = sym (+ℤ-idl (knownPart numbers sizes))
-  known-first (some s) sizes small = rw (eqb-different s 65536 (λ e. omega (arith, small s refl)))
+  known-first (some s) sizes small = rw (eqb-different s unknownSize (λ e. omega (arith, small s refl)))
 
 -- ---- the arguments from a place on
 
@@ -91,9 +91,9 @@ pub record Weighing (claims : List ℤ) (place arity : ℕ) (sizes : List ℕ) (
   pub small : natAbs sum ≤ 9999 + k * 655294464
   tells : (q : Query) (c : Claim) → ClaimStands claims place arity sizes q c → Left q c k sum
 
-share-small : (x : ℤ) (n : ℕ) → natAbs x ≤ 9999 → n ≤ 65536 → natAbs (share x n) ≤ 655294464
+share-small : (x : ℤ) (n : ℕ) → natAbs x ≤ 9999 → n ≤ unknownSize → natAbs (share x n) ≤ 655294464
 share-small x n few small =
-    by-truth (λ b. natAbs (cond b (pos 0) (x *ℤ pos n)) ≤ 655294464) (eqb n 65536)
+    by-truth (λ b. natAbs (cond b (pos 0) (x *ℤ pos n)) ≤ 655294464) (eqb n unknownSize)
     (λ e. omega arith)
     (λ e. omega (arith, natAbs-mul x (pos n), mul-le-mul few small))
 
@@ -132,7 +132,7 @@ module _ {claims : List ℤ} {place arity : ℕ} {sizes : List ℕ} where
       }
 
       module _ (safe : SafeClaims claims) (safeSizes : SafeSizes sizes) where
-        pub share-requires : (natAbs (kept y) ≤ 9999) × (getD sizes k 0 ≤ 65536)
+        pub share-requires : (natAbs (kept y) ≤ 9999) × (getD sizes k 0 ≤ unknownSize)
         share-requires = (rw read (safe .small (place + 1 + k)), safeSizes .small k)
 
         module _ (s : ℤ) (is : s ≡ share (kept y) (getD sizes k 0)) where

@@ -3,7 +3,7 @@ use mathlib.Core.Path.{_≡_}
 use mathlib.Core.Bool.{Bool, true, false, cond, not, _&&_}
 use mathlib.Core.List.{List}
 use mathlib.Core.Option.{none}
-use Prim.Native.Nat.{ℕ, _+_, _*_, _<_, _^_}
+use Prim.Native.Nat.{ℕ, _<_, _^_}
 use lib.Dec.{eqb, ltb}
 use lib.IntN.{ℤ, pos, natAbs, _*ℤ_}
 use lib.ListN.{length, getD}
@@ -13,18 +13,18 @@ use Rattle.theory.specs.Reserve.{Query, unknownsAtMostZero, isUsable, numerator
 use Rattle.theory.specs.Answers.{reservedFields, passedOn}
 use Rattle.theory.specs.declared.Bound.{Bound}
 use Rattle.theory.specs.declared.Reservation.{Reservation}
-use Rattle.tables.specs.Tables.{ClaimAt}
-use Rattle.tables.specs.QuerySizes.{SizesStand}
+use Rattle.tables.specs.Tables.{claimPlace, ClaimAt}
+use Rattle.tables.specs.QuerySizes.{unknownSize, SizesStand}
 use Rattle.bounds.specs.declared.Weighed.{Weighed}
 use Rattle.bounds.specs.declared.Use.{Use}
 
 -- an unknown argument with a number above 0
 abbrev pub blocked : ℤ → ℕ → Bool
-blocked number size = eqb size 65536 && ltZ (pos 0) number
+blocked number size = eqb size unknownSize && ltZ (pos 0) number
 
 -- what an argument adds to the numerator
 abbrev pub share : ℤ → ℕ → ℤ
-share number size = cond (eqb size 65536) (pos 0) (number *ℤ pos size)
+share number size = cond (eqb size unknownSize) (pos 0) (number *ℤ pos size)
 
 -- a claim with as many coefficients as the query gives sizes, and both in the tables
 pub record ClaimStands (claims : List ℤ) (place arity : ℕ) (sizes : List ℕ) (q : Query) (c : Claim) : Type 0 where
@@ -67,7 +67,7 @@ reservationFrom k q cs = impossibleOr (bounded q (usableFrom k q cs)) (impossibl
 -- the claims on the predicate at a place, and the query, in the tables
 pub record ClaimsStand (claims : List ℤ) (predicate count arity asked : ℕ) (sizes : List ℕ) (q : Query) (cs : List Claim) : Type 0 where
   pub all : count ≡ length cs
-  pub at : (j : ℕ) → j < length cs → ClaimAt claims ((predicate * 16 + j) * 9) (getD cs j noClaim)
+  pub at : (j : ℕ) → j < length cs → ClaimAt claims (claimPlace predicate j) (getD cs j noClaim)
   pub full : (j : ℕ) → j < length cs → length (getD cs j noClaim .coefficients) ≡ arity
   pub known : length (q .sizes) ≡ arity
   pub asks : asked ≡ q .asked

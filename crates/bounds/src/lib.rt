@@ -5,7 +5,7 @@ ghost use Prim.Native.Nat.{_+_, _≤_, _<_};
 ghost use lib.IntN.{pos, natAbs};
 ghost use lib.Signed.{ltZ};
 ghost use Rattle.tables.specs.Tables.{SafeClaims};
-ghost use Rattle.tables.specs.QuerySizes.{SafeSizes};
+ghost use Rattle.tables.specs.QuerySizes.{unknownSize, SafeSizes};
 ghost use Rattle.bounds.specs.Bounds.{share, blocked, Weighs, Uses, betterOf, ReservesBy};
 use tables::Claims;
 use theory::Bound;
@@ -21,7 +21,7 @@ fn is_positive(z: i64) -> bool
 fn is_blocked(number: i64, size: u32) -> bool
     ensures { λ r. ⌜ r ≡ blocked number size ⌝ }
 {
-    if size == 65536 {
+    if size == tables::UNKNOWN_SIZE {
         is_positive(number)
     } else {
         false
@@ -30,10 +30,10 @@ fn is_blocked(number: i64, size: u32) -> bool
 
 /// What an argument adds to the numerator: its size times the claim's number, or nothing where it is unknown.
 fn share_of(number: i64, size: u32) -> i64
-    requires { ⌜ (natAbs number ≤ 9999) × (size ≤ 65536) ⌝ }
+    requires { ⌜ (natAbs number ≤ 9999) × (size ≤ unknownSize) ⌝ }
     ensures { λ r. ⌜ r ≡ share number size ⌝ }
 {
-    if size == 65536 {
+    if size == tables::UNKNOWN_SIZE {
         return 0;
     }
     number * widths::u32_to_i64(size)
@@ -149,7 +149,13 @@ pub fn reserve_by(
     let mut best = Bound { size: 0, claim: 0 };
     let mut i: usize = 0;
     while i < count {
-        let u = use_claim(claims, (predicate * 16 + i) * 9, arity, asked, sizes);
+        let u = use_claim(
+            claims,
+            tables::claim_place(predicate, i),
+            arity,
+            asked,
+            sizes,
+        );
         if u.impossible {
             return Reservation::Impossible(widths::usize_to_u8(i + 1));
         }

@@ -14,7 +14,7 @@ fn put_number(page: &mut [u8], width: usize, n: usize) -> usize
 {
     let start = width - pages::digits(n as u64);
     pages::put_spaces(&mut page[..start]);
-    pages::put_field(page, start, n as u64, b' ')
+    pages::put_field(n as u64, b' ', page, start)
 }
 
 /// A name at the left edge of a column, and the space after it.

@@ -75,9 +75,9 @@ pub fn reply(input: &[u8]) -> Printed
         return Printed { page, length };
     }
     let end = replies::pack_end(input);
-    let mut names = [0u64; 64];
-    let mut signatures = [0u8; 96];
-    let mut claims = [0i16; 4608];
+    let mut names = tables::no_names();
+    let mut signatures = tables::no_signatures();
+    let mut claims = tables::no_claims();
     let l = packs::load(&input[..end], &mut names, &mut signatures, &mut claims);
     let verdict = l.verdict;
     let state = l.state;

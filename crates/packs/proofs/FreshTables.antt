@@ -1,10 +1,10 @@
 -- Tables of zeros, and the state before any line: they stand for a pack of nothing.
 use mathlib.Core.Path.{_≡_, refl, subst⁻¹}
-use mathlib.Core.List.{[]}
+use mathlib.Core.List.{List, []}
 use Prim.Native.Nat.{ℕ, _+_}
 use native.Mathlib.Omega.{arith}
-use lib.IntN.{pos}
-use lib.ListN.{length-replicate}
+use lib.IntN.{ℤ, pos}
+use lib.ListN.{length-replicate, replicate}
 use Rattle.groundwork.proofs.Lists.{same-everywhere}
 use Rattle.theory.specs.Lists.{isEmpty}
 use Rattle.theory.specs.Written.{nothing}
@@ -14,6 +14,7 @@ use Rattle.tables.specs.declared.State.{State}
 use Rattle.tables.proofs.PredicateSets.{set-nothing}
 use Rattle.tables.proofs.Shipping.{ships-nothing}
 use Rattle.tables.specs.Tables.{Tables, Holds, slotsOf, Safe}
+use Rattle.lines.specs.LineLoading.{unruled}
 use Rattle.packs.specs.Loading.{begun, fresh}
 
 pub fresh-safe : Safe fresh begun
@@ -43,6 +44,10 @@ fresh-holds =
       last = λ some. absurd (some refl);
       ended = refl;
     }
+
+-- tables that are made as zeros
+pub fresh-made : {names signatures : List ℕ} {claims : List ℤ} → names ≡ replicate 64 0 → signatures ≡ replicate 96 0 → claims ≡ replicate 4608 (pos 0) → unruled names signatures claims ≡ fresh
+fresh-made none-named none-signed none-claimed = rw (none-named, none-signed, none-claimed)
 
 -- tables of zeros and that state are ready for the lines
 pub fresh-ready : {t : Tables} {s : State} → t ≡ fresh → s ≡ begun → Safe t s

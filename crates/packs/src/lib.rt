@@ -181,9 +181,9 @@ pub fn check(text: &[u8], area: &mut [i64]) -> Verdict
     if area.len() < 17 {
         return Verdict::Refused(Refusal::ShortArea);
     }
-    let mut names = [0u64; 64];
-    let mut signatures = [0u8; 96];
-    let mut claims = [0i16; 4608];
+    let mut names = tables::no_names();
+    let mut signatures = tables::no_signatures();
+    let mut claims = tables::no_claims();
     let l = load(text, &mut names, &mut signatures, &mut claims);
     if l.unjustified {
         let residual = l.residual;

@@ -79,8 +79,12 @@ puts-part {more} {page} {part} {at} {q} within second =
           ∙ sym (append-assoc (take at page) more (drop (at + q) page));
     }
 
--- and one byte more
-pub puts-part-byte : {more page part : Bytes} {q : ℕ} (at b : ℕ) → at + length more + 1 ≤ length page → Puts more (midOf at (length page - at) page) part q
-    → Puts (take at page ++ (more ++ (b ∷ []))) page (set (putMid at (length page - at) page part) (at + q) b) (at + q + 1)
-puts-part-byte {more} {page} {part} {q} at b room second =
-    rw (← append-assoc (take at page) more (b ∷ [])) (puts-byte (puts-part (omega arith) second) b (omega (arith, second .many)))
+-- one of the bytes written becomes another
+pub puts-change : {page₀ page : Bytes} {r : ℕ} (front : Bytes) (a : ℕ) (rest : Bytes) (b at : ℕ) → Puts (front ++ (a ∷ rest)) page₀ page r → at ≡ length front → Puts (front ++ (b ∷ rest)) page₀ (set page at b) r
+puts-change {page₀} {page} {r} front a rest b at puts is =
+    record {
+      many = puts .many ∙ length-append front (a ∷ rest) ∙ sym (length-append front (b ∷ rest));
+      is =
+          ap (λ p. set p at b) (puts .is ∙ append-assoc front (a ∷ rest) (drop r page₀)) ∙ set-at front a (rest ++ drop r page₀) b at (sym is)
+          ∙ sym (append-assoc front (b ∷ rest) (drop r page₀));
+    }

@@ -1,11 +1,13 @@
-// Writing into a lent page. What lies around the bytes that a writer writes stays, and it gives the place after them.
+// Writing into a lent page, at a place: what lies around the bytes that a writer writes stays, and it gives the place after
+// them. Spaces fill all that is lent.
 ghost use mathlib.Core.Path.{_≡_};
 ghost use mathlib.Core.List.{[], _∷_, _++_};
-ghost use Prim.Native.Nat.{_+_, _≤_, _<_};
-ghost use lib.ListN.{length, take};
+ghost use Prim.Native.Nat.{_+_, _-_, _≤_, _<_};
+ghost use lib.ListN.{length};
 ghost use Rattle.theory.specs.Text.{decimal};
 ghost use Rattle.theory.specs.Sheet.{spaces};
-ghost use Rattle.pages.specs.Pages.{Puts};
+ghost use Rattle.text.specs.Scans.{part};
+ghost use Rattle.pages.specs.Pages.{Puts, PutAt};
 
 fn digit(n: u64) -> u8
     requires { ⌜ n < 10 ⌝ }
@@ -27,8 +29,8 @@ pub fn digits(n: u64) -> usize
     many
 }
 
-/// Writes a number in decimal.
-pub fn put_decimal(page: &mut [u8], n: u64) -> usize
+/// Writes a number in decimal at the front of a page, and gives how many digits it has.
+fn put_decimal(page: &mut [u8], n: u64) -> usize
     requires { ⌜ length (decimal n) ≤ length (now page) ⌝ }
     ensures { λ r. ⌜ Puts (decimal n) (now (page .entry)) (now (page .exit)) r ⌝ }
 {
@@ -44,14 +46,38 @@ pub fn put_decimal(page: &mut [u8], n: u64) -> usize
     many
 }
 
-/// Writes a number in decimal and one byte after it, from a place on, and gives the place after them.
-pub fn put_field(page: &mut [u8], at: usize, n: u64, after: u8) -> usize
-    requires { ⌜ at + length (decimal n) + 1 ≤ length (now page) ⌝ }
-    ensures { λ r. ⌜ (r ≡ at + length (decimal n) + 1) × Puts (take at (now (page .entry)) ++ (decimal n ++ after ∷ [])) (now (page .entry)) (now (page .exit)) r ⌝ }
+/// Writes a number in decimal at a place, and gives the place after it.
+pub fn put_number(number: u64, page: &mut [u8], to: usize) -> usize
+    requires { ⌜ to + length (decimal number) ≤ length (now page) ⌝ }
+    ensures { λ r. ⌜ PutAt (decimal number) (length (decimal number)) (now (page .entry)) (now (page .exit)) to r ⌝ }
 {
-    let end = at + put_decimal(&mut page[at..], n);
-    page[end] = after;
-    end + 1
+    to + put_decimal(&mut page[to..], number)
+}
+
+/// Writes a byte at a place, and gives the place after it.
+pub fn put_byte(byte: u8, page: &mut [u8], to: usize) -> usize
+    requires { ⌜ to + 1 ≤ length (now page) ⌝ }
+    ensures { λ r. ⌜ PutAt (byte ∷ []) 1 (now (page .entry)) (now (page .exit)) to r ⌝ }
+{
+    page[to] = byte;
+    to + 1
+}
+
+/// Writes a number in decimal and one byte after it, at a place, and gives the place after them.
+pub fn put_field(number: u64, after: u8, page: &mut [u8], to: usize) -> usize
+    requires { ⌜ to + length (decimal number) + 1 ≤ length (now page) ⌝ }
+    ensures { λ r. ⌜ PutAt (decimal number ++ (after ∷ [])) (length (decimal number) + 1) (now (page .entry)) (now (page .exit)) to r ⌝ }
+{
+    let end = put_number(number, page, to);
+    put_byte(after, page, end)
+}
+
+/// Copies a part of a text to a place on the page, and gives the place after it.
+pub fn put_part(text: &[u8], start: usize, end: usize, page: &mut [u8], to: usize) -> usize
+    requires { ⌜ (start ≤ end) × (end ≤ length (now text)) × (to + (end - start) ≤ length (now page)) ⌝ }
+    ensures { λ r. ⌜ PutAt (part (now (text .entry)) start end) (end - start) (now (page .entry)) (now (page .exit)) to r ⌝ }
+{
+    to + bytes::copy(&text[start..end], &mut page[to..])
 }
 
 /// Fills a page with spaces.

@@ -26,7 +26,7 @@ use Rattle.tables.specs.Tables.{SafeSignatures, predicateAt, signature, signatu
 use Rattle.tables.proofs.Lookup.{place-arity, key-declared, key-absent}
 use Rattle.queries.specs.declared.Asked.{Asked}
 use Rattle.queries.specs.declared.Tested.the-variants.{Refused, Asks}
-use Rattle.tables.specs.QuerySizes.{entryOf, SafeSizes, SizesStand}
+use Rattle.tables.specs.QuerySizes.{unknownSize, entryOf, SafeSizes, SizesStand}
 use Rattle.queries.specs.Queries.{SizesRead, Means, Passed, OpensQuery}
 use Rattle.queries.proofs.SizeFields.{entry-unknown, entry-known}
 use Rattle.queries.proofs.AskedField.{isUnasked, asked-zero, asked-number, asked-clear, asked-is}
@@ -148,15 +148,15 @@ module _ (query : Bytes) (names signatures : List ℕ) (known : ℕ) where
                   stand .entry (asked - 1) (omega (arith, given-full, natural-within _ _ asked number))
                   ∙ ap (λ (i : ℕ). entryOf (getD (queryOf query .sizes) i none)) asked-place
 
-              pub opens-known : (getD sizes (asked - 1) 0 ≡ 65536 → ⊥) → OpensQuery query names signatures known (Refused AskedIsKnown) sizes
+              pub opens-known : (getD sizes (asked - 1) 0 ≡ unknownSize → ⊥) → OpensQuery query names signatures known (Refused AskedIsKnown) sizes
               opens-known other =
                   refuses AskedIsKnown sizes (read .size) (read .safe) λ p d.
                   fault-eighteen p query fit field-named _ (declared p d) asks (sized ∙ good) (entry-known _ (λ e. other (at-asked ∙ e)))
 
-              unknown : getD sizes (asked - 1) 0 ≡ 65536 → isSome (sizeGiven (queryOf query .asked) (queryOf query)) ≡ false
+              unknown : getD sizes (asked - 1) 0 ≡ unknownSize → isSome (sizeGiven (queryOf query .asked) (queryOf query)) ≡ false
               unknown e = rw (given-at query (end + 1) rest (queryOf query .asked)) (entry-unknown _ (ap entryOf (sym (given-at query (end + 1) rest (queryOf query .asked))) ∙ sym at-asked ∙ e))
 
-              pub opens-asked : getD sizes (asked - 1) 0 ≡ 65536 → (b : ℕ) → b ≡ getD signatures place 0 → OpensQuery query names signatures known (Asks (record { predicate = place; arity = b; asked = asked - 1 })) sizes
+              pub opens-asked : getD sizes (asked - 1) 0 ≡ unknownSize → (b : ℕ) → b ≡ getD signatures place 0 → OpensQuery query names signatures known (Asks (record { predicate = place; arity = b; asked = asked - 1 })) sizes
               opens-asked e b same = record {
                 size = read .size;
                 safe = read .safe;

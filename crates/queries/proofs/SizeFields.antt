@@ -15,13 +15,13 @@ use Rattle.text.proofs.Parts.{drop-more}
 use Rattle.numbers.specs.declared.Natural.{Natural}
 use Rattle.numbers.specs.declared.Natural.the-variants.{Whole, NoNatural}
 use Rattle.numbers.specs.Numbers.{naturalOf}
-use Rattle.tables.specs.QuerySizes.{entryOf}
-use Rattle.queries.specs.Queries.{sizeNumber}
+use Rattle.tables.specs.QuerySizes.{unknownSize, entryOf}
+use Rattle.queries.specs.Queries.{malformedSize, sizeNumber}
 
 -- ---- what is read
 
 module _ (field : Bytes) where
-  pub size-unknown : length field ≡ 1 → getD field 0 0 ≡ 45 → 65536 ≡ sizeNumber (sizeFrom field)
+  pub size-unknown : length field ≡ 1 → getD field 0 0 ≡ 45 → unknownSize ≡ sizeNumber (sizeFrom field)
   unfolding sizeFrom bytes
   size-unknown one is =
       let dash : field ≡ bytes "-" = drop-more field 0 (omega arith) ∙ rw (is, drop-of-length-le field {i = 0 + 1} (omega arith)) in
@@ -43,7 +43,7 @@ module _ (field : Bytes) where
     pub size-known : (n : ℕ) → r ≡ Whole n → n ≡ sizeNumber (sizeFrom field)
     size-known n e = rw (as-read, e)
 
-    pub size-malformed : r ≡ NoNatural → 65537 ≡ sizeNumber (sizeFrom field)
+    pub size-malformed : r ≡ NoNatural → malformedSize ≡ sizeNumber (sizeFrom field)
     size-malformed e = rw (as-read, e)
 
 -- the limit and the answer, handed on as they are
@@ -57,20 +57,20 @@ module _ (field : Bytes) (arity limit : ℕ) (is : limit ≡ arity) (r : Natural
 -- ---- what the number tells
 
 module _ (field : Bytes) where
-  pub number-malformed : sizeNumber (sizeFrom field) ≡ 65537 → isSome (sizeFrom field) ≡ false
+  pub number-malformed : sizeNumber (sizeFrom field) ≡ malformedSize → isSome (sizeFrom field) ≡ false
   unfolding isSome
   number-malformed = by (sizeFrom field) (size-small field)
     where
-      by : (o : Option (Option ℕ)) → Small o → sizeNumber o ≡ 65537 → isSome o ≡ false
+      by : (o : Option (Option ℕ)) → Small o → sizeNumber o ≡ malformedSize → isSome o ≡ false
       by none small e = refl
       by (some none) small e = absurd (omega arith)
       by (some (some s)) small e = absurd (omega (arith, small s refl))
 
-  pub number-fine : (sizeNumber (sizeFrom field) ≡ 65537 → ⊥) → (isSome (sizeFrom field) ≡ true) × (sizeNumber (sizeFrom field) ≤ 65536)
+  pub number-fine : (sizeNumber (sizeFrom field) ≡ malformedSize → ⊥) → (isSome (sizeFrom field) ≡ true) × (sizeNumber (sizeFrom field) ≤ unknownSize)
   unfolding isSome
   number-fine = by (sizeFrom field) (size-small field)
     where
-      by : (o : Option (Option ℕ)) → Small o → (sizeNumber o ≡ 65537 → ⊥) → (isSome o ≡ true) × (sizeNumber o ≤ 65536)
+      by : (o : Option (Option ℕ)) → Small o → (sizeNumber o ≡ malformedSize → ⊥) → (isSome o ≡ true) × (sizeNumber o ≤ unknownSize)
       by none small e = absurd (e refl)
       by (some none) small e = (refl, omega arith)
       by (some (some s)) small e = (refl, omega (arith, small s refl))
@@ -85,16 +85,16 @@ module _ (field : Bytes) where
       by none e = never-both e refl
       by (some size) e = refl
 
-  pub entry-unknown : entryOf (Option·getD (sizeFrom field) none) ≡ 65536 → isSome (Option·getD (sizeFrom field) none) ≡ false
+  pub entry-unknown : entryOf (Option·getD (sizeFrom field) none) ≡ unknownSize → isSome (Option·getD (sizeFrom field) none) ≡ false
   unfolding isSome
   entry-unknown = by (sizeFrom field) (size-small field)
     where
-      by : (o : Option (Option ℕ)) → Small o → entryOf (Option·getD o none) ≡ 65536 → isSome (Option·getD o none) ≡ false
+      by : (o : Option (Option ℕ)) → Small o → entryOf (Option·getD o none) ≡ unknownSize → isSome (Option·getD o none) ≡ false
       by none small e = refl
       by (some none) small e = refl
       by (some (some s)) small e = absurd (omega (arith, small s refl))
 
-pub entry-known : (size : Option ℕ) → (entryOf size ≡ 65536 → ⊥) → isSome size ≡ true
+pub entry-known : (size : Option ℕ) → (entryOf size ≡ unknownSize → ⊥) → isSome size ≡ true
 unfolding isSome
 entry-known none other = absurd (other refl)
 entry-known (some s) other = refl

@@ -14,8 +14,8 @@ use Rattle.theory.specs.Text.{Bytes}
 use Rattle.theory.specs.Reserve.{sizeFrom}
 use Rattle.text.specs.Scans.{part, Finds, partsFrom}
 use Rattle.text.proofs.Cuts.{parts-done, parts-step}
-use Rattle.tables.specs.QuerySizes.{SafeSizes}
-use Rattle.queries.specs.Queries.{sizeNumber, SizesRead}
+use Rattle.tables.specs.QuerySizes.{unknownSize, SafeSizes}
+use Rattle.queries.specs.Queries.{malformedSize, sizeNumber, SizesRead}
 use Rattle.queries.proofs.SizeFields.{number-malformed, number-fine}
 
 abbrev isSize : Bytes → Bool
@@ -62,7 +62,7 @@ module _ (query : Bytes) (from : ℕ) where
       all-here = read .all ∙ ap (every isSize) cut
 
       module _ (n : ℕ) (is : n ≡ sizeNumber (sizeFrom (part query at stop))) where
-        pub sizes-malformed : n ≡ 65537 → SizesRead query from false sizes
+        pub sizes-malformed : n ≡ malformedSize → SizesRead query from false sizes
         sizes-malformed e = record {
           safe = read .safe;
           size = read .size;
@@ -70,7 +70,7 @@ module _ (query : Bytes) (from : ℕ) where
           entry = λ h. let never : _≡_ {A = ℕ} 0 1 = cc in absurd (omega arith);
         }
 
-        pub sizes-more : (n ≡ 65537 → ⊥) → SizesSoFar query from (stop + 1) (i + 1) (set sizes i n)
+        pub sizes-more : (n ≡ malformedSize → ⊥) → SizesSoFar query from (stop + 1) (i + 1) (set sizes i n)
         sizes-more other = record {
           safe = record { small = λ j. small j (ℕ-discrete j i) };
           size = length-set sizes i n ∙ read .size;
@@ -83,10 +83,10 @@ module _ (query : Bytes) (from : ℕ) where
               (getD-set-same sizes i n 0 (omega (arith, sizes-room, read .size)) ∙ is ∙ rw here);
         }
           where
-            fine : (isSome (sizeFrom (part query at stop)) ≡ true) × (sizeNumber (sizeFrom (part query at stop)) ≤ 65536)
+            fine : (isSome (sizeFrom (part query at stop)) ≡ true) × (sizeNumber (sizeFrom (part query at stop)) ≤ unknownSize)
             fine = number-fine (part query at stop) (λ e. other (is ∙ e))
 
-            small : (j : ℕ) → Dec (j ≡ i) → getD (set sizes i n) j 0 ≤ 65536
+            small : (j : ℕ) → Dec (j ≡ i) → getD (set sizes i n) j 0 ≤ unknownSize
             small j (yes e) = rw (e, getD-set-same sizes i n 0 (omega (arith, sizes-room, read .size))) (omega (arith, fine .1))
             small j (no e) = rw (getD-set-other sizes i j n 0 e) (read .safe .small j)
 

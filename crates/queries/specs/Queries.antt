@@ -19,9 +19,13 @@ use Rattle.queries.specs.declared.Asked.{Asked}
 use Rattle.queries.specs.declared.Tested.{Tested}
 use Rattle.queries.specs.declared.Tested.the-variants.{Refused, Asks}
 
--- a size field as a number: 65537 where it is malformed or out of range
+-- what stands for a size field that is malformed or out of range
+abbrev pub malformedSize : ℕ
+malformedSize = 65537
+
+-- a size field as a number
 abbrev pub sizeNumber : Option (Option ℕ) → ℕ
-sizeNumber none = 65537
+sizeNumber none = malformedSize
 sizeNumber (some size) = entryOf size
 
 -- whether the size fields from a place on are fine, and the table that then holds them

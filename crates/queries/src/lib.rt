@@ -28,19 +28,22 @@ pub enum Tested {
     Asks(Asked),
 }
 
-/// A size field as a number: its size, 65536 where it is unknown, 65537 where it is malformed or out of range.
+/// What stands for a size field that is malformed or out of range.
+const MALFORMED_SIZE: u32 = 65537;
+
+/// A size field as a number: its size, or that it is unknown or malformed.
 fn read_size(field: &[u8]) -> u32
     ensures { λ r. ⌜ r ≡ sizeNumber (sizeFrom (now (field .entry))) ⌝ }
 {
     if field.len() == 1 {
         if field[0] == b'-' {
-            return 65536;
+            return tables::UNKNOWN_SIZE;
         }
     }
     let size = numbers::read_natural(field, 65535);
     match size {
         Natural::Whole(n) => n,
-        Natural::NoNatural => 65537,
+        Natural::NoNatural => MALFORMED_SIZE,
     }
 }
 
@@ -55,7 +58,7 @@ fn read_sizes(query: &[u8], from: usize, sizes: &mut [u32; 8]) -> bool
     while at <= width {
         let stop = reader::field_end(query, at);
         let size = read_size(&query[at..stop]);
-        if size == 65537 {
+        if size == MALFORMED_SIZE {
             return false;
         }
         sizes[i] = size;
@@ -127,7 +130,7 @@ pub fn open_query(
     if !read_sizes(query, end + 1, sizes) {
         return Tested::Refused(QueryRefusal::SizeField);
     }
-    if sizes[asked - 1] != 65536 {
+    if sizes[asked - 1] != tables::UNKNOWN_SIZE {
         return Tested::Refused(QueryRefusal::AskedIsKnown);
     }
     Tested::Asks(Asked {

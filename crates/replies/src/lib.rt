@@ -16,10 +16,10 @@ pub fn put_numbers(page: &mut [u8], four: Four) -> usize
     requires { ⌜ 24 ≤ length (now page) ⌝ }
     ensures { λ r. ⌜ (Puts (textOf (printedNumbers (numbers (four .number) (four .line) (four .rule) (four .claim)) ∷ [])) (now (page .entry)) (now (page .exit)) r) × (r ≤ 24) ⌝ }
 {
-    let first = pages::put_field(page, 0, four.number as u64, b',');
-    let second = pages::put_field(page, first, four.line as u64, b',');
-    let third = pages::put_field(page, second, four.rule as u64, b',');
-    pages::put_field(page, third, four.claim as u64, b'\n')
+    let first = pages::put_field(four.number as u64, b',', page, 0);
+    let second = pages::put_field(four.line as u64, b',', page, first);
+    let third = pages::put_field(four.rule as u64, b',', page, second);
+    pages::put_field(four.claim as u64, b'\n', page, third)
 }
 
 /// Writes reserve's fields as a line of at most 27 bytes.
@@ -29,8 +29,8 @@ pub fn put_fields(page: &mut [u8], three: Three) -> usize
 {
     page[0] = three.letter;
     page[1] = b',';
-    let second = pages::put_field(page, 2, three.middle, b',');
-    pages::put_field(page, second, three.claim as u64, b'\n')
+    let second = pages::put_field(three.middle, b',', page, 2);
+    pages::put_field(three.claim as u64, b'\n', page, second)
 }
 
 /// The place after the first line `E`, with its byte 10; or the end where there is none.

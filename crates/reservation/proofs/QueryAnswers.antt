@@ -24,7 +24,7 @@ use Rattle.theory.specs.declared.Reservation.the-variants.{PackRefused, QueryRe
 use Rattle.theory.proofs.Judging.Keys.{on-arity}
 use Rattle.theory.proofs.Reserving.RefusalNumbers.{refusal-number, query-number}
 use Rattle.tables.specs.Tables.{SafeSignatures, SafeClaims, predicateAt, HoldsClaims}
-use Rattle.tables.specs.QuerySizes.{SafeSizes}
+use Rattle.tables.specs.QuerySizes.{unknownSize, SafeSizes}
 use Rattle.queries.specs.declared.Asked.{Asked}
 use Rattle.queries.specs.declared.Tested.{Tested}
 use Rattle.queries.specs.declared.Tested.the-variants.{Refused, Asks}
@@ -35,13 +35,13 @@ use Rattle.packs.specs.Loading.{Loads}
 use Rattle.reservation.specs.Answering.{Answers, Ready, PackHeld, Responds}
 
 -- a table of sizes that are all unknown
-repeated-small : (n i : ℕ) → getD (replicate n 65536) i 0 ≤ 65536
+repeated-small : (n i : ℕ) → getD (replicate n unknownSize) i 0 ≤ unknownSize
 repeated-small zero i = omega arith
 repeated-small (suc n) zero = omega arith
 repeated-small (suc n) (suc i) = repeated-small n i
 
-pub unknown-sizes : (length {A = ℕ} (replicate 8 65536) ≡ 8) × SafeSizes (replicate 8 65536)
-unknown-sizes = (length-replicate {A = ℕ} 8 65536, record { small = repeated-small 8 })
+pub unknown-sizes : (length {A = ℕ} (replicate 8 unknownSize) ≡ 8) × SafeSizes (replicate 8 unknownSize)
+unknown-sizes = (length-replicate {A = ℕ} 8 unknownSize, record { small = repeated-small 8 })
 
 -- ---- a query answered from the tables
 

@@ -24,7 +24,7 @@ pub fn answer(
     requires { ⌜ (known ≤ 32) × (SafeSignatures (now signatures)) × (SafeClaims (now claims)) ⌝ }
     ensures { λ r. ⌜ Answers (now (query .entry)) (now (names .entry)) (now (signatures .entry)) (now (claims .entry)) known r ⌝ }
 {
-    let mut sizes = [65536u32; 8];
+    let mut sizes = [tables::UNKNOWN_SIZE; 8];
     let tested = queries::open_query(query, names, signatures, known, &mut sizes);
     match tested {
         Tested::Refused(refusal) => Reservation::QueryRefused(refusal),
@@ -59,9 +59,9 @@ pub fn reserve(text: &[u8], query: &[u8]) -> Reservation
     ensures { λ r. ⌜ reservedFields r ≡ reserveOf (now (text .entry)) (now (query .entry)) ⌝ }
     ensures passes { λ r. ⌜ passedOn r ≡ refusalOf (now (text .entry)) ⌝ }
 {
-    let mut names = [0u64; 64];
-    let mut signatures = [0u8; 96];
-    let mut claims = [0i16; 4608];
+    let mut names = tables::no_names();
+    let mut signatures = tables::no_signatures();
+    let mut claims = tables::no_claims();
     let l = packs::load(text, &mut names, &mut signatures, &mut claims);
     let verdict = l.verdict;
     let state = l.state;

@@ -51,9 +51,9 @@ fn file(text: &[u8], counts: Counts, page: &mut [u8]) -> Filing
 pub fn sheet(text: &[u8], page: &mut [u8]) -> Filing
     ensures { λ r. ⌜ (filingNumbers r ≡ sheetOf (now (text .entry)) (now (page .entry)) .returned) × (now (page .exit) ≡ sheetOf (now (text .entry)) (now (page .entry)) .page) ⌝ }
 {
-    let mut names = [0u64; 64];
-    let mut signatures = [0u8; 96];
-    let mut claims = [0i16; 4608];
+    let mut names = tables::no_names();
+    let mut signatures = tables::no_signatures();
+    let mut claims = tables::no_claims();
     let l = packs::load(text, &mut names, &mut signatures, &mut claims);
     let verdict = l.verdict;
     match verdict {

@@ -6,6 +6,8 @@ ghost use mathlib.Core.Path.{_≡_};
 ghost use Prim.Native.Nat.{_≤_, _<_, _^_};
 ghost use lib.Bits.{bitOr};
 ghost use lib.Dec.{eqb};
+ghost use lib.IntN.{pos};
+ghost use lib.ListN.{replicate};
 ghost use Rattle.tables.specs.Tables.{claimPlace, rowPlace};
 use theory::Letter;
 use words::Words;
@@ -41,6 +43,30 @@ pub type Slots = [u16; 256];
 
 /// Where names and variables stood before: any content will do.
 pub type Hints = words::Hints;
+
+/// What stands for an unknown size among those that a query gives: one more than the largest.
+pub const UNKNOWN_SIZE: u32 = 65536;
+
+/// The table of names before any line: zeros, as in the next two.
+pub fn no_names() -> Names
+    ensures { λ r. ⌜ r ≡ replicate 64 0 ⌝ }
+{
+    [0u64; 64]
+}
+
+/// The table of signatures before any line.
+pub fn no_signatures() -> Signatures
+    ensures { λ r. ⌜ r ≡ replicate 96 0 ⌝ }
+{
+    [0u8; 96]
+}
+
+/// The table of claims before any line.
+pub fn no_claims() -> Claims
+    ensures { λ r. ⌜ r ≡ replicate 4608 (pos 0) ⌝ }
+{
+    [0i16; 4608]
+}
 
 /// Where the numbers of a claim on a predicate begin.
 pub fn claim_place(predicate: usize, claim: usize) -> usize

@@ -16,14 +16,13 @@ use Rattle.clause_theory.specs.Clauses.{Clause, Open, Last, due, read, State, s
 use Rattle.clause_theory.specs.Import.{numberedVariable, termFits}
 use Rattle.text.specs.Scans.{part}
 use Rattle.text.proofs.Parts.{part-length}
-use Rattle.pages.specs.Pages.{Puts}
+use Rattle.pages.specs.Pages.{Puts, PutAt}
 use Rattle.pages.proofs.Puts.{puts-size, puts-more}
 use Rattle.clause_tokens.specs.declared.Mark.{Mark}
 use Rattle.clause_tokens.specs.declared.Mark.the-variants.{Name, Variable, Lone}
 use Rattle.clause_variables.proofs.FreshSearch.{numbered-variable}
 use Rattle.term_lines.specs.declared.Drawn.{Drawn}
 use Rattle.term_lines.specs.Texts.{lineFront, lineText, drawnText, Moves, names-atom, names-symbol, reads-variable, atomsOf, OpenedFit, LastFits, current, StateFits}
-use Rattle.page_writers.specs.Writings.{PutAt}
 use Rattle.term_lines.specs.Drawings.{DigitsStand, ArgumentsBegun, Drawing, DrawnNext, drawn-on, passes, Shows, shows-name, shows-variable, shows-lone, Drawable, Draws, RoomTold, LetterIs}
 use Rattle.term_lines.proofs.DrawnTexts.{drawn-atom-name, drawn-symbol, drawn-variable}
 use Rattle.term_lines.proofs.DrawnLimits.{drawn-length, no-line, line-atom-name, atom-named, symbol-named, bare-atom-fits, bare-symbol-fits}

@@ -3,3 +3,4 @@ pub mod DrawnTexts
 pub mod DrawnLimits
 pub mod Moving
 pub mod Drawing
+pub mod Pieces

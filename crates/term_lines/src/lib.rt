@@ -1,8 +1,13 @@
 // Names and variables in the lines of a clause, which are written on a page as its tokens are read.
 ghost use mathlib.Core.Path.{_≡_};
 ghost use mathlib.Core.Bool.{true, false};
-ghost use Prim.Native.Nat.{_-_, _≤_};
+ghost use mathlib.Core.List.{[], _∷_, _++_};
+ghost use Prim.Native.Nat.{_+_, _-_, _≤_};
 ghost use lib.ListN.{length};
+ghost use Rattle.theory.specs.Text.{decimal};
+ghost use Rattle.clause_theory.specs.Import.{numberedVariable};
+ghost use Rattle.text.specs.Scans.{part};
+ghost use Rattle.pages.specs.Pages.{PutAt};
 ghost use Rattle.clause_tokens.specs.declared.Mark.the-variants.{Name, Variable, Lone};
 ghost use Rattle.term_lines.specs.Drawings.{RoomTold, LetterIs, Drawable, Draws};
 
@@ -60,6 +65,35 @@ fn moved(d: Drawn, to: usize) -> Drawn
     }
 }
 
+/// Writes a letter, a comma and a part of a text.
+fn put_front(text: &[u8], start: usize, end: usize, letter: u8, page: &mut [u8], to: usize) -> usize
+    requires { ⌜ (start ≤ end) × (end ≤ length (now text)) × (to + (end - start + 2) ≤ length (now page)) ⌝ }
+    ensures { λ r. ⌜ PutAt (letter ∷ 44 ∷ part (now (text .entry)) start end) (end - start + 2) (now (page .entry)) (now (page .exit)) to r ⌝ }
+{
+    let comma = pages::put_byte(letter, page, to);
+    let name = pages::put_byte(b',', page, comma);
+    pages::put_part(text, start, end, page, name)
+}
+
+/// Writes a part of a text, `/` and the digit 0.
+fn put_bare(text: &[u8], start: usize, end: usize, page: &mut [u8], to: usize) -> usize
+    requires { ⌜ (start ≤ end) × (end ≤ length (now text)) × (to + (end - start + 2) ≤ length (now page)) ⌝ }
+    ensures { λ r. ⌜ PutAt (part (now (text .entry)) start end ++ (47 ∷ 48 ∷ [])) (end - start + 2) (now (page .entry)) (now (page .exit)) to r ⌝ }
+{
+    let slash = pages::put_part(text, start, end, page, to);
+    let digit = pages::put_byte(b'/', page, slash);
+    pages::put_byte(b'0', page, digit)
+}
+
+/// Writes `V` and a number.
+fn put_numbered(number: usize, page: &mut [u8], to: usize) -> usize
+    requires { ⌜ to + (length (decimal number) + 1) ≤ length (now page) ⌝ }
+    ensures { λ r. ⌜ PutAt (numberedVariable number) (length (decimal number) + 1) (now (page .entry)) (now (page .exit)) to r ⌝ }
+{
+    let digits = pages::put_byte(b'V', page, to);
+    pages::put_number(number as u64, page, digits)
+}
+
 /// The name of a head or a subgoal begins a line.
 fn put_atom(
     text: &[u8],
@@ -82,7 +116,7 @@ fn put_atom(
     if lacks_room(page.len() - to, 0, end - start + 2) {
         return passed();
     }
-    let after = page_writers::put_front(text, start, end, letter(d.atoms), page, to);
+    let after = put_front(text, start, end, letter(d.atoms), page, to);
     Drawn {
         to: after,
         line: to,
@@ -112,7 +146,7 @@ fn put_symbol(
     if lacks_room(page.len() - to, to - d.line, end - start + 2) {
         return passed();
     }
-    let after = page_writers::put_bare(text, start, end, page, to);
+    let after = put_bare(text, start, end, page, to);
     moved(d, after)
 }
 
@@ -154,7 +188,7 @@ pub fn put_variable(
     if lacks_room(page.len() - to, to - d.line, end - start) {
         return passed();
     }
-    let after = page_writers::put_part(text, start, end, page, to);
+    let after = pages::put_part(text, start, end, page, to);
     moved(d, after)
 }
 
@@ -176,6 +210,6 @@ pub fn put_lone(
     if lacks_room(page.len() - to, to - d.line, many + 1) {
         return passed();
     }
-    let after = page_writers::put_numbered(number, page, to);
+    let after = put_numbered(number, page, to);
     moved(d, after)
 }

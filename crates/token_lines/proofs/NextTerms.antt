@@ -14,17 +14,16 @@ use Rattle.clause_theory.specs.ClauseTokens as T
 use Rattle.clause_theory.specs.Clauses.{Clause, Open, endingTerm, due, read, State, state}
 use Rattle.theory.proofs.Reading.Decimals.{decimal-one}
 use Rattle.pages.specs.Pages.{Puts}
-use Rattle.pages.proofs.Puts.{puts-more}
+use Rattle.pages.proofs.Puts.{puts-more, puts-change}
 use Rattle.clause_tokens.specs.NextTokens.{sign-comma}
 use Rattle.clause_tokens.specs.declared.Mark.{Mark}
 use Rattle.clause_tokens.specs.declared.Mark.the-variants.{Comma}
 use Rattle.term_lines.specs.declared.Drawn.{Drawn}
 use Rattle.term_lines.specs.Texts.{afterEach, drawnText, Moves, ends-line, next-argument, next-term, current, StateFits}
-use Rattle.page_writers.specs.Writings.{Raised}
 use Rattle.term_lines.specs.Drawings.{Drawing, DrawnNext, drawn-on, Shows, shows-sign, Drawable, Draws, RoomTold}
+use Rattle.token_lines.specs.Raising.{Raised}
 use Rattle.term_lines.proofs.DrawnTexts.{arity-more, drawn-digit, drawn-next}
 use Rattle.term_lines.proofs.DrawnLimits.{drawn-length, line-next, terms-fit-more}
-use Rattle.page_writers.proofs.PageParts.{puts-change}
 use Rattle.term_lines.proofs.Drawing.{page-size, to-is, no-room, draws-none}
 
 by-term : (P : State → State → Type 0) {x : Bytes} {s next : State} {m : T.Mark} → Shows x 0 Comma m → Moves s m next → 1 < length (s .opened)

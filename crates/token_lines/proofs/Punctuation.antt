@@ -13,19 +13,17 @@ use Rattle.theory.specs.Terms.{Term, symbol, nil, arity}
 use Rattle.clause_theory.specs.ClauseTokens as T
 use Rattle.clause_theory.specs.Clauses.{Clause, Open, endingTerm, Last, due, read, State, state, atomOf, added}
 use Rattle.clause_theory.specs.Import.{termFits}
-use Rattle.pages.specs.Pages.{Puts}
-use Rattle.pages.proofs.Puts.{puts-more}
+use Rattle.pages.specs.Pages.{Puts, PutAt}
+use Rattle.pages.proofs.Puts.{puts-more, puts-change}
 use Rattle.clause_tokens.specs.NextTokens.{sign-opens, sign-closes, sign-comma, sign-neck, sign-stop}
 use Rattle.clause_tokens.specs.declared.Mark.{Mark}
 use Rattle.clause_tokens.specs.declared.Mark.the-variants.{Opens, Closes, Comma}
 use Rattle.term_lines.specs.declared.Drawn.{Drawn}
 use Rattle.term_lines.specs.Texts.{openText, lastText, drawnText, Moves, opens-atom, opens-symbol, closes-one, ends-line, next-argument, next-term, atomsOf, OpenFits, OpenedFit, LastFits, current, PartsFit, StateFits}
-use Rattle.page_writers.specs.Writings.{PutAt}
 use Rattle.term_lines.specs.Drawings.{DigitsStand, ArgumentsBegun, Drawing, DrawnNext, drawn-on, Shows, shows-sign, Drawable, Draws, RoomTold}
 use Rattle.token_lines.specs.LineEnds.{EndsLine, comma-ends, neck-ends, stop-ends}
 use Rattle.term_lines.proofs.DrawnTexts.{arity-more, drawn-atom-opens, drawn-symbol-opens, drawn-symbol-digit, drawn-closes, drawn-line, drawn-argument}
 use Rattle.term_lines.proofs.DrawnLimits.{drawn-length, no-line, line-atom-opens, line-symbol-opens, line-closes, line-argument, atom-named, symbol-named, atom-fits, symbol-fits, terms-fit-more, atoms-added, line-fits, deep-line}
-use Rattle.page_writers.proofs.PageParts.{puts-change}
 use Rattle.term_lines.proofs.Drawing.{page-size, to-is, to-within, no-room, draws-none, in-line}
 
 -- ---- `(` after the name of a head or a subgoal

@@ -1,2 +1,3 @@
--- Which tokens end a line. No public promise cites it.
+-- Which tokens end a line, and how a digit is raised. No public promise cites them.
 pub mod LineEnds
+pub mod Raising

@@ -1,10 +1,11 @@
 // What each token makes of the lines of a clause.
 ghost use mathlib.Core.Path.{_≡_};
-ghost use Prim.Native.Nat.{_-_, _≤_, _<_};
+ghost use Prim.Native.Nat.{_+_, _-_, _≤_, _<_};
 ghost use lib.ListN.{length, getD};
 ghost use Rattle.clause_tokens.specs.declared.Mark.the-variants.{Opens, Closes, Comma};
 ghost use Rattle.term_lines.specs.Drawings.{Drawable, Draws};
 ghost use Rattle.token_lines.specs.LineEnds.{EndsLine};
+ghost use Rattle.token_lines.specs.Raising.{Raised};
 use clause_tokens::Mark;
 use term_lines::Drawn;
 
@@ -24,7 +25,7 @@ fn open_atom(
     if term_lines::lacks_room(page.len() - to, to - d.line, 1) {
         return term_lines::passed();
     }
-    let after = page_writers::put_byte(b',', page, to);
+    let after = pages::put_byte(b',', page, to);
     Drawn {
         to: after,
         line: d.line,
@@ -54,7 +55,7 @@ fn next_argument(
     if term_lines::lacks_room(page.len() - to, to - d.line, 1) {
         return term_lines::passed();
     }
-    let after = page_writers::put_byte(b',', page, to);
+    let after = pages::put_byte(b',', page, to);
     Drawn {
         to: after,
         line: d.line,
@@ -104,7 +105,7 @@ fn end_line(
     if page.len() <= to {
         return term_lines::passed();
     }
-    let after = page_writers::put_byte(b'\n', page, to);
+    let after = pages::put_byte(b'\n', page, to);
     Drawn {
         to: after,
         line: after,
@@ -136,7 +137,7 @@ fn open_symbol(
         return term_lines::passed();
     }
     digits[depth] = to - 1;
-    let after = page_writers::put_byte(b' ', page, to);
+    let after = pages::put_byte(b' ', page, to);
     page[to - 1] = b'1';
     Drawn {
         to: after,
@@ -154,6 +155,16 @@ fn kept_place(depth: usize, digits: &[usize; 256]) -> usize
     ensures { λ r. ⌜ r ≡ getD (now (digits .entry)) (depth - 1) 0 ⌝ }
 {
     digits[depth - 1]
+}
+
+/// Writes a space, and one more for a digit.
+fn raise(page: &mut [u8], digit: usize, arity: u8, to: usize) -> usize
+    requires { ⌜ (digit < length (now page)) × (arity ≤ 56) × (to + 1 ≤ length (now page)) ⌝ }
+    ensures { λ r. ⌜ Raised (now (page .entry)) digit arity to r (now (page .exit)) ⌝ }
+{
+    let after = pages::put_byte(b' ', page, to);
+    page[digit] = arity + 1;
+    after
 }
 
 /// The next argument of a symbol is due: its arity is one more.
@@ -177,7 +188,7 @@ fn next_term(
     if term_lines::lacks_room(page.len() - to, to - d.line, 1) {
         return term_lines::passed();
     }
-    let after = page_writers::raise(page, digit, arity, to);
+    let after = raise(page, digit, arity, to);
     Drawn {
         to: after,
         line: d.line,

@@ -17,14 +17,14 @@ loop-holds c = (search needs, reserving-none)
 
 returns : tie.Need-returns Inv-loop μ-loop
 returns c =
-    let turn = c .before .before .before .before .loop in
-    reserving-impossible (turn .inv .1) (omega arith) (c .before .before .use-claim .ensures) (c .usize-to-u8 .result) (c .usize-to-u8 .ensures) (c .before .if1 .taken)
+    let turn = c .before .before .before .before .before .loop in
+    reserving-impossible (turn .inv .1) (omega arith) (c .before .before .before .claim-place .ensures) (c .before .before .use-claim .ensures) (c .usize-to-u8 .result) (c .usize-to-u8 .ensures) (c .before .if1 .taken)
 
 loop-again : tie.Need-loop-again Inv-loop μ-loop
 loop-again c =
-    let turn = c .before .before .before .before .before .loop in (
+    let turn = c .before .before .before .before .before .before .loop in (
       search needs,
-      reserving-more (turn .inv .1) (omega arith) (c .before .before .before .use-claim .ensures) (c .before .usize-to-u82 .result) (c .before .usize-to-u82 .ensures) (c .before .before .if1 .left) (c .better .result) (c .better .ensures),
+      reserving-more (turn .inv .1) (omega arith) (c .before .before .before .before .claim-place .ensures) (c .before .before .before .use-claim .ensures) (c .before .usize-to-u82 .result) (c .before .usize-to-u82 .ensures) (c .before .before .if1 .left) (c .better .result) (c .better .ensures),
     )
 
 returns-2 : tie.Need-returns-2 Inv-loop μ-loop
@@ -35,7 +35,6 @@ returns-3 c = reserving-bounded (c .before .before .before .loop .inv .1) (c .be
 
 pub reserve-by-spec : {M : Type 1} → statement M
 reserve-by-spec =
-    tie.close (tie.spec Inv-loop μ-loop loop-holds (λ c. search needs) (λ c. search needs) (λ c. search needs)
-    (λ c κs. search needs) (λ c. search needs) (λ c κs. search needs) returns (λ c. search needs)
+    tie.close (tie.spec Inv-loop μ-loop loop-holds (λ c κs. search needs) (λ c κs. search needs) (λ c. search needs) (λ c κs. search needs) returns (λ c. search needs)
     (λ c κs. search needs) (λ c κs. search needs) (λ c. search needs) (λ c. search needs) loop-again returns-2
     returns-3)

@@ -15,7 +15,7 @@ put-field-requires : tie.Need-put-field-requires
 put-field-requires c κs = omega (arith, blank-size (c .before .before .before .before .before .before .before .args .page .now) (c .before .before .before .before .before .before .before .args .width - c .before .before .before .before .before .digits .result) (omega (arith, c .before .before .before .before .before .before .before .pre)) (c .before .before .before .put-spaces .ensures), c .before .before .before .before .before .digits .ensures .0, c .before .before .before .before .before .before .before .pre)
 
 returns : tie.Need-returns
-returns c = number-put (c .before .before .before .before .before .before .before .before .before .before .args .page .now) (c .before .before .before .before .before .before .before .before .before .before .args .width) (c .before .before .before .before .before .before .before .before .before .before .args .n) (c .before .before .before .before .before .before .before .before .before .before .args .width - c .before .before .before .before .before .before .before .before .digits .result) (omega (arith, c .before .before .before .before .before .before .before .before .digits .ensures .0, c .before .before .before .before .before .before .before .before .before .before .pre)) (c .before .before .before .before .before .before .before .before .before .before .pre .1) (c .before .before .before .before .before .before .put-spaces .ensures) (c .before .before .put-field .ensures .1)
+returns c = number-put (c .before .before .before .before .before .before .before .before .before .before .args .page .now) (c .before .before .before .before .before .before .before .before .before .before .args .width) (c .before .before .before .before .before .before .before .before .before .before .args .n) (c .before .before .before .before .before .before .before .before .before .before .args .width - c .before .before .before .before .before .before .before .before .digits .result) (omega (arith, c .before .before .before .before .before .before .before .before .digits .ensures .0, c .before .before .before .before .before .before .before .before .before .before .pre)) (c .before .before .before .before .before .before .before .before .before .before .pre .1) (c .before .before .before .before .before .before .put-spaces .ensures) (c .before .before .put-field .ensures .puts)
 
 pub put-number-spec : {M : Type 1} → statement M
 put-number-spec =

@@ -27,8 +27,8 @@ same-length c = omega (arith, size (c .before .before .before .before .before .b
 
 returns : tie.Need-returns
 returns c = (
-  fields-put _ _ _ (c .before .before .before .before .before .before .before .before .before .before .pre) (c .before .before .before .before .before .before .before .put-field .ensures .1) (c .before .before .put-field2 .ensures .1),
-  omega (arith, c .before .before .before .before .before .before .before .put-field .ensures .0, c .before .before .put-field2 .ensures .0, digits-few 19 (c .before .before .before .before .before .before .before .before .before .before .args .three .middle) (omega arith), digits-few 2 (c .before .before .before .before .before .before .before .before .before .before .args .three .claim) (omega arith)),
+  fields-put _ _ _ (c .before .before .before .before .before .before .before .before .before .before .pre) (c .before .before .before .before .before .before .before .put-field .ensures .puts) (c .before .before .put-field2 .ensures .puts),
+  omega (arith, c .before .before .before .before .before .before .before .put-field .ensures .after, c .before .before .put-field2 .ensures .after, digits-few 19 (c .before .before .before .before .before .before .before .before .before .before .args .three .middle) (omega arith), digits-few 2 (c .before .before .before .before .before .before .before .before .before .before .args .three .claim) (omega arith)),
 )
 
 pub put-fields-spec : {M : Type 1} → statement M

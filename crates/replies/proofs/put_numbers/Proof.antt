@@ -13,7 +13,7 @@ use Rattle.replies.proofs.put_numbers.Tie as tie
 abbrev digits : Four → ℕ
 digits four = length (decimal (four .number)) + length (decimal (four .line)) + length (decimal (four .rule)) + length (decimal (four .claim))
 
-few : (c : tie.After-struct-known) → digits (c .before .before .before .args .four) ≤ 16
+few : (c : tie.After-put-field-arg) → digits (c .before .before .before .args .four) ≤ 16
 few c = let four = c .before .before .before .args .four in numbers-short (four .number) (four .line) (four .rule) (four .claim) (omega arith) (omega arith) (omega arith) (omega arith)
 
 put-field-requires : tie.Need-put-field-requires
@@ -30,8 +30,8 @@ put-field-requires-4 c κs = omega (arith, few (c .before .before .before .befor
 
 returns : tie.Need-returns
 returns c = (
-  numbers-put _ _ _ _ (c .before .before .before .before .before .before .before .before .before .before .before .before .before .before .before .before .before .put-field .ensures .1) (c .before .before .before .before .before .before .before .before .before .before .before .before .put-field2 .ensures .1) (c .before .before .before .before .before .before .before .put-field3 .ensures .1) (c .before .before .put-field4 .ensures .1),
-  omega (arith, few (c .before .before .before .before .before .before .before .before .before .before .before .before .before .before .before .before .before .before), c .before .before .before .before .before .before .before .before .before .before .before .before .before .before .before .before .before .put-field .ensures .0, c .before .before .before .before .before .before .before .before .before .before .before .before .put-field2 .ensures .0, c .before .before .before .before .before .before .before .put-field3 .ensures .0, c .before .before .put-field4 .ensures .0),
+  numbers-put _ _ _ _ (c .before .before .before .before .before .before .before .before .before .before .before .before .before .before .before .before .before .put-field .ensures .puts) (c .before .before .before .before .before .before .before .before .before .before .before .before .put-field2 .ensures .puts) (c .before .before .before .before .before .before .before .put-field3 .ensures .puts) (c .before .before .put-field4 .ensures .puts),
+  omega (arith, few (c .before .before .before .before .before .before .before .before .before .before .before .before .before .before .before .before .before .before), c .before .before .before .before .before .before .before .before .before .before .before .before .before .before .before .before .before .put-field .ensures .after, c .before .before .before .before .before .before .before .before .before .before .before .before .put-field2 .ensures .after, c .before .before .before .before .before .before .before .put-field3 .ensures .after, c .before .before .put-field4 .ensures .after),
 )
 
 pub put-numbers-spec : {M : Type 1} → statement M

@@ -1,12 +1,9 @@
 -- `reservation::reserve` meets its contract. Assumes nothing.
-use mathlib.Core.Path.{refl}
+use Rattle.packs.proofs.FreshTables.{fresh-made}
 use Rattle.reservation.proofs.QueryAnswers.{pack-ready, pack-held}
 use borrow.Author.Needs.{needs}
 use Rattle.reservation.proofs.reserve.Statement.{statement}
 use Rattle.reservation.proofs.reserve.Tie as tie
-
-load-requires : tie.Need-load-requires
-load-requires c κs = refl
 
 respond-requires : tie.Need-respond-requires
 respond-requires c κs = search (needs, pack-ready)
@@ -18,4 +15,4 @@ returns c =
 
 pub reserve-spec : {M : Type 1} → statement M
 reserve-spec =
-    tie.close (tie.spec load-requires respond-requires returns)
+    tie.close (tie.spec (λ c κs. search needs) (λ c κs. search needs) (λ c κs. search needs) (λ c κs. search (needs, fresh-made)) respond-requires returns)

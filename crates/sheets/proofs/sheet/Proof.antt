@@ -1,13 +1,11 @@
 -- `sheets::sheet` meets its contract. Assumes nothing.
-use mathlib.Core.Path.{refl, sym, _∙_, ap}
+use mathlib.Core.Path.{sym, _∙_, ap}
 use borrow.Author.Needs.{needs}
 use Rattle.theory.specs.Answers.{numbersOf}
+use Rattle.packs.proofs.FreshTables.{fresh-made}
 use Rattle.sheets.proofs.SheetAnswers.{refused-pack}
 use Rattle.sheets.proofs.sheet.Statement.{statement}
 use Rattle.sheets.proofs.sheet.Tie as tie
-
-load-requires : tie.Need-load-requires
-load-requires c κs = refl
 
 file-requires : tie.Need-file-requires
 file-requires c κs = ap numbersOf (sym (c .before .before .verdict .given .1)) ∙ c .before .before .before .before .load .ensures .answer
@@ -17,5 +15,5 @@ returns-2 c = refused-pack _ _ (c .before .verdict2 .given .0 .0) (ap numbersOf 
 
 pub sheet-spec : {M : Type 1} → statement M
 sheet-spec =
-    tie.close (tie.spec load-requires (λ c. search needs) file-requires (λ c. search needs) (λ c. search needs)
+    tie.close (tie.spec (λ c κs. search needs) (λ c κs. search needs) (λ c κs. search needs) (λ c κs. search (needs, fresh-made)) (λ c. search needs) file-requires (λ c. search needs) (λ c. search needs)
     (λ c. search needs) returns-2)

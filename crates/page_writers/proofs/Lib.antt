@@ -1,2 +1,0 @@
--- Laws on what the writers leave of a page.
-pub mod PageParts
