@@ -80,6 +80,9 @@ module _ {manner : Manner} {text : Bytes} {start : State} {t₀ : Tables} {s : S
         pub turn-from-moved : Fits w64 (from + 2 * z)
         turn-from-moved = omega (arith, skipped-within within skips, safe-opened .short)
 
+    pub turn-from-fits : {from stop : ℕ} → Finds (part text at end) 44 from stop → Fits w64 (stop + 1)
+    turn-from-fits found = omega (arith, found .high, safe-opened .short)
+
     module _ {many from index : ℕ} {x₀ : Stores} (fields : FieldsRead (o .letter) (part text at end) t s o many from index x₀) where
       module _ {stop : ℕ} (within : from ≤ length (part text at end)) (found : Finds (part text at end) 44 from stop) where
         pub turn-ready : FieldReady (o .letter) index (part (part text at end) from stop) s many (t .claims) (t .slots) x₀
@@ -87,9 +90,6 @@ module _ {manner : Manner} {text : Bytes} {start : State} {t₀ : Tables} {s : S
 
         pub turn-index-fits : Fits w64 (index + 1)
         turn-index-fits = omega (arith, fields .low, safe-opened .short)
-
-        pub turn-from-fits : Fits w64 (stop + 1)
-        turn-from-fits = omega (arith, found .high, safe-opened .short)
 
         module _ {field : Fielding} {x : Stores} (done : FieldDone (o .letter) index (part (part text at end) from stop) s many (t .claims) (t .slots) x₀ field x) where
           pub turn-more : {n : ℕ} → field ≡ Read n → FieldsRead (o .letter) (part text at end) t s o n (stop + 1) (index + 1) x

@@ -9,7 +9,7 @@ use Rattle.groundwork.proofs.Truth.{and-left, and-right, not-true}
 use Rattle.theory.specs.declared.Letter.{Letter}
 use Rattle.theory.specs.Text.{Bytes}
 use Rattle.theory.specs.Written.{lineLetter, Written}
-use Rattle.theory.specs.Faults.{Manner, isUnfit, mayStand}
+use Rattle.theory.specs.Faults.{isUnfit, mayStand}
 use Rattle.tables.specs.declared.State.{State}
 use Rattle.tables.specs.declared.Fault.the-variants.{UnfitLine, Letter as Misplaced}
 use Rattle.tables.specs.declared.Opening.{Opening}

@@ -58,12 +58,9 @@ module _ {bytes page₀ page : Bytes} {r : ℕ} (puts : Puts bytes page₀ page 
         is = ap₂ _++_ front-is (ap₂ _++_ more after) ∙ sym (append-assoc bytes (text (end - r)) (drop end page₀));
       }
 
-  -- they are laid over the page, and fill it
+  -- they are laid over the page
   pub puts-over : page ≡ over bytes page₀
   puts-over = puts .is ∙ ap (λ (many : ℕ). bytes ++ drop many page₀) (puts .many)
-
-  pub puts-all : length page₀ ≤ r → page ≡ bytes
-  puts-all full = puts .is ∙ ap (λ (rest : Bytes). bytes ++ rest) (drop-of-length-le page₀ full) ∙ append-nil bytes
 
 -- a writer that is lent the page from a place on
 pub puts-part : {more page part : Bytes} {at q : ℕ} → at ≤ length page → Puts more (midOf at (length page - at) page) part q → Puts (take at page ++ more) page (putMid at (length page - at) page part) (at + q)

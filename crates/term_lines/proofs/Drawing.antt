@@ -12,7 +12,7 @@ use Rattle.theory.specs.Text.{Bytes, bytes, isName, isVariable, decimal}
 use Rattle.theory.specs.Terms.{Term, Terms, symbol, nil}
 use Rattle.theory.specs.Terms as Terms
 use Rattle.clause_theory.specs.ClauseTokens as T
-use Rattle.clause_theory.specs.Clauses.{Clause, Open, Last, due, read, State, state, atomOf, added}
+use Rattle.clause_theory.specs.Clauses.{Clause, Open, Last, due, read, State, state, atomOf}
 use Rattle.clause_theory.specs.Import.{numberedVariable, termFits}
 use Rattle.text.specs.Scans.{part}
 use Rattle.text.proofs.Parts.{part-length}

@@ -2,7 +2,7 @@
 use mathlib.Core.Path.{_≡_, refl, sym, _∙_, ap}
 use mathlib.Core.List.{List, [], _∷_, _++_, append-assoc, append-nil, map, map-append}
 use mathlib.Core.Option.{Option, some, none}
-use Prim.Native.Nat.{ℕ, suc, _+_}
+use Prim.Native.Nat.{ℕ, suc}
 use Rattle.theory.specs.Text.{Bytes, bytes, joined, decimal, lastDigits}
 use Rattle.theory.specs.Terms.{Term, Terms, symbol, nil, cons, arity, symbolToken, tokens, allTokens, writtenTerm}
 use Rattle.theory.specs.Terms as Terms
@@ -40,10 +40,6 @@ joined-terms w ws (cons t ts) =
 pub symbol-written : (f : Bytes) (ts : Terms) → writtenTerm (symbol f ts) ≡ symbolToken f (arity ts) ++ afterEach 32 ts
 unfolding writtenTerm tokens joined
 symbol-written f ts = joined-terms (symbolToken f (arity ts)) [] ts
-
-pub variable-written : (x : Bytes) → writtenTerm (Terms.variable x) ≡ x
-unfolding writtenTerm tokens joined
-variable-written x = refl
 
 -- one term more
 pub after-more : (separator : ℕ) (t : Term) (ts : Terms) → afterEach separator (endingTerm t ts) ≡ afterEach separator ts ++ (separator ∷ writtenTerm t)

@@ -4,7 +4,7 @@ use mathlib.Core.Bool.{Bool, true, false}
 use Prim.Native.Nat.{ℕ}
 use native.Mathlib.Omega.{arith}
 use Rattle.groundwork.proofs.Truth.{by-truth, never-both}
-use Rattle.theory.specs.Text.{Bytes, isName, isVariable}
+use Rattle.theory.specs.Text.{Bytes, isName}
 use Rattle.words.specs.declared.Word.{Word}
 use Rattle.words.specs.declared.Words.{Words}
 use Rattle.words.specs.declared.Word.the-variants.{Name, Variable, Neither}
@@ -16,28 +16,13 @@ isNameWord (Name words) = true
 isNameWord (Variable words) = false
 isNameWord Neither = false
 
-abbrev pub isVariableWord : Word → Bool
-isVariableWord (Name words) = false
-isVariableWord (Variable words) = true
-isVariableWord Neither = false
-
 pub name-told : {s : Bytes} {r : Word} → WordRead s r → isName s ≡ isNameWord r
 name-told (name h) = h
 name-told {s} (variable h) = by-truth (λ (c : Bool). c ≡ false) (isName s) (λ k. never-both h (name-not-variable s k)) (λ _. refl)
 name-told (neither h k) = h
 
-pub variable-told : {s : Bytes} {r : Word} → WordRead s r → isVariable s ≡ isVariableWord r
-variable-told {s} (name h) = name-not-variable s h
-variable-told (variable h) = h
-variable-told (neither h k) = k
-
--- the words of a name, and of a variable
+-- the words of a name
 pub read-words : (bs : Bytes) (r : Word) (words : Words) → WordRead bs r → r ≡ Name words → words ≡ wordsOf bs
 read-words bs r words (name h) e = cc
 read-words bs r words (variable h) e = let never : _≡_ {A = ℕ} 0 1 = cc in absurd (omega arith)
 read-words bs r words (neither h k) e = let never : _≡_ {A = ℕ} 0 1 = cc in absurd (omega arith)
-
-pub variable-words : (bs : Bytes) (r : Word) (words : Words) → WordRead bs r → r ≡ Variable words → words ≡ wordsOf bs
-variable-words bs r words (name h) e = let never : _≡_ {A = ℕ} 0 1 = cc in absurd (omega arith)
-variable-words bs r words (variable h) e = cc
-variable-words bs r words (neither h k) e = let never : _≡_ {A = ℕ} 0 1 = cc in absurd (omega arith)

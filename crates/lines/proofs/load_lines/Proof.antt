@@ -123,10 +123,7 @@ add-from-2 : tie.Need-add-from-2 Inv-fields μ-fields Inv-lines μ-lines
 add-from-2 c =
     let found = at-field (c .before .before .before .before) in
     let held = at-fields found in
-    let told = held .before .before .before .opened .given .1 in
-    let fields = turn-skipped (turn (at-open held)) told (held .fields .inv .1) (found .before .zeros-ahead .ensures) in
-    let within = skipped-within (found .before .before .fields-test .taken) (found .before .zeros-ahead .ensures) in
-    turn-from-fits (turn (at-open held)) told fields within (found .field-end .ensures)
+    turn-from-fits (turn (at-open held)) (held .before .before .before .opened .given .1) (found .field-end .ensures)
 
 fields-less : tie.Need-fields-less Inv-fields μ-fields Inv-lines μ-lines
 fields-less c =

@@ -11,7 +11,7 @@ use lib.Seq.{drop-cons}
 use Rattle.theory.specs.Lists.{every, isSome, isEmpty, ending}
 use Rattle.theory.specs.Text.{Bytes, isName}
 use Rattle.theory.specs.Terms.{arity, AllWellFormed, allVariables}
-use Rattle.theory.specs.Packs.{ruled, Claim, Atom, Pack, measureIn, ruleLimit, subgoalLimit, variableLimit, termFields, factLine, headLine, subgoalLine, onSubgoals, onFacts, onRules, headAlone, fromRules}
+use Rattle.theory.specs.Packs.{ruled, Atom, Pack, measureIn, ruleLimit, subgoalLimit, variableLimit, termFields, factLine, headLine, subgoalLine, onSubgoals, onFacts, onRules, headAlone, fromRules}
 use Rattle.theory.specs.declared.Letter.{Letter}
 use Rattle.theory.specs.declared.Letter.the-variants.{G, H, B}
 use Rattle.theory.specs.Written.{field, atomFrom, add, onLast}

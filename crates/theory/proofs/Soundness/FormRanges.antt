@@ -31,7 +31,7 @@ use Rattle.theory.proofs.Judging.FaultNumbers.{OfLetter, past-place, pa
 use Rattle.theory.proofs.Judging.FineRuns.{ReachedShort, reached-short}
 use Rattle.theory.proofs.Judging.MultiplierLines.{multipliers-fit}
 use Rattle.theory.proofs.Soundness.SubgoalForms.{of-subgoal}
-use Rattle.theory.proofs.Soundness.FormBounds.{Moderate, Within, within-more, within-times, within-combined, within-residual, structural-moderate, within-claim}
+use Rattle.theory.proofs.Soundness.FormBounds.{Within, within-more, within-times, within-combined, within-residual, structural-moderate, within-claim}
 
 -- of a claim's form: its numbers times what the tokens of a line count
 abbrev claimFormLimit : ℕ
@@ -52,10 +52,6 @@ take-member {A} {a} i l m = subst (λ (k : List A). a ∈ k) (take-append-drop i
 
 -- a rule of a pack that lines have written so far
 module _ (p : Pack) (so : ReachedShort p) (r : Rule) (isRule : r ∈ p .rules) where
-  -- no symbol counts more than nine
-  moderate : Moderate 9 (measureIn p)
-  moderate = structural-moderate
-
   begun : Begun (opening p) r
   begun = so .reached .rules r isRule
 
@@ -76,7 +72,7 @@ module _ (p : Pack) (so : ReachedShort p) (r : Rule) (isRule : r ∈ p .rules) w
       → Within claimFormLimit (claimForm (measureIn p) a (record { name = c .name; constant = c .constant; coefficients = cs }))
   claim-within a formed few c m cs part =
       let claim = so .reached .claims c m in
-      within-claim 9 (measureIn p) moderate numberLimit lineLimit a _ (claim .constant) (λ z n. claim .coefficients z (part z n)) formed few
+      within-claim 9 (measureIn p) structural-moderate numberLimit lineLimit a _ (claim .constant) (λ z n. claim .coefficients z (part z n)) formed few
 
   form-within : (f : Form) → f ∈ subgoalForms (measureIn p) (p .claims) (r .subgoals) → Within claimFormLimit f
   form-within f n =
