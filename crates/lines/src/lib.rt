@@ -149,13 +149,8 @@ fn zeros_ahead(letter: Letter, line: &[u8], from: usize) -> usize
 {
     match letter {
         Letter::M => numbers::zeros(line, from),
-        Letter::P
-        | Letter::C
-        | Letter::G
-        | Letter::H
-        | Letter::B
-        | Letter::E
-        | Letter::NoLetter => 0,
+        Letter::P | Letter::C | Letter::G | Letter::H | Letter::B | Letter::E | Letter::NoLetter =>
+            0,
     }
 }
 
