@@ -1,5 +1,4 @@
 -- What the functions' proofs cite.
-pub mod PredicateFields
 pub mod ClaimFields
 pub mod Laying
 -- What each line does to the tables, against what it writes.

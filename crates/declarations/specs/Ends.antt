@@ -29,10 +29,10 @@ withOwing owing s = record { predicates = s .predicates; claimed = true; rules =
 abbrev pub withClaim : ℕ → List ℕ → State → State
 withClaim place signatures s = withOwing (owingWith (s .owing) place (getD signatures (32 + place) 0)) s
 
-pub record ClosesP (o : Opened) (s : State) (small names₀ signatures₀ : List ℕ) (r : Closing) (names signatures : List ℕ) : Type 0 where
+pub record ClosesP (o : Opened) (s : State) (names₀ signatures₀ : List ℕ) (r : Closing) (names signatures : List ℕ) : Type 0 where
   pub answer : r ≡ cond (leb predicateLimit (s .predicates)) (Misclosed CountLimit) (Done (withPredicates (s .predicates + 1) s))
   pub namesAre : s .predicates < predicateLimit → names ≡ set (set names₀ (2 * s .predicates) (o .words .first)) (2 * s .predicates + 1) (o .words .second)
-  pub signaturesAre : s .predicates < predicateLimit → signatures ≡ set (set signatures₀ (s .predicates) (getD small 0 0)) (32 + s .predicates) (getD small 1 0)
+  pub signaturesAre : s .predicates < predicateLimit → signatures ≡ set (set signatures₀ (s .predicates) (o .arity)) (32 + s .predicates) (o .mark)
 
 -- nine numbers of a claim laid into the table, zeros after those of the arguments
 pub record Laid (claims₀ : List ℤ) (place : ℕ) (row : List ℤ) (arity : ℕ) (claims : List ℤ) : Type 0 where

@@ -1,13 +1,12 @@
-// `P` and `C` lines: a predicate, a claim. What their fields and their ends do.
+// `P` and `C` lines: a predicate, a claim. What a claim's fields and their ends do.
 ghost use mathlib.Core.Path.{_≡_};
 ghost use Prim.Native.Nat.{_+_, _≤_, _<_};
 ghost use lib.ListN.{length};
 ghost use Rattle.tables.specs.Tables.{SafeSignatures};
-ghost use Rattle.declarations.specs.Fields.{FieldP, FieldC};
+ghost use Rattle.declarations.specs.Fields.{FieldC};
 ghost use Rattle.declarations.specs.Ends.{ClosesP, Laid, owingWith, ClosesC};
 use forms::Form;
 use numbers::Integer;
-use numbers::Natural;
 use tables::Claims;
 use tables::Closing;
 use tables::Fault;
@@ -17,36 +16,6 @@ use tables::Opened;
 use tables::PredicateSet;
 use tables::Signatures;
 use tables::State;
-
-/// A field of a `P` line: the arity, then the kind. `small` holds both, the kind as 1 if the predicate is given.
-pub fn field_predicate(index: usize, field: &[u8], small: &mut [u8; 2], many: usize) -> Fielding
-    requires { ⌜ (index < 2) × (length (now small) ≡ 2) ⌝ }
-    ensures { λ r. ⌜ FieldP index (now (field .entry)) many (now (small .entry)) r (now (small .exit)) ⌝ }
-{
-    if index == 0 {
-        let arity = numbers::read_natural(field, 8);
-        match arity {
-            Natural::Whole(n) => {
-                small[0] = widths::u32_to_u8(n);
-                return Fielding::Read(many);
-            }
-            Natural::NoNatural => return Fielding::Misread(Fault::Number),
-        }
-    }
-    if field.len() != 1 {
-        return Fielding::Misread(Fault::Number);
-    }
-    let kind = field[0];
-    if kind == b'G' {
-        small[1] = 1;
-        return Fielding::Read(many);
-    }
-    if kind == b'R' {
-        small[1] = 0;
-        return Fielding::Read(many);
-    }
-    Fielding::Misread(Fault::Number)
-}
 
 /// A field of a `C` line: a number of the claim.
 pub fn field_claim(index: usize, field: &[u8], row: &mut [i16; 9], many: usize) -> Fielding
@@ -67,21 +36,22 @@ pub fn field_claim(index: usize, field: &[u8], row: &mut [i16; 9], many: usize) 
 pub fn close_predicate(
     o: Opened,
     state: State,
-    small: &[u8; 2],
     names: &mut Names,
     signatures: &mut Signatures,
 ) -> Closing
-    ensures { λ r. ⌜ ClosesP o state (now (small .entry)) (now (names .entry)) (now (signatures .entry)) r (now (names .exit)) (now (signatures .exit)) ⌝ }
+    ensures { λ r. ⌜ ClosesP o state (now (names .entry)) (now (signatures .entry)) r (now (names .exit)) (now (signatures .exit)) ⌝ }
 {
     let known = state.predicates;
     if 32 <= known {
         return Closing::Misclosed(Fault::CountLimit);
     }
     let words = o.words;
+    let arity = o.arity;
+    let mark = o.mark;
     names[2 * known] = words.first;
     names[2 * known + 1] = words.second;
-    signatures[known] = small[0];
-    signatures[32 + known] = small[1];
+    signatures[known] = arity;
+    signatures[32 + known] = mark;
     let mut next = state;
     next.predicates = known + 1;
     Closing::Done(next)

@@ -28,7 +28,6 @@ use Rattle.tables.specs.Sorts.{Sort, declaring, numbering, stating, following, 
 use Rattle.tables.specs.Tables.{Tables, Holds, NoWeights, Safe}
 use Rattle.tables.specs.Lines.{skipped, most, Passed, at}
 use Rattle.tables.proofs.Outcomes.{field-fails}
-use Rattle.declarations.proofs.PredicateLines.{p-begin, p-field, p-count, p-misread, p-fault}
 use Rattle.declarations.proofs.ClaimLines.{c-begin, c-field, c-count, c-fault}
 use Rattle.atoms.specs.Fields.{FieldTerm}
 use Rattle.atoms.proofs.TermFields.{t-misread, t-high}
@@ -48,7 +47,7 @@ fieldsFrom line o = partsFrom 44 line (o .from)
 
 -- the stores before a field is read
 abbrev pub emptied : Tables → List ℤ → Stores
-emptied t weights = stores (replicate 2 0) (replicate 9 (pos 0)) (t .variables) (t .rows) weights
+emptied t weights = stores (replicate 9 (pos 0)) (t .variables) (t .rows) weights
 
 untouched-begin : (sort : Sort) (t : Tables) {weights : List ℤ} → NoWeights weights → Untouched sort t (emptied t weights)
 untouched-begin declaring t clear = (refl, refl, clear)
@@ -79,7 +78,7 @@ variables-high none s few = omega arith
 
 progress-begin : (letter : Letter) {manner : Manner} {line : Bytes} {t : Tables} {s : State} {o : Opened} {weights : List ℤ} → Safe t s → NoWeights weights → (w : Written) → Holds t s w → Passed manner letter line s w o
     → Progress (sortOf letter) line w s t 0 (variablesBefore (sortOf letter) s) (emptied t weights)
-progress-begin P {line = line} safe clear w holds passed = p-begin (drop 2 (fieldsOf line)) (replicate 2 0)
+progress-begin P safe clear w holds passed = tt
 progress-begin C {line = line} safe clear w holds passed = c-begin (drop 2 (fieldsOf line)) (replicate 9 (pos 0))
 progress-begin G {line = line} {t} safe clear w holds passed = first-begin (measureIn (w .pack)) (drop 2 (fieldsOf line)) (t .variables) (t .rows) (safe .sizes .variables)
 progress-begin H {line = line} {t} safe clear w holds passed = first-begin (measureIn (w .pack)) (drop 2 (fieldsOf line)) (t .variables) (t .rows) (safe .sizes .variables)
@@ -96,8 +95,6 @@ fields-begin letter {line} {t} {s} {o} safe clear = record {
   count = omega arith;
   high = variables-high (sortOf letter) s (safe .state .variables);
   stores = record {
-    smallSize = refl;
-    arity = omega arith;
     rowSize = refl;
     rowSmall = λ i. rw (same-everywhere (pos 0) 9 i) (omega arith);
     variablesSize = safe .sizes .variables;
@@ -136,7 +133,7 @@ module _ {line : Bytes} {t : Tables} {s : State} {o : Opened} (safe : Safe t s) 
       few-slots = omega (arith, safe .state .slots, safe .state .subgoals)
 
       ready : (sort : Sort) → length (fieldsFrom line o) ≤ most sort s → Weighed sort (fieldsFrom line o) index t x₀ → FieldNeeds sort index (part line from stop) s many (t .claims) (t .slots) x₀
-      ready declaring few weighed = (omega (arith, less), read .stores .smallSize)
+      ready declaring few weighed = absurd (omega (arith, less))
       ready numbering few weighed = (omega (arith, less), read .stores .rowSize)
       ready stating few weighed = (omega (arith, less), short-part, read .high)
       ready following few weighed = (omega (arith, less), short-part, read .high)
@@ -161,7 +158,7 @@ module _ {line : Bytes} {t : Tables} {s : State} {o : Opened} (safe : Safe t s) 
 
         misread : (letter : Letter) → length (fieldsFrom line o) ≤ most (sortOf letter) s → FieldLeaves (sortOf letter) index (part line from stop) s many (t .claims) (t .slots) x₀ r x → (f : Fault) → r ≡ Misread f
             → {manner : Manner} (w : Written) → Holds t s w → Passed manner letter line s w o → fault manner w line ≡ numberOf f
-        misread P few done f bad w holds passed = p-fault line s w o index many (x₀ .small) (x .small) r f passed (omega (arith, less)) (rw (placed passed) at (done .0)) bad
+        misread P few done f bad w holds passed = absurd done
         misread C few done f bad w holds passed = c-fault line s w o index many (x₀ .row) (x .row) r f passed (within passed) (rw (placed passed) at (done .0)) bad
         misread G few done f bad w holds passed = g-fault passed (within passed) (rw (placed passed) at (done .0)) bad
         misread H few done f bad w holds passed = h-fault passed (within passed) (rw (placed passed) at (done .0)) bad
@@ -172,7 +169,7 @@ module _ {line : Bytes} {t : Tables} {s : State} {o : Opened} (safe : Safe t s) 
 
         -- a field's fault is never the last one
         early : (sort : Sort) → length (fieldsFrom line o) ≤ most sort s → FieldLeaves sort index (part line from stop) s many (t .claims) (t .slots) x₀ r x → (f : Fault) → r ≡ Misread f → numberOf f ≤ 11
-        early declaring few done f bad = omega (arith, ap numberOf (p-misread (done .0) (omega (arith, less)) bad))
+        early declaring few done f bad = absurd done
         early numbering few done f bad = omega (arith, ap numberOf (field-fails many Number (isClaimNumber (part line from stop)) (done .0 .answer) bad .1))
         early stating few done f bad = omega (arith, ap numberOf (t-misread (done .0) bad))
         early following few done f bad = omega (arith, ap numberOf (t-misread (done .0) bad))
@@ -184,10 +181,8 @@ module _ {line : Bytes} {t : Tables} {s : State} {o : Opened} (safe : Safe t s) 
 
         module _ {n : ℕ} (good : r ≡ Read n) where
           -- the stores after a term
-          term-stores : {atom : ℕ} → FieldTerm structural atom index (part line from stop) many (x₀ .variables) (x₀ .rows) r (x .variables) (x .rows) → SafeStores (stores (x₀ .small) (x₀ .row) (x .variables) (x .rows) (x₀ .weights))
+          term-stores : {atom : ℕ} → FieldTerm structural atom index (part line from stop) many (x₀ .variables) (x₀ .rows) r (x .variables) (x .rows) → SafeStores (stores (x₀ .row) (x .variables) (x .rows) (x₀ .weights))
           term-stores done = record {
-            smallSize = read .stores .smallSize;
-            arity = read .stores .arity;
             rowSize = read .stores .rowSize;
             rowSmall = read .stores .rowSmall;
             variablesSize = done .sizes .0 ∙ read .stores .variablesSize;
@@ -196,18 +191,8 @@ module _ {line : Bytes} {t : Tables} {s : State} {o : Opened} (safe : Safe t s) 
           }
 
           stores-after : (sort : Sort) → FieldLeaves sort index (part line from stop) s many (t .claims) (t .slots) x₀ r x → SafeStores x
-          stores-after declaring done = subst⁻¹ SafeStores (done .1) (record {
-            smallSize = done .0 .size ∙ read .stores .smallSize;
-            arity = done .0 .low (read .stores .arity);
-            rowSize = read .stores .rowSize;
-            rowSmall = read .stores .rowSmall;
-            variablesSize = read .stores .variablesSize;
-            rowsSize = read .stores .rowsSize;
-            rows = read .stores .rows;
-          })
+          stores-after declaring done = absurd done
           stores-after numbering done = subst⁻¹ SafeStores (done .1) (record {
-            smallSize = read .stores .smallSize;
-            arity = read .stores .arity;
             rowSize = done .0 .size ∙ read .stores .rowSize;
             rowSmall = done .0 .small (read .stores .rowSmall);
             variablesSize = read .stores .variablesSize;
@@ -217,8 +202,6 @@ module _ {line : Bytes} {t : Tables} {s : State} {o : Opened} (safe : Safe t s) 
           stores-after stating done = subst⁻¹ SafeStores (done .1) (term-stores (done .0))
           stores-after following done = subst⁻¹ SafeStores (done .1) (term-stores (done .0))
           stores-after multiplying done = subst⁻¹ SafeStores (done .1) (record {
-            smallSize = read .stores .smallSize;
-            arity = read .stores .arity;
             rowSize = read .stores .rowSize;
             rowSmall = read .stores .rowSmall;
             variablesSize = read .stores .variablesSize;
@@ -229,7 +212,7 @@ module _ {line : Bytes} {t : Tables} {s : State} {o : Opened} (safe : Safe t s) 
           stores-after none done = absurd done
 
           high-after : (sort : Sort) → length (fieldsFrom line o) ≤ most sort s → FieldLeaves sort index (part line from stop) s many (t .claims) (t .slots) x₀ r x → n ≤ 17
-          high-after declaring few done = omega (arith, p-count (done .0) (omega (arith, less)) good, read .high)
+          high-after declaring few done = absurd done
           high-after numbering few done = omega (arith, c-count (done .0) good, read .high)
           high-after stating few done = t-high (done .0) good
           high-after following few done = t-high (done .0) good
@@ -238,7 +221,7 @@ module _ {line : Bytes} {t : Tables} {s : State} {o : Opened} (safe : Safe t s) 
           high-after none few done = absurd done
 
           untouched-after : (sort : Sort) → FieldLeaves sort index (part line from stop) s many (t .claims) (t .slots) x₀ r x → Untouched sort t x₀ → Untouched sort t x
-          untouched-after declaring done before = subst⁻¹ (Untouched declaring t) (done .1) before
+          untouched-after declaring done before = absurd done
           untouched-after numbering done before = subst⁻¹ (Untouched numbering t) (done .1) before
           untouched-after stating done before = subst⁻¹ (Untouched stating t) (done .1) before
           untouched-after following done before = subst⁻¹ (Untouched following t) (done .1) before
@@ -258,7 +241,7 @@ module _ {line : Bytes} {t : Tables} {s : State} {o : Opened} (safe : Safe t s) 
           -- a sort's own laws, one field on, by the fields' places in the line
           progress : (sort : Sort) → length (fieldsFrom line o) ≤ most sort s → FieldLeaves sort index (part line from stop) s many (t .claims) (t .slots) x₀ r x → part line from stop ≡ at (drop (skipped sort) (fieldsOf line)) index → index < length (drop (skipped sort) (fieldsOf line))
               → (w : Written) → Progress sort line w s t index many x₀ → Progress sort line w s t (suc index) n x
-          progress declaring few done is inside w before = p-field (drop 2 (fieldsOf line)) index many (x₀ .small) (x .small) r n (omega (arith, less)) before (rw is at (done .0)) good
+          progress declaring few done is inside w before = absurd done
           progress numbering few done is inside w before = c-field (drop 2 (fieldsOf line)) index many (x₀ .row) (x .row) r n before (rw is at (done .0)) good
           progress stating few done is inside w before = first-field (omega (arith, less)) inside (read .stores .rowsSize) before (rw is at (done .0)) good
           progress following few done is inside w before = b-field (omega (arith, less)) inside (read .stores .rowsSize) before (rw is at (done .0)) good

@@ -23,7 +23,6 @@ use Rattle.tables.specs.Lines.{skipped, most, Passed, ClosedFor}
 use Rattle.tables.proofs.Outcomes.{done-misclosed}
 use Rattle.residuals.specs.Sums.{Summable}
 use Rattle.certificates.specs.Multipliers.{ProgressM, ClosesM}
-use Rattle.declarations.specs.Fields.{ProgressP}
 use Rattle.declarations.proofs.PredicateLines.{p-limit, p-close, p-safe}
 use Rattle.declarations.proofs.ClaimLines.{c-limit, c-close, c-safe}
 use Rattle.facts.proofs.FactLines.{g-other, g-close, g-safe}
@@ -96,34 +95,31 @@ module _ {line : Bytes} {t : Tables} {s : State} {o : Opened} (safe : Safe t s) 
   whole letter read past w holds passed = subst (λ (n : ℕ). Progress (sortOf letter) line w s t n many x) (past ∙ ap length (passed .rest)) (read .tells w holds passed)
 
   module _ {manner : Manner} {r : Closing} {y : Tabled} where
-    pub closed : (letter : Letter) → FieldsRead letter line t s o many from index x → length (fieldsFrom line o) ≤ most (sortOf letter) s → ((letter ≡ P → ⊥) → o .predicate < 32) → (letter ≡ M → s .multipliers < 16) → index ≡ length (fieldsFrom line o)
-        → ((w : Written) → Holds t s w → Passed manner letter line s w o) → CloseLeaves manner letter o s many (x .small) (x .row) (x .rows) (unclosed t x) r y → LineJudged manner line s t r (closedTables x y) (y .weights)
-    closed P read few place due past passed done =
+    pub closed : (letter : Letter) → FieldsRead letter line t s o many from index x → length (fieldsFrom line o) ≤ most (sortOf letter) s → ((letter ≡ P → ⊥) → o .predicate < 32) → (letter ≡ M → s .multipliers < 16) → o .arity ≤ 8 → index ≡ length (fieldsFrom line o)
+        → ((w : Written) → Holds t s w → Passed manner letter line s w o) → CloseLeaves manner letter o s many (x .row) (x .rows) (unclosed t x) r y → LineJudged manner line s t r (closedTables x y) (y .weights)
+    closed P read few place due low past passed done =
         let (variables, rows, clear) = read .untouched in
         leaves-none (tables (y .names) (y .signatures) (t .claims) (t .variables) (t .rows) (t .slots)) (λ i. tables (y .names) (y .signatures) (done .1 i .claims) (variables i) (rows i) (done .1 i .slots))
-        (ap (λ (z : Tabled). z .weights) (done .1)) clear (read .stores .rows) (limit-other (p-limit (done .0))) (p-safe t s o (x .small) (y .names) (y .signatures) r safe (read .stores .arity) (done .0))
-        λ w holds.
-        let p = passed w holds in
-        let two : index ≡ 2 = omega (arith, ap length (p .rest), length-drop 2 (fieldsOf line), p .named .four) in
-        p-close line t s w o (x .small) (y .names) (y .signatures) r holds safe p (subst (λ (n : ℕ). ProgressP (drop 2 (fieldsOf line)) n (x .small)) two (read .tells w holds p)) (done .0)
-    closed C read few place due past passed done =
+        (ap (λ (z : Tabled). z .weights) (done .1)) clear (read .stores .rows) (limit-other (p-limit (done .0))) (p-safe t s o (y .names) (y .signatures) r safe low (done .0))
+        λ w holds. p-close line t s w o (y .names) (y .signatures) r holds safe (passed w holds) (done .0)
+    closed C read few place due low past passed done =
         let (variables, rows, clear) = read .untouched in
         leaves-none (tables (t .names) (y .signatures) (y .claims) (t .variables) (t .rows) (t .slots)) (λ i. tables (done .1 i .names) (y .signatures) (y .claims) (variables i) (rows i) (done .1 i .slots))
         (ap (λ (z : Tabled). z .weights) (done .1)) clear (read .stores .rows) (limit-other (c-limit (done .0))) (c-safe t s o (x .row) (y .signatures) (y .claims) r safe (place claim-other) (read .stores .rowSmall) (done .0))
         λ w holds. let p = passed w holds in c-close line t s w o (x .row) (y .signatures) (y .claims) r holds safe p (whole C read past w holds p) (done .0)
-    closed G read few place due past passed done =
+    closed G read few place due low past passed done =
         leaves-none (tables (t .names) (t .signatures) (t .claims) (x .variables) (x .rows) (t .slots)) (λ i. tables (done .1 i .names) (done .1 i .signatures) (done .1 i .claims) (x .variables) (x .rows) (done .1 i .slots))
         (ap (λ (z : Tabled). z .weights) (done .1)) (read .untouched) (read .stores .rows) (g-other (done .0)) (g-safe safe (read .stores .variablesSize) (read .stores .rowsSize) (read .stores .rows) (done .0))
         λ w holds. let p = passed w holds in g-close holds safe p (whole G read past w holds p) (done .0)
-    closed H read few place due past passed done =
+    closed H read few place due low past passed done =
         leaves-none (tables (t .names) (t .signatures) (t .claims) (x .variables) (x .rows) (t .slots)) (λ i. tables (done .1 i .names) (done .1 i .signatures) (done .1 i .claims) (x .variables) (x .rows) (done .1 i .slots))
         (ap (λ (z : Tabled). z .weights) (done .1)) (read .untouched) (read .stores .rows) (limit-other (h-limit (done .0))) (h-safe safe (place head-other) (read .stores .variablesSize) (read .stores .rowsSize) (read .stores .rows) (done .0))
         λ w holds. let p = passed w holds in h-close holds safe p (whole H read past w holds p) (done .0)
-    closed B read few place due past passed done =
+    closed B read few place due low past passed done =
         leaves-none (tables (t .names) (t .signatures) (t .claims) (x .variables) (x .rows) (y .slots)) (λ i. tables (done .1 i .names) (done .1 i .signatures) (done .1 i .claims) (x .variables) (x .rows) (y .slots))
         (ap (λ (z : Tabled). z .weights) (done .1)) (read .untouched) (read .stores .rows) (limit-other (b-limit (done .0))) (b-safe safe (place subgoal-other) (read .stores .variablesSize) (read .stores .rowsSize) (read .stores .rows) (done .0))
         λ w holds. let p = passed w holds in b-close holds safe p (whole B read past w holds p) (done .0)
-    closed M read few place due past passed done =
+    closed M read few place due low past passed done =
         let (variables, rows) = read .untouched in
         let closes = rw rows at (done .0) in
         let same : closedTables x y ≡ t = λ i. tables (done .1 i .names) (done .1 i .signatures) (done .1 i .claims) (variables i) (rows i) (done .1 i .slots) in
@@ -137,12 +133,12 @@ module _ {line : Bytes} {t : Tables} {s : State} {o : Opened} (safe : Safe t s) 
               let left = m-left holds safe p (whole M read past w holds p) closes Unjustified bad in
               record { ruled = left .1; sum = rw rows (left .2) };
         }
-    closed E read few place due past passed done =
+    closed E read few place due low past passed done =
         let (variables, rows, clear) = read .untouched in
         leaves-none t (λ i. tables (done .1 i .names) (done .1 i .signatures) (done .1 i .claims) (variables i) (rows i) (done .1 i .slots))
         (ap (λ (z : Tabled). z .weights) (done .1)) clear (read .stores .rows) (λ f bad e. omega (arith, ap numberOf (e-fault (done .0) f bad))) (λ next. e-safe t s next r safe (done .0))
         λ w holds. e-close line t s w o r holds (passed w holds) (done .0)
-    closed NoLetter read few place due past passed done = record {
+    closed NoLetter read few place due low past passed done = record {
       safe = λ next good. absurd (done-misclosed (sym good ∙ done .0));
       summable = subst⁻¹ (λ (ws : List ℤ). Summable ws (x .rows)) (ap (λ (z : Tabled). z .weights) (done .1)) (unweighed (read .untouched) (read .stores .rows));
       tells = λ w holds. absurd (passed w holds .named);

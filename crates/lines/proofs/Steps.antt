@@ -15,7 +15,7 @@ use Rattle.tables.specs.declared.State.{State}
 use Rattle.tables.specs.declared.Opened.{Opened}
 use Rattle.tables.specs.declared.Fielding.{Fielding}
 use Rattle.tables.specs.declared.Closing.{Closing}
-use Rattle.tables.specs.Sorts.{Sort, sortOf}
+use Rattle.tables.specs.Sorts.{Sort, declaring, ending, sortOf}
 use Rattle.atoms.specs.Fields.{FieldTerm, atomOf}
 use Rattle.lines.specs.Steps.{Stores, stores, TermReady, FieldNeeds, FieldLeaves, FieldReady, FieldDone, Tabled, CloseNeeds, CloseReady, CloseLeaves, CloseDone}
 
@@ -30,6 +30,18 @@ module _ (l : Letter) {letter : Letter} {index : ℕ} {field : Bytes} {s : State
 
   pub done-of : {r : Fielding} {x : Stores} → letter ≡ l → FieldLeaves (sortOf l) index field s many claims slots x₀ r x → FieldDone letter index field s many claims slots x₀ r x
   done-of is = field-done (sortOf l) (ap sortOf is)
+
+-- ---- the letters of lines that have no fields left, by their tags
+
+pub none-ready : (letter : Letter) → OneOf (0 ∷ 6 ∷ []) (tagOf the-type letter) → {index : ℕ} {field : Bytes} {s : State} {many : ℕ} {claims : List ℤ} {slots : List ℕ} {x₀ : Stores} → FieldReady letter index field s many claims slots x₀ → ⊥
+none-ready P way ready = ready .of declaring refl
+none-ready C way ready = absurd (miss (0 ∷ 6 ∷ []) 1 tt way)
+none-ready G way ready = absurd (miss (0 ∷ 6 ∷ []) 2 tt way)
+none-ready H way ready = absurd (miss (0 ∷ 6 ∷ []) 3 tt way)
+none-ready B way ready = absurd (miss (0 ∷ 6 ∷ []) 4 tt way)
+none-ready M way ready = absurd (miss (0 ∷ 6 ∷ []) 5 tt way)
+none-ready E way ready = ready .of ending refl
+none-ready NoLetter way ready = absurd (miss (0 ∷ 6 ∷ []) 7 tt way)
 
 -- ---- the letters of atoms, by their tags
 
@@ -48,15 +60,15 @@ module _ {letter : Letter} (way : OneOf (2 ∷ 3 ∷ 4 ∷ []) (tagOf the-type l
   atom-ready ready = by-atom (λ (l : Letter). FieldNeeds (sortOf l) index field s many claims slots x₀ → TermReady index field many) letter way (λ needed. needed) (λ needed. needed) (λ needed. needed) (ready .of (sortOf letter) refl)
 
   pub atom-done : {r : Fielding} {x : Stores} → FieldTerm structural (atomOf letter (s .subgoals)) index field many (x₀ .variables) (x₀ .rows) r (x .variables) (x .rows)
-      → x ≡ stores (x₀ .small) (x₀ .row) (x .variables) (x .rows) (x₀ .weights) → FieldDone letter index field s many claims slots x₀ r x
+      → x ≡ stores (x₀ .row) (x .variables) (x .rows) (x₀ .weights) → FieldDone letter index field s many claims slots x₀ r x
   atom-done {r} {x} done same =
       field-done (sortOf letter) refl
       (by-atom (λ (l : Letter). FieldTerm structural (atomOf l (s .subgoals)) index field many (x₀ .variables) (x₀ .rows) r (x .variables) (x .rows) → FieldLeaves (sortOf l) index field s many claims slots x₀ r x) letter way
       (λ read. (read, same)) (λ read. (read, same)) (λ read. (read, same)) done)
 
-pub close-done : {manner : Manner} (l : Letter) {letter : Letter} {o : Opened} {s : State} {many : ℕ} {small : List ℕ} {row : List ℤ} {rows : List ℕ} {y₀ : Tabled} {r : Closing} {y : Tabled}
-    → letter ≡ l → CloseLeaves manner l o s many small row rows y₀ r y → CloseDone manner letter o s many small row rows y₀ r y
-close-done {manner} l {o = o} {s} {many} {small} {row} {rows} {y₀} {r} {y} is leaves = record { of = λ k e. subst (λ (j : Letter). CloseLeaves manner j o s many small row rows y₀ r y) (sym is ∙ e) leaves }
+pub close-done : {manner : Manner} (l : Letter) {letter : Letter} {o : Opened} {s : State} {many : ℕ} {row : List ℤ} {rows : List ℕ} {y₀ : Tabled} {r : Closing} {y : Tabled}
+    → letter ≡ l → CloseLeaves manner l o s many row rows y₀ r y → CloseDone manner letter o s many row rows y₀ r y
+close-done {manner} l {o = o} {s} {many} {row} {rows} {y₀} {r} {y} is leaves = record { of = λ k e. subst (λ (j : Letter). CloseLeaves manner j o s many row rows y₀ r y) (sym is ∙ e) leaves }
 
 pub close-ready : {letter : Letter} {o : Opened} {s : State} {rows : List ℕ} {y : Tabled} → CloseNeeds letter o s rows y → CloseReady letter o s rows y
 close-ready {o = o} {s} {rows} {y} needs = record { of = λ k e. subst (λ (j : Letter). CloseNeeds j o s rows y) e needs }

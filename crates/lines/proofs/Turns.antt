@@ -111,9 +111,9 @@ module _ {manner : Manner} {text : Bytes} {start : State} {t₀ : Tables} {s : S
         pub turn-closable : CloseReady (o .letter) o s (x₀ .rows) (unclosed t x₀)
         turn-closable = close-ready (closable (turn .read .safe) (o .letter) fields (safe-opened .few) (safe-opened .place) (safe-opened .due) all)
 
-        module _ {close : Closing} {y : Tabled} (done : CloseDone manner (o .letter) o s many (x₀ .small) (x₀ .row) (x₀ .rows) (unclosed t x₀) close y) where
+        module _ {close : Closing} {y : Tabled} (done : CloseDone manner (o .letter) o s many (x₀ .row) (x₀ .rows) (unclosed t x₀) close y) where
           judged : LineJudged manner (part text at end) s t close (closedTables x₀ y) (y .weights)
-          judged = closed (turn .read .safe) (o .letter) fields (safe-opened .few) (safe-opened .place) (safe-opened .due) all passed (done .of (o .letter) refl)
+          judged = closed (turn .read .safe) (o .letter) fields (safe-opened .few) (safe-opened .place) (safe-opened .due) (safe-opened .low) all passed (done .of (o .letter) refl)
 
           pub turn-done : {next : State} → close ≡ Done next → LinesRead manner text start t₀ next (closedTables x₀ y) (y .weights) (number + 1) (end + 1)
           turn-done = lines-more (turn .read) (turn .inside) (turn .finds) judged

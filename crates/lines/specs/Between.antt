@@ -25,8 +25,6 @@ use Rattle.lines.specs.Steps.{Stores, Progress}
 
 -- the stores that the fields are read into
 pub record SafeStores (x : Stores) : Type 0 where
-  pub smallSize : length (x .small) ≡ 2
-  pub arity : getD (x .small) 0 0 ≤ 8
   pub rowSize : length (x .row) ≡ 9
   pub rowSmall : (i : ℕ) → natAbs (getD (x .row) i (pos 0)) ≤ 9999
   pub variablesSize : length (x .variables) ≡ 64

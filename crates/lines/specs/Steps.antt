@@ -23,7 +23,7 @@ use Rattle.tables.specs.declared.Closing.{Closing}
 use Rattle.tables.specs.declared.Closing.the-variants.{Done, Misclosed}
 use Rattle.tables.specs.Sorts.{Sort, declaring, numbering, stating, following, multiplying, ending, none as noSort, sortOf}
 use Rattle.tables.specs.Tables.{Tables, SafeSignatures, SafeClaims, SafeRows}
-use Rattle.declarations.specs.Fields.{FieldP, FieldC, ProgressP, ProgressC}
+use Rattle.declarations.specs.Fields.{FieldC, ProgressC}
 use Rattle.declarations.specs.Ends.{ClosesP, ClosesC}
 use Rattle.atoms.specs.Fields.{FieldTerm, subgoalAtom, ProgressTerms}
 use Rattle.rules.specs.Subgoals.{ProgressSubgoal}
@@ -37,21 +37,20 @@ use Rattle.certificates.specs.Multipliers.{FieldM, ProgressM, ClosesM}
 
 -- what the fields of a line write to
 pub record Stores : Type 0 where
-  pub small : List ℕ
   pub row : List ℤ
   pub variables : List ℕ
   pub rows : List ℕ
   pub weights : List ℤ
 
-abbrev pub stores : List ℕ → List ℤ → List ℕ → List ℕ → List ℤ → Stores
-stores small row variables rows weights = record { small = small; row = row; variables = variables; rows = rows; weights = weights }
+abbrev pub stores : List ℤ → List ℕ → List ℕ → List ℤ → Stores
+stores row variables rows weights = record { row = row; variables = variables; rows = rows; weights = weights }
 
 abbrev pub TermReady : ℕ → Bytes → ℕ → Type 0
 TermReady index field many = (index < 8) × (length field ≤ 1024) × (many ≤ 17)
 
 -- what a field needs
 abbrev pub FieldNeeds : Sort → ℕ → Bytes → State → ℕ → List ℤ → List ℕ → Stores → Type 0
-FieldNeeds declaring index field s many claims slots x = (index < 2) × (length (x .small) ≡ 2)
+FieldNeeds declaring index field s many claims slots x = ⊥
 FieldNeeds numbering index field s many claims slots x = (index < 9) × (length (x .row) ≡ 9)
 FieldNeeds stating index field s many claims slots x = TermReady index field many
 FieldNeeds following index field s many claims slots x = TermReady index field many
@@ -62,14 +61,14 @@ FieldNeeds noSort index field s many claims slots x = ⊥
 
 -- what it leaves
 abbrev pub FieldLeaves : Sort → ℕ → Bytes → State → ℕ → List ℤ → List ℕ → Stores → Fielding → Stores → Type 0
-FieldLeaves declaring index field s many claims slots x₀ r x = FieldP index field many (x₀ .small) r (x .small) × (x ≡ stores (x .small) (x₀ .row) (x₀ .variables) (x₀ .rows) (x₀ .weights))
-FieldLeaves numbering index field s many claims slots x₀ r x = FieldC index field many (x₀ .row) r (x .row) × (x ≡ stores (x₀ .small) (x .row) (x₀ .variables) (x₀ .rows) (x₀ .weights))
+FieldLeaves declaring index field s many claims slots x₀ r x = ⊥
+FieldLeaves numbering index field s many claims slots x₀ r x = FieldC index field many (x₀ .row) r (x .row) × (x ≡ stores (x .row) (x₀ .variables) (x₀ .rows) (x₀ .weights))
 FieldLeaves stating index field s many claims slots x₀ r x =
-    FieldTerm structural 0 index field many (x₀ .variables) (x₀ .rows) r (x .variables) (x .rows) × (x ≡ stores (x₀ .small) (x₀ .row) (x .variables) (x .rows) (x₀ .weights))
+    FieldTerm structural 0 index field many (x₀ .variables) (x₀ .rows) r (x .variables) (x .rows) × (x ≡ stores (x₀ .row) (x .variables) (x .rows) (x₀ .weights))
 FieldLeaves following index field s many claims slots x₀ r x =
-    FieldTerm structural (subgoalAtom (s .subgoals)) index field many (x₀ .variables) (x₀ .rows) r (x .variables) (x .rows) × (x ≡ stores (x₀ .small) (x₀ .row) (x .variables) (x .rows) (x₀ .weights))
+    FieldTerm structural (subgoalAtom (s .subgoals)) index field many (x₀ .variables) (x₀ .rows) r (x .variables) (x .rows) × (x ≡ stores (x₀ .row) (x .variables) (x .rows) (x₀ .weights))
 FieldLeaves multiplying index field s many claims slots x₀ r x =
-    FieldM index field many claims slots (x₀ .weights) r (x .weights) × (x ≡ stores (x₀ .small) (x₀ .row) (x₀ .variables) (x₀ .rows) (x .weights))
+    FieldM index field many claims slots (x₀ .weights) r (x .weights) × (x ≡ stores (x₀ .row) (x₀ .variables) (x₀ .rows) (x .weights))
 FieldLeaves ending index field s many claims slots x₀ r x = ⊥
 FieldLeaves noSort index field s many claims slots x₀ r x = ⊥
 
@@ -96,7 +95,7 @@ variablesBefore noSort s = s .variables
 
 -- what the fields of a line have left so far, where the tables were t at its beginning
 abbrev pub Progress : Sort → Bytes → Written → State → Tables → ℕ → ℕ → Stores → Type 0
-Progress declaring line w s t index many x = ProgressP (drop 2 (fieldsOf line)) index (x .small)
+Progress declaring line w s t index many x = Unit {0}
 Progress numbering line w s t index many x = ProgressC (drop 2 (fieldsOf line)) index (x .row)
 Progress stating line w s t index many x = ProgressTerms (measureIn (w .pack)) 0 [] (drop 2 (fieldsOf line)) index many (x .variables) (t .rows) (x .rows)
 Progress following line w s t index many x = ProgressSubgoal line w s t index many (x .variables) (x .rows)
@@ -136,18 +135,18 @@ CloseNeeds E o s rows y = Unit {0}
 CloseNeeds NoLetter o s rows y = Unit {0}
 
 -- what it leaves
-abbrev pub CloseLeaves : Manner → Letter → Opened → State → ℕ → List ℕ → List ℤ → List ℕ → Tabled → Closing → Tabled → Type 0
-CloseLeaves manner P o s many small row rows y₀ r y = ClosesP o s small (y₀ .names) (y₀ .signatures) r (y .names) (y .signatures) × (y ≡ tabled (y .names) (y .signatures) (y₀ .claims) (y₀ .slots) (y₀ .weights))
-CloseLeaves manner C o s many small row rows y₀ r y = ClosesC o s row (y₀ .signatures) (y₀ .claims) r (y .signatures) (y .claims) × (y ≡ tabled (y₀ .names) (y .signatures) (y .claims) (y₀ .slots) (y₀ .weights))
-CloseLeaves manner G o s many small row rows y₀ r y = ClosesG o s many (y₀ .signatures) (y₀ .claims) rows r × (y ≡ y₀)
-CloseLeaves manner H o s many small row rows y₀ r y = ClosesH o s many r × (y ≡ y₀)
-CloseLeaves manner B o s many small row rows y₀ r y = ClosesB o s many (y₀ .signatures) (y₀ .slots) r (y .slots) × (y ≡ tabled (y₀ .names) (y₀ .signatures) (y₀ .claims) (y .slots) (y₀ .weights))
-CloseLeaves manner M o s many small row rows y₀ r y = ClosesM s (y₀ .claims) (y₀ .weights) rows r (y .weights) × (y ≡ tabled (y₀ .names) (y₀ .signatures) (y₀ .claims) (y₀ .slots) (y .weights))
-CloseLeaves manner E o s many small row rows y₀ r y = ClosesE manner s r × (y ≡ y₀)
-CloseLeaves manner NoLetter o s many small row rows y₀ r y = (r ≡ Misclosed Misplaced) × (y ≡ y₀)
+abbrev pub CloseLeaves : Manner → Letter → Opened → State → ℕ → List ℤ → List ℕ → Tabled → Closing → Tabled → Type 0
+CloseLeaves manner P o s many row rows y₀ r y = ClosesP o s (y₀ .names) (y₀ .signatures) r (y .names) (y .signatures) × (y ≡ tabled (y .names) (y .signatures) (y₀ .claims) (y₀ .slots) (y₀ .weights))
+CloseLeaves manner C o s many row rows y₀ r y = ClosesC o s row (y₀ .signatures) (y₀ .claims) r (y .signatures) (y .claims) × (y ≡ tabled (y₀ .names) (y .signatures) (y .claims) (y₀ .slots) (y₀ .weights))
+CloseLeaves manner G o s many row rows y₀ r y = ClosesG o s many (y₀ .signatures) (y₀ .claims) rows r × (y ≡ y₀)
+CloseLeaves manner H o s many row rows y₀ r y = ClosesH o s many r × (y ≡ y₀)
+CloseLeaves manner B o s many row rows y₀ r y = ClosesB o s many (y₀ .signatures) (y₀ .slots) r (y .slots) × (y ≡ tabled (y₀ .names) (y₀ .signatures) (y₀ .claims) (y .slots) (y₀ .weights))
+CloseLeaves manner M o s many row rows y₀ r y = ClosesM s (y₀ .claims) (y₀ .weights) rows r (y .weights) × (y ≡ tabled (y₀ .names) (y₀ .signatures) (y₀ .claims) (y₀ .slots) (y .weights))
+CloseLeaves manner E o s many row rows y₀ r y = ClosesE manner s r × (y ≡ y₀)
+CloseLeaves manner NoLetter o s many row rows y₀ r y = (r ≡ Misclosed Misplaced) × (y ≡ y₀)
 
 pub record CloseReady (letter : Letter) (o : Opened) (s : State) (rows : List ℕ) (y : Tabled) : Type 0 where
   pub of : (l : Letter) → letter ≡ l → CloseNeeds l o s rows y
 
-pub record CloseDone (manner : Manner) (letter : Letter) (o : Opened) (s : State) (many : ℕ) (small : List ℕ) (row : List ℤ) (rows : List ℕ) (y₀ : Tabled) (r : Closing) (y : Tabled) : Type 0 where
-  pub of : (l : Letter) → letter ≡ l → CloseLeaves manner l o s many small row rows y₀ r y
+pub record CloseDone (manner : Manner) (letter : Letter) (o : Opened) (s : State) (many : ℕ) (row : List ℤ) (rows : List ℕ) (y₀ : Tabled) (r : Closing) (y : Tabled) : Type 0 where
+  pub of : (l : Letter) → letter ≡ l → CloseLeaves manner l o s many row rows y₀ r y

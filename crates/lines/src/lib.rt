@@ -26,7 +26,7 @@ use tables::Variables;
 use tables::Weights;
 use theory::Letter;
 
-/// One field of a line, by the line's letter.
+/// One field of a line, by the line's letter. A `P` line has none left, and an `E` line has none at all.
 fn field(
     letter: Letter,
     index: usize,
@@ -36,7 +36,6 @@ fn field(
     claims: &Claims,
     slots: &Slots,
     classes: &[u8; 256],
-    small: &mut [u8; 2],
     row: &mut [i16; 9],
     variables: &mut Variables,
     rows: &mut Rows,
@@ -45,12 +44,11 @@ fn field(
     arities: &mut [u8; 512],
     places: &mut [u16; 512],
 ) -> Fielding
-    requires { ⌜ (FieldReady letter index (now part) state many (now claims) (now slots) (stores (now small) (now row) (now variables) (now rows) (now weights))) × (length (now arities) ≡ 512) × (length (now places) ≡ 512) × Classes (now classes) ⌝ }
+    requires { ⌜ (FieldReady letter index (now part) state many (now claims) (now slots) (stores (now row) (now variables) (now rows) (now weights))) × (length (now arities) ≡ 512) × (length (now places) ≡ 512) × Classes (now classes) ⌝ }
     ensures kept { λ r. ⌜ (length (now (arities .exit)) ≡ 512) × (length (now (places .exit)) ≡ 512) ⌝ }
-    ensures done { λ r. ⌜ FieldDone letter index (now (part .entry)) state many (now (claims .entry)) (now (slots .entry)) (stores (now (small .entry)) (now (row .entry)) (now (variables .entry)) (now (rows .entry)) (now (weights .entry))) r (stores (now (small .exit)) (now (row .exit)) (now (variables .exit)) (now (rows .exit)) (now (weights .exit))) ⌝ }
+    ensures done { λ r. ⌜ FieldDone letter index (now (part .entry)) state many (now (claims .entry)) (now (slots .entry)) (stores (now (row .entry)) (now (variables .entry)) (now (rows .entry)) (now (weights .entry))) r (stores (now (row .exit)) (now (variables .exit)) (now (rows .exit)) (now (weights .exit))) ⌝ }
 {
     match letter {
-        Letter::P => declarations::field_predicate(index, part, small, many),
         Letter::C => declarations::field_claim(index, part, row, many),
         Letter::G | Letter::H | Letter::B => {
             let atom = atoms::atom_of(letter, state.subgoals);
@@ -68,7 +66,7 @@ fn field(
             )
         }
         Letter::M => certificates::field_multiplier(index, part, many, claims, slots, weights),
-        Letter::E => Fielding::Misread(Fault::FieldCount),
+        Letter::P | Letter::E => Fielding::Misread(Fault::FieldCount),
         Letter::NoLetter => Fielding::Misread(Fault::Letter),
     }
 }
@@ -101,7 +99,6 @@ fn close(
     o: Opened,
     state: State,
     many: usize,
-    small: &[u8; 2],
     row: &[i16; 9],
     rows: &Rows,
     names: &mut Names,
@@ -111,11 +108,11 @@ fn close(
     weights: &mut Weights,
 ) -> Closing
     requires { ⌜ CloseReady (o .letter) o state (now rows) (tabled (now names) (now signatures) (now claims) (now slots) (now weights)) ⌝ }
-    ensures { λ r. ⌜ CloseDone (mannerOf manner) (o .letter) o state many (now (small .entry)) (now (row .entry)) (now (rows .entry)) (tabled (now (names .entry)) (now (signatures .entry)) (now (claims .entry)) (now (slots .entry)) (now (weights .entry))) r (tabled (now (names .exit)) (now (signatures .exit)) (now (claims .exit)) (now (slots .exit)) (now (weights .exit))) ⌝ }
+    ensures { λ r. ⌜ CloseDone (mannerOf manner) (o .letter) o state many (now (row .entry)) (now (rows .entry)) (tabled (now (names .entry)) (now (signatures .entry)) (now (claims .entry)) (now (slots .entry)) (now (weights .entry))) r (tabled (now (names .exit)) (now (signatures .exit)) (now (claims .exit)) (now (slots .exit)) (now (weights .exit))) ⌝ }
 {
     let letter = o.letter;
     match letter {
-        Letter::P => declarations::close_predicate(o, state, small, names, signatures),
+        Letter::P => declarations::close_predicate(o, state, names, signatures),
         Letter::C => declarations::close_claim(o, state, row, signatures, claims),
         Letter::G => facts::close_fact(o, state, many, signatures, claims, rows),
         Letter::H => rules::close_head(o, state, many),
@@ -211,7 +208,6 @@ pub fn load_lines(
         };
         let letter = o.letter;
         let width = line.len();
-        let mut small = [0u8; 2];
         let mut row = [0i16; 9];
         let mut many = variables_before(letter, state);
         let mut from = o.from;
@@ -230,7 +226,6 @@ pub fn load_lines(
                 claims,
                 &slots,
                 &classes,
-                &mut small,
                 &mut row,
                 &mut variables,
                 &mut rows,
@@ -256,7 +251,6 @@ pub fn load_lines(
             o,
             state,
             many,
-            &small,
             &row,
             &rows,
             names,

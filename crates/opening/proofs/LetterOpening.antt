@@ -1,44 +1,49 @@
 -- What the opening of a line answers by its letter: what `open_named`, `open_bare` and `open_letter` cite.
-use mathlib.Core.Path.{_≡_, refl, sym, _∙_, ap, subst⁻¹}
-use mathlib.Core.Bool.{Bool, true, false, not}
+use mathlib.Core.Path.{_≡_, refl, sym, _∙_, ap, ap₂, subst⁻¹}
+use mathlib.Core.Bool.{Bool, true, false, cond, not, _&&_}
 use mathlib.Core.List.{List, [], _∷_}
-use mathlib.Core.Option.{some, none, Option·getD}
+use mathlib.Core.Option.{Option, some, none, Option·getD}
 use Prim.Native.Nat.{ℕ, _+_, _≤_, _<_}
 use native.Mathlib.Omega.{arith}
-use lib.ListN.{length, getD, drop}
+use lib.Dec.{eqb, ltb}
+use lib.ListN.{length, getD, drop, drop-of-length-le}
+use lib.Seq.{getD-drop}
 use types.Run.{OneOf, miss}
 use denote.Enum.Declared.{tagOf}
 use Rattle.theory.proofs.Letter.{the-type}
-use Rattle.groundwork.proofs.Truth.{not-true, never-both, equal-eqb}
+use Rattle.groundwork.proofs.Truth.{not-true, not-false, never-both, and-left, equal-eqb, eqb-equal, lt-ltb}
 use Rattle.theory.specs.declared.Letter.{Letter}
 use Rattle.theory.specs.declared.Letter.the-variants.{P, C, G, H, B, M, E, NoLetter}
-use Rattle.theory.specs.Text.{Bytes, isName, partsAt, fieldsOf}
+use Rattle.theory.specs.Lists.{isSome}
+use Rattle.theory.specs.Text.{Bytes, isName, natural, partsAt, fieldsOf}
 use Rattle.theory.specs.Packs.{Key, atomKey, declaredAs}
-use Rattle.theory.specs.Written.{field, atomFrom, Written}
-use Rattle.theory.specs.Faults.{lineArity, meantBy, isComplete, mayStand}
+use Rattle.theory.specs.Written.{field, kindFrom, atomFrom, Written}
+use Rattle.theory.specs.Faults.{isKind, lineArity, meantBy, isComplete, mayStand}
 use Rattle.theory.proofs.Judging.Keys.{declared-member}
 use Rattle.theory.proofs.Judging.LineKeys.{less-is, StatesAtom, atom-arity, claim-full, claim-declared, atom-full, atom-declared}
 use Rattle.theory.proofs.Judging.Completeness.{rule-from-incomplete}
 use Rattle.theory.proofs.Reading.Presence.{none-is}
+use Rattle.theory.proofs.Reading.Spelling.{natural-within}
 use Rattle.text.specs.Scans.{partsFrom}
+use Rattle.text.proofs.Cuts.{parts-done}
 use Rattle.words.specs.declared.Words.{Words}
 use Rattle.words.specs.Words.{wordsOf, StandsAt}
 use Rattle.tables.specs.declared.State.{State}
 use Rattle.tables.specs.declared.Fault.{Fault}
-use Rattle.tables.specs.declared.Fault.the-variants.{Name, Declaration, FieldCount}
+use Rattle.tables.specs.declared.Fault.the-variants.{Name, Declaration, FieldCount, Number}
 use Rattle.tables.specs.declared.Opened.{Opened}
 use Rattle.tables.specs.declared.Opening.{Opening}
 use Rattle.tables.specs.declared.Opening.the-variants.{Line, Misopened}
-use Rattle.tables.specs.Tables.{SafeState, SafeSignatures, predicateAt, signature, signatureAt, noArity, Outline}
+use Rattle.tables.specs.Tables.{SafeState, SafeSignatures, predicateAt, flag, signature, signatureAt, noArity, Outline}
 use Rattle.tables.specs.Sorts.{sortOf}
 use Rattle.tables.specs.Lines.{skipped, openingTests, most, OldPredicate, NamedFor}
 use Rattle.tables.proofs.Lookup.{place-arity, key-declared, key-absent}
 use Rattle.opening.specs.declared.Named.{Named}
 use Rattle.opening.specs.declared.Naming.{Naming}
 use Rattle.opening.specs.declared.Naming.the-variants.{Found, NoName}
-use Rattle.opening.specs.Opening.{declares, bars, barredBy, HasName, Nameless, Begins, NameStands, NameRead, OpensLetter, OpensBare}
+use Rattle.opening.specs.Opening.{declares, bars, barredBy, declaration, HasName, Nameless, Begins, NameStands, NameRead, OpensLetter, OpensBare}
 use Rattle.opening.proofs.Standing.{other-than-m}
-use Rattle.opening.proofs.LetterTests.{Refers, refers-names, isBarred, fieldsDue, undeclared-found, admitted, fault-barred, barred-other, fault-seven, fault-eight, fault-nine, past-opening, fault-nine-alone, past-nine-alone}
+use Rattle.opening.proofs.LetterTests.{Refers, refers-names, isBarred, fieldsDue, undeclared-found, admitted, fault-barred, barred-other, fault-seven, fault-eight, fault-nine, fault-ten, past-opening, fault-nine-alone, past-nine-alone}
 use Rattle.opening.proofs.Barred.{barred-mark}
 use Rattle.opening.proofs.Outcomes.{opened, refuses, passes}
 
@@ -107,6 +112,24 @@ module _ {l : Letter} {names signatures : List ℕ} {s : State} {line : Bytes} {
   none-meant : s .predicates ≤ place → meantBy l (fieldsOf line) (w .pack) ≡ none
   none-meant = key-absent (outline .declares) (field 1 (fieldsOf line)) (looked .stands .named) (looked .safe) (looked .few) (lineArity l (fieldsOf line)) (looked .at)
 
+-- ---- the arity of a `P` line
+
+within : (f : Bytes) → ltb (Option·getD (natural 8 f) noArity) noArity ≡ isSome (natural 8 f)
+unfolding isSome
+within f = go (natural 8 f) refl
+  where
+    go : (found : Option ℕ) → natural 8 f ≡ found → ltb (Option·getD found noArity) noArity ≡ isSome found
+    go none e = refl
+    go (some n) e = lt-ltb n noArity (omega (arith, natural-within 8 f n e))
+
+arity-given : (f : Bytes) (arity : ℕ) → arity ≡ Option·getD (natural 8 f) noArity → isSome (natural 8 f) ≡ true → (natural 8 f ≡ some arity) × (arity ≤ 8)
+unfolding isSome
+arity-given f arity given good = go (natural 8 f) refl given good
+  where
+    go : (found : Option ℕ) → natural 8 f ≡ found → arity ≡ Option·getD found noArity → isSome found ≡ true → (found ≡ some arity) × (arity ≤ 8)
+    go none e is there = never-both there refl
+    go (some n) e is there = (ap some (sym is), omega (arith, natural-within 8 f n e))
+
 -- ---- a predicate that is not declared
 
 module _ {names signatures : List ℕ} {s : State} {line : Bytes} {name : Named} {place : ℕ} (above : s .predicates ≤ place) where
@@ -115,22 +138,53 @@ module _ {names signatures : List ℕ} {s : State} {line : Bytes} {name : Named}
       refuses l Declaration (λ e. omega arith) λ manner w outline stands.
       fault-eight manner (fieldsOf line) (w .pack) l (refers-names refers) (looked .stands .named) (undeclared-found (fieldsOf line) (w .pack) refers (none-meant looked w outline above))
 
-  module _ (looked : LookedUp P names signatures s line name place) where
-    miscounted : (length (fieldsOf line) ≡ 4 → ⊥) → OpensLetter P line names signatures s (Misopened FieldCount)
-    miscounted other =
-        refuses P FieldCount (λ e. omega arith) λ manner w outline stands.
-        fault-nine manner (fieldsOf line) (w .pack) (looked .stands .named) (none-is _ (none-meant looked w outline above)) other
+  module _ (looked : LookedUp P names signatures s line name place) (n : ℕ) (count : n + 1 ≡ length (fieldsOf line)) (arity : ℕ) (given : arity ≡ Option·getD (lineArity P (fieldsOf line)) noArity) where
+    -- the line's last field
+    last : field 1 (partsFrom 44 line (name .stop + 1)) ≡ field 3 (fieldsOf line)
+    last = ap (field 1) (looked .stands .rest) ∙ getD-drop 2 (fieldsOf line) 1 []
 
-    declared : length line ≤ 1024 → length (fieldsOf line) ≡ 4 → OpensLetter P line names signatures s (Line (opened P (s .predicates) (name .words) (name .stop + 1)))
-    declared short four =
-        passes P (s .predicates) (name .words) (name .stop + 1) short
-        (record { rest = looked .stands .rest; few = omega arith; place = λ e. absurd (e refl); due = λ e. absurd (other-than-m e) })
-        λ manner w outline stands.
-        let new = none-meant looked w outline above in
-        record {
-          left = past-opening manner (fieldsOf line) (w .pack) P HasName.predicate (looked .stands .named) (none-is _ new) (ap not (equal-eqb (length (fieldsOf line)) 4 four), tt);
-          named = record { named = looked .stands .named; isNew = new; four = four; words = looked .stands .words };
-        }
+    -- its arity and its kind are well formed, as the tables and as the definition have it
+    well : (ltb arity noArity && isKind (field 1 (partsFrom 44 line (name .stop + 1)))) ≡ (isSome (natural 8 (field 2 (fieldsOf line))) && isKind (field 3 (fieldsOf line)))
+    unfolding lineArity
+    well = ap₂ _&&_ (ap (λ (k : ℕ). ltb k noArity) given ∙ within (field 2 (fieldsOf line))) (ap isKind last)
+
+    new-predicate : length line ≤ 1024 → OpensLetter P line names signatures s (declaration line (s .predicates) (name .words) (name .stop + 1) n arity)
+    unfolding lineArity
+    new-predicate short =
+        either (not (eqb n 3)) (λ other. miscounted (λ four. never-both other (ap not (equal-eqb n 3 (omega arith))))) λ three.
+        let four : length (fieldsOf line) ≡ 4 = omega (arith, eqb-equal n 3 (not-false _ three)) in
+        either (not (ltb arity noArity && isKind _)) (λ bad. malformed four (ap not (sym well) ∙ bad)) (λ good. declared short four (sym well ∙ not-false _ good))
+      where
+        either : (b : Bool) {x y : Opening} → (b ≡ true → OpensLetter P line names signatures s x) → (b ≡ false → OpensLetter P line names signatures s y) → OpensLetter P line names signatures s (cond b x y)
+        either true found passed = found refl
+        either false found passed = passed refl
+
+        is-new : (w : Written) → Outline names signatures s w → isSome (meantBy P (fieldsOf line) (w .pack)) ≡ false
+        is-new w outline = none-is _ (none-meant looked w outline above)
+
+        miscounted : (length (fieldsOf line) ≡ 4 → ⊥) → OpensLetter P line names signatures s (Misopened FieldCount)
+        miscounted other = refuses P FieldCount (λ e. omega arith) λ manner w outline stands. fault-nine manner (fieldsOf line) (w .pack) (looked .stands .named) (is-new w outline) other
+
+        malformed : length (fieldsOf line) ≡ 4 → not (isSome (natural 8 (field 2 (fieldsOf line))) && isKind (field 3 (fieldsOf line))) ≡ true → OpensLetter P line names signatures s (Misopened Number)
+        malformed four bad = refuses P Number (λ e. omega arith) λ manner w outline stands. fault-ten manner (fieldsOf line) (w .pack) (looked .stands .named) (is-new w outline) four bad
+
+        declared : length line ≤ 1024 → length (fieldsOf line) ≡ 4 → (isSome (natural 8 (field 2 (fieldsOf line))) && isKind (field 3 (fieldsOf line))) ≡ true
+            → OpensLetter P line names signatures s (Line (record { letter = P; predicate = s .predicates; words = name .words; from = length line + 1; arity = arity; mark = flag (kindFrom (field 1 (partsFrom 44 line (name .stop + 1)))) }))
+        declared short four good =
+            let (is, low) = arity-given (field 2 (fieldsOf line)) arity given (and-left _ _ good) in
+            passes _ short
+            (record {
+              rest = parts-done 44 line (length line + 1) (omega arith) ∙ sym (drop-of-length-le (fieldsOf line) {i = 4} (omega arith));
+              few = omega arith;
+              place = λ e. absurd (e refl);
+              due = λ e. absurd (other-than-m e);
+              low = low;
+            })
+            λ manner w outline stands.
+            record {
+              left = past-opening manner (fieldsOf line) (w .pack) P HasName.predicate (looked .stands .named) (is-new w outline) (ap not (equal-eqb (length (fieldsOf line)) 4 four), (ap not good, tt));
+              named = record { named = looked .stands .named; isNew = none-meant looked w outline above; four = four; words = looked .stands .words; arity = is; mark = ap (λ (f : Bytes). flag (kindFrom f)) last };
+            }
 
 -- ---- a predicate that is declared
 
@@ -145,12 +199,13 @@ module _ {l : Letter} (names-it : HasName l) {names signatures : List ℕ} {s : 
   referred short free =
       let refers = others-refer names-it (λ is. never-both (ap (λ (k : Letter). bars k (getD signatures (32 + place) 0)) is) free) in
       let (n, given, low, read) = place-arity names signatures (looked .safe) (looked .few) _ (lineArity l (fieldsOf line)) (looked .at) below in
-      passes l place (name .words) (name .stop + 1) short
+      passes (opened l place (name .words) (name .stop + 1)) short
       (record {
         rest = rw (shape refers .skips) (looked .stands .rest);
         few = rw (shape refers .skips) (shape refers .few (fieldsOf line) s n given low);
         place = λ e. omega (arith, looked .few);
         due = λ e. absurd (shape refers .other e);
+        low = omega arith;
       })
       λ manner w outline stands.
       let found = is-meant looked w outline below in
@@ -179,7 +234,7 @@ module _ (l : Letter) (names-it : HasName l) (names signatures : List ℕ) (s : 
       pub opens-barred : answer ≡ true → {f : Fault} → f ≡ barredBy l → OpensLetter l line names signatures s (Misopened f)
       opens-barred e {f} fault = subst⁻¹ (λ (g : Fault). OpensLetter l line names signatures s (Misopened g)) fault (barred names-it looked-up below (sym mark ∙ e))
 
-      pub opens-reference : length line ≤ 1024 → answer ≡ false → OpensLetter l line names signatures s (Line (record { letter = l; predicate = place; words = name .words; from = name .stop + 1 }))
+      pub opens-reference : length line ≤ 1024 → answer ≡ false → OpensLetter l line names signatures s (Line (opened l place (name .words) (name .stop + 1)))
       opens-reference short e = referred names-it looked-up below short (sym mark ∙ e)
 
     -- what `is_declaration` answers where none is
@@ -187,16 +242,10 @@ module _ (l : Letter) (names-it : HasName l) (names signatures : List ℕ) (s : 
       pub opens-undeclared : way ≡ false → OpensLetter l line names signatures s (Misopened Declaration)
       opens-undeclared old = undeclared above (others-refer names-it (λ is. never-both (ap declares is) (sym told ∙ old))) looked-up
 
-      module _ (new : way ≡ true) (n : ℕ) (count : n + 1 ≡ length (partsAt 44 line)) where
-        -- by the law on `P` lines
-        by-declaration : (r : Letter → Opening) → (LookedUp P names signatures s line name place → OpensLetter P line names signatures s (r P)) → OpensLetter l line names signatures s (r l)
-        by-declaration r law = subst⁻¹ (λ (k : Letter). LookedUp k names signatures s line name place → OpensLetter k line names signatures s (r k)) (declares-is names-it (sym told ∙ new)) law looked-up
-
-        pub opens-miscounted : (n ≡ 3 → ⊥) → OpensLetter l line names signatures s (Misopened FieldCount)
-        opens-miscounted other = by-declaration (λ k. Misopened FieldCount) (λ looked. miscounted above looked (λ e. other (omega arith)))
-
-        pub opens-declaration : length line ≤ 1024 → n ≡ 3 → OpensLetter l line names signatures s (Line (record { letter = l; predicate = s .predicates; words = name .words; from = name .stop + 1 }))
-        opens-declaration short three = by-declaration (λ k. Line (opened k (s .predicates) (name .words) (name .stop + 1))) (λ looked. declared above looked short (omega arith))
+      pub opens-declaration : way ≡ true → (n : ℕ) → n + 1 ≡ length (partsAt 44 line) → length line ≤ 1024 → {r : Opening} → r ≡ declaration line (s .predicates) (name .words) (name .stop + 1) n arity → OpensLetter l line names signatures s r
+      opens-declaration new n count short {r} is =
+          subst⁻¹ (λ (k : Letter). LookedUp k names signatures s line name place → arity ≡ Option·getD (lineArity k (fieldsOf line)) noArity → OpensLetter k line names signatures s r) (declares-is names-it (sym told ∙ new))
+          (λ looked known. subst⁻¹ (OpensLetter P line names signatures s) is (new-predicate above looked n count arity known short)) looked-up given
 
 -- ---- a line with no name
 
@@ -226,15 +275,16 @@ module _ (l : Letter) (nameless : Nameless l) (s : State) (line : Bytes) (commas
         fault-nine-alone manner (fieldsOf line) (w .pack) l nameless (λ e. other (omega (arith, bare nameless .due names signatures s w outline stands)));
   }
 
-  pub bare-passed : Begins line → (l ≡ M → s .multipliers < 16) → length line ≤ 1024 → n ≡ commas → (words : Words) → OpensBare l line s (Line (record { letter = l; predicate = 0; words = words; from = 2 }))
+  pub bare-passed : Begins line → (l ≡ M → s .multipliers < 16) → length line ≤ 1024 → n ≡ commas → (words : Words) → OpensBare l line s (Line (opened l 0 words 2))
   bare-passed begins due short right words = record {
     opens = λ names signatures.
-        passes l 0 words 2 short
+        passes (opened l 0 words 2) short
         (record {
           rest = rw (bare nameless .skips) (begins .rest);
           few = omega (arith, bare nameless .skips);
           place = λ e. omega arith;
           due = due;
+          low = omega arith;
         })
         λ manner w outline stands.
         let full : length (fieldsOf line) ≡ most (sortOf l) s + 1 = omega arith in

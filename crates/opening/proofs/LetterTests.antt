@@ -1,7 +1,7 @@
--- The tests of a letter's line that the opening does: 7 and 8 where the second field names a predicate, then 9 for `P` and 20 for
--- `G`; 9 alone for `M` and `E`.
+-- The tests of a letter's line that the opening does: 7 and 8 where the second field names a predicate, then 9 and 10 for `P` and 20
+-- for `G`; 9 alone for `M` and `E`.
 use mathlib.Core.Path.{_≡_, refl, _∙_, ap}
-use mathlib.Core.Bool.{Bool, true, false, not, _||_}
+use mathlib.Core.Bool.{Bool, true, false, not, _&&_, _||_}
 use mathlib.Core.List.{List, [], _∷_, _++_}
 use mathlib.Core.Option.{Option, some, none}
 use Prim.Native.Nat.{ℕ, _+_}
@@ -10,7 +10,7 @@ use lib.Dec.{eqb}
 use lib.ListN.{length, drop}
 use Rattle.groundwork.proofs.Truth.{never-both, equal-eqb, eqb-different}
 use Rattle.theory.specs.Lists.{isSome}
-use Rattle.theory.specs.Text.{Bytes, isName}
+use Rattle.theory.specs.Text.{Bytes, isName, natural}
 use Rattle.theory.specs.Packs.{Predicate, Pack, claimsOnAll}
 use Rattle.theory.specs.declared.Letter.{Letter}
 use Rattle.theory.specs.declared.Letter.the-variants.{P, C, G, H, B, M, E, NoLetter}
@@ -19,7 +19,7 @@ use Rattle.tables.specs.Faults.{numberOf}
 use Rattle.tables.specs.Lines.{openingTests}
 use Rattle.opening.specs.Opening.{HasName, Nameless, barredBy}
 use Rattle.theory.proofs.Judging.Tests.{Clear, first-passed, first-found, first-clear}
-use Rattle.theory.specs.Faults.{Test, test, firstOf, meantBy, givenIn, ruledIn, lastRule, predicateTests, claimTests, atomTests, factTests, headTests, subgoalTests, multiplierTests, endTests, Manner, tests}
+use Rattle.theory.specs.Faults.{Test, test, firstOf, isKind, meantBy, givenIn, ruledIn, lastRule, predicateTests, claimTests, atomTests, factTests, headTests, subgoalTests, multiplierTests, endTests, Manner, tests}
 
 -- ---- by letter
 
@@ -60,7 +60,7 @@ findsEight NoLetter fields p = false
 
 -- the opening's tests after 8
 abbrev pub afterEight : Letter → List Bytes → Pack → List Test
-afterEight P fields p = test 9 (not (eqb (length fields) 4)) ∷ []
+afterEight P fields p = test 9 (not (eqb (length fields) 4)) ∷ test 10 (not (isSome (natural 8 (field 2 fields)) && isKind (field 3 fields))) ∷ []
 afterEight C fields p = []
 afterEight G fields p = test 20 (ruledIn (meantBy G fields p)) ∷ []
 afterEight H fields p = []
@@ -139,9 +139,17 @@ module _ (manner : Manner) (fields : List Bytes) (p : Pack) where
       pub past-nine-alone : length fields ≡ fieldsDue l p → firstOf (tests manner l fields p) ≡ firstOf (drop 1 (tests manner l fields p))
       past-nine-alone count = ap firstOf (nameless-tests nameless) ∙ first-passed 9 _ _ (ap not (equal-eqb (length fields) (fieldsDue l p) count))
 
-  -- a predicate that is new, in a line with another number of fields
-  pub fault-nine : isName (field 1 fields) ≡ true → findsEight P fields p ≡ false → (length fields ≡ 4 → ⊥) → firstOf (tests manner P fields p) ≡ 9
-  fault-nine isNamed eight count = past-eight P HasName.predicate isNamed eight ∙ first-found 9 _ (drop 3 (tests manner P fields p)) (ap not (eqb-different (length fields) 4 count))
+  -- a predicate that is new, in a line with another number of fields, or with an arity or a kind that is malformed
+  module _ (isNamed : isName (field 1 fields) ≡ true) (eight : findsEight P fields p ≡ false) where
+    abbrev ten : Bool
+    ten = not (isSome (natural 8 (field 2 fields)) && isKind (field 3 fields))
+
+    pub fault-nine : (length fields ≡ 4 → ⊥) → firstOf (tests manner P fields p) ≡ 9
+    fault-nine count = past-eight P HasName.predicate isNamed eight ∙ first-found 9 _ (test 10 ten ∷ drop 4 (tests manner P fields p)) (ap not (eqb-different (length fields) 4 count))
+
+    pub fault-ten : length fields ≡ 4 → ten ≡ true → firstOf (tests manner P fields p) ≡ 10
+    fault-ten count malformed =
+        past-eight P HasName.predicate isNamed eight ∙ first-passed 9 _ (test 10 ten ∷ drop 4 (tests manner P fields p)) (ap not (equal-eqb (length fields) 4 count)) ∙ first-found 10 ten (drop 4 (tests manner P fields p)) malformed
 
 -- a declared predicate that the line may not name: 8 for a `P` line and for a head, 20 for a fact
 pub fault-barred : (manner : Manner) (fields : List Bytes) (p : Pack) (q : Predicate) {l : Letter} → HasName l → isName (field 1 fields) ≡ true → meantBy l fields p ≡ some q → isBarred l (some q) ≡ true → firstOf (tests manner l fields p) ≡ numberOf (barredBy l)

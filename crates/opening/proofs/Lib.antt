@@ -8,6 +8,8 @@ pub mod LetterTests
 pub mod LineTests
 -- What the functions' proofs cite.
 pub mod LineArities
+pub mod Marks
+pub mod Declarations
 pub mod Barred
 pub mod Outcomes
 pub mod LetterOpening

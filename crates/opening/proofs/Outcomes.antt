@@ -42,53 +42,56 @@ module _ (f : Fault) {line : Bytes} {s : State} where
 -- ---- passed
 
 -- what a passed line needs whatever the lines before it write
-pub record Keeps (l : Letter) (line : Bytes) (s : State) (predicate from : ℕ) : Type 0 where
-  pub rest : partsFrom 44 line from ≡ drop (skipped (sortOf l)) (fieldsOf line)
-  pub few : length (fieldsOf line) ≤ skipped (sortOf l) + most (sortOf l) s
-  pub place : (l ≡ P → ⊥) → predicate < 32
-  pub due : l ≡ M → s .multipliers < 16
+pub record Keeps (line : Bytes) (s : State) (o : Opened) : Type 0 where
+  pub rest : partsFrom 44 line (o .from) ≡ drop (skipped (sortOf (o .letter))) (fieldsOf line)
+  pub few : length (fieldsOf line) ≤ skipped (sortOf (o .letter)) + most (sortOf (o .letter)) s
+  pub place : (o .letter ≡ P → ⊥) → o .predicate < 32
+  pub due : o .letter ≡ M → s .multipliers < 16
+  pub low : o .arity ≤ 8
 
 -- and what it needs of those
-pub record Clears (manner : Manner) (l : Letter) (line : Bytes) (s : State) (w : Written) (o : Opened) : Type 0 where
-  pub left : firstOf (tests manner l (fieldsOf line) (w .pack)) ≡ firstOf (drop (openingTests l) (tests manner l (fieldsOf line) (w .pack)))
-  pub named : NamedFor (sortOf l) line s w o
+pub record Clears (manner : Manner) (line : Bytes) (s : State) (w : Written) (o : Opened) : Type 0 where
+  pub left : firstOf (tests manner (o .letter) (fieldsOf line) (w .pack)) ≡ firstOf (drop (openingTests (o .letter)) (tests manner (o .letter) (fieldsOf line) (w .pack)))
+  pub named : NamedFor (sortOf (o .letter)) line s w o
 
+-- a line that declares nothing
 abbrev pub opened : Letter → ℕ → Words → ℕ → Opened
-opened l predicate words from = record { letter = l; predicate = predicate; words = words; from = from }
+opened l predicate words from = record { letter = l; predicate = predicate; words = words; from = from; arity = 0; mark = 0 }
 
 -- the letter's own tests decide
 own-tests : (manner : Manner) (l : Letter) (line : Bytes) (w : Written) → isUnfit line ≡ false → w .ended ≡ false → manner .allows (w .pack) l ≡ true → lineLetter line ≡ l → fault manner w line ≡ firstOf (tests manner l (fieldsOf line) (w .pack))
 own-tests manner l line w fit unended allowed is =
     past-five manner w line fit unended (ap (manner .allows (w .pack)) is ∙ allowed) ∙ ap (λ (k : Letter). firstOf (tests manner k (fieldsOf line) (w .pack))) is
 
-module _ (l : Letter) {line : Bytes} {names signatures : List ℕ} {s : State} where
-  pub refuses : (f : Fault) → (numberOf f ≡ 13 → ⊥) → ((manner : Manner) (w : Written) → Outline names signatures s w → mayStand (w .pack) l ≡ true → firstOf (tests manner l (fieldsOf line) (w .pack)) ≡ numberOf f)
+module _ {line : Bytes} {names signatures : List ℕ} {s : State} where
+  pub refuses : (l : Letter) (f : Fault) → (numberOf f ≡ 13 → ⊥) → ((manner : Manner) (w : Written) → Outline names signatures s w → mayStand (w .pack) l ≡ true → firstOf (tests manner l (fieldsOf line) (w .pack)) ≡ numberOf f)
       → OpensLetter l line names signatures s (Misopened f)
-  refuses f other finds = record {
+  refuses l f other finds = record {
     safe = refused-safe f;
     other = refused-other f other;
     tells = λ manner w outline fit unended allowed stands is. refused-for f w (own-tests manner l line w fit unended allowed is ∙ finds manner w outline stands);
   }
 
-  pub passes : (predicate : ℕ) (words : Words) (from : ℕ) → length line ≤ 1024 → Keeps l line s predicate from → ((manner : Manner) (w : Written) → Outline names signatures s w → mayStand (w .pack) l ≡ true → Clears manner l line s w (opened l predicate words from)) → OpensLetter l line names signatures s (Line (opened l predicate words from))
-  passes predicate words from short k clears = record {
-    safe = λ o e. subst (SafeOpened line s) (line-opened e) (record {
+  pub passes : (o : Opened) → length line ≤ 1024 → Keeps line s o → ((manner : Manner) (w : Written) → Outline names signatures s w → mayStand (w .pack) (o .letter) ≡ true → Clears manner line s w o) → OpensLetter (o .letter) line names signatures s (Line o)
+  passes o short k clears = record {
+    safe = λ p e. subst (SafeOpened line s) (line-opened e) (record {
       short = short;
-      few = omega (arith, ap length (k .rest), length-drop (skipped (sortOf l)) (fieldsOf line));
+      few = omega (arith, ap length (k .rest), length-drop (skipped (sortOf (o .letter))) (fieldsOf line));
       place = k .place;
       due = k .due;
+      low = k .low;
     });
     other = λ f e. absurd (line-misopened e);
     tells = λ manner w outline fit unended allowed stands is.
         let clear = clears manner w outline stands in
         record {
           refused = λ f e. absurd (line-misopened e);
-          passed = λ o e. subst (λ (p : Opened). Passed manner (p .letter) line s w p) (line-opened e) (record {
+          passed = λ p e. subst (λ (q : Opened). Passed manner (q .letter) line s w q) (line-opened e) (record {
             first = is;
             short = short;
             unended = unended;
             stands = stands;
-            left = own-tests manner l line w fit unended allowed is ∙ clear .left;
+            left = own-tests manner (o .letter) line w fit unended allowed is ∙ clear .left;
             rest = k .rest;
             named = clear .named;
           });

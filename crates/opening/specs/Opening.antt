@@ -1,27 +1,30 @@
 -- A line's tests before its fields are read.
 use mathlib.Core.Path.{_≡_}
-use mathlib.Core.Bool.{Bool, true, false, not, _&&_}
+use mathlib.Core.Bool.{Bool, true, false, cond, not, _&&_}
 use mathlib.Core.List.{List}
 use Prim.Native.Nat.{ℕ, _+_, _≤_, _<_}
-use lib.Dec.{eqb}
+use lib.Dec.{eqb, ltb}
 use lib.ListN.{length, drop}
 use Rattle.theory.specs.declared.Letter.{Letter}
 use Rattle.theory.specs.declared.Letter.the-variants.{P, C, G, H, B, M, E, NoLetter}
 use Rattle.theory.specs.Text.{Bytes, isName, fieldsOf}
-use Rattle.theory.specs.Written.{lineLetter, field, Written}
-use Rattle.theory.specs.Faults.{isUnfit, isComplete, mayStand, Manner, fault}
+use Rattle.theory.specs.Written.{lineLetter, field, kindFrom, Written}
+use Rattle.theory.specs.Faults.{isKind, isUnfit, isComplete, mayStand, Manner, fault}
 use Rattle.text.specs.Scans.{partsFrom}
+use Rattle.words.specs.declared.Words.{Words}
 use Rattle.words.specs.Words.{wordsOf}
 use Rattle.tables.specs.declared.State.{State}
 use Rattle.tables.specs.declared.Fault.{Fault}
-use Rattle.tables.specs.declared.Fault.the-variants.{Declaration, RuledFact}
+use Rattle.tables.specs.declared.Fault.the-variants.{Declaration, FieldCount, Number, RuledFact}
 use Rattle.tables.specs.declared.Opened.{Opened}
 use Rattle.tables.specs.declared.Opening.{Opening}
 use Rattle.tables.specs.declared.Opening.the-variants.{Line, Misopened}
 use Rattle.tables.specs.Faults.{numberOf}
-use Rattle.tables.specs.Tables.{Outline}
+use Rattle.tables.specs.Tables.{flag, noArity, Outline}
 use Rattle.tables.specs.Lines.{Passed, SafeOpened}
 use Rattle.opening.specs.declared.Named.{Named}
+use Rattle.opening.specs.declared.Marking.{Marking}
+use Rattle.opening.specs.declared.Marking.the-variants.{Mark, NoKind}
 use Rattle.opening.specs.declared.Naming.{Naming}
 use Rattle.opening.specs.declared.Naming.the-variants.{Found, NoName}
 
@@ -73,6 +76,20 @@ barredBy B = Declaration
 barredBy M = Declaration
 barredBy E = Declaration
 barredBy NoLetter = Declaration
+
+-- ## Declarations
+
+-- the mark that a field writes, where it is a kind
+abbrev pub markOf : Bytes → Marking
+markOf f = cond (isKind f) (Mark (flag (kindFrom f))) NoKind
+
+-- the opening of a line that declares a predicate which is new, with so many commas and, from a place on, its arity and its kind
+abbrev pub declaration : Bytes → ℕ → Words → ℕ → ℕ → ℕ → Opening
+declaration line known words from commas arity =
+    let kind = field 1 (partsFrom 44 line from) in
+    cond (not (eqb commas 3)) (Misopened FieldCount)
+    (cond (not (ltb arity noArity && isKind kind)) (Misopened Number)
+    (Line (record { letter = P; predicate = known; words = words; from = length line + 1; arity = arity; mark = flag (kindFrom kind) })))
 
 -- ## Steps
 

@@ -15,7 +15,7 @@ ghost use Rattle.words.specs.Classes.{Classes};
 ghost use Rattle.tables.specs.Tables.{SafeState, SafeSignatures, noArity};
 ghost use Rattle.tables.specs.Sorts.{sortOf};
 ghost use Rattle.tables.specs.Lines.{most};
-ghost use Rattle.opening.specs.Opening.{declares, bars, barredBy, HasName, Nameless, Begins, LetterRead, NameRead, Completes, Stands, OpensLetter, OpensBare, Opens};
+ghost use Rattle.opening.specs.Opening.{declares, bars, barredBy, markOf, declaration, HasName, Nameless, Begins, LetterRead, NameRead, Completes, Stands, OpensLetter, OpensBare, Opens};
 use numbers::Natural;
 use tables::Fault;
 use tables::Hints;
@@ -134,6 +134,44 @@ fn read_arity(line: &[u8], from: usize) -> usize
     }
 }
 
+/// The mark that a kind is kept as: 1 if it is that of given predicates, else 0.
+pub enum Marking {
+    Mark(u8),
+    NoKind,
+}
+
+/// The mark of the kind that a field writes.
+fn mark_of(field: &[u8]) -> Marking
+    ensures { λ r. ⌜ r ≡ markOf (now (field .entry)) ⌝ }
+{
+    if field.len() != 1 {
+        return Marking::NoKind;
+    }
+    let kind = field[0];
+    if kind == b'G' {
+        return Marking::Mark(1);
+    }
+    if kind == b'R' {
+        return Marking::Mark(0);
+    }
+    Marking::NoKind
+}
+
+/// The mark of the kind in the field after the one from a place on.
+fn read_mark(line: &[u8], from: usize) -> Marking
+    ensures { λ r. ⌜ r ≡ markOf (field 1 (partsFrom 44 (now (line .entry)) from)) ⌝ }
+{
+    if line.len() < from {
+        return Marking::NoKind;
+    }
+    let after = reader::field_end(line, from) + 1;
+    if line.len() < after {
+        return Marking::NoKind;
+    }
+    let stop = reader::field_end(line, after);
+    mark_of(&line[after..stop])
+}
+
 /// The arity that a line gives, by its commas or in the field from a place on, the one after its name.
 fn arity_of(letter: Letter, line: &[u8], from: usize, commas: usize) -> usize
     requires { ⌜ (commas + 1 ≡ length (fieldsOf (now line))) × (partsFrom 44 (now line) from ≡ drop 2 (fieldsOf (now line))) ⌝ }
@@ -195,6 +233,39 @@ fn barred_fault(letter: Letter) -> Fault
     }
 }
 
+/// A line that declares a predicate, where none is declared under its name and arity: its count of fields, its arity and its
+/// kind. No field is left to be read one by one.
+fn open_declaration(
+    line: &[u8],
+    known: usize,
+    words: Words,
+    from: usize,
+    commas: usize,
+    arity: usize,
+) -> Opening
+    requires { ⌜ length (now line) ≤ 1024 ⌝ }
+    ensures { λ r. ⌜ r ≡ declaration (now (line .entry)) known words from commas arity ⌝ }
+{
+    if commas != 3 {
+        return Opening::Misopened(Fault::FieldCount);
+    }
+    if tables::NO_ARITY <= arity {
+        return Opening::Misopened(Fault::Number);
+    }
+    let marking = read_mark(line, from);
+    let Marking::Mark(mark) = marking else {
+        return Opening::Misopened(Fault::Number);
+    };
+    Opening::Line(Opened {
+        letter: Letter::P,
+        predicate: known,
+        words,
+        from: line.len() + 1,
+        arity: widths::usize_to_u8(arity),
+        mark,
+    })
+}
+
 /// A line of a letter that names a predicate, with what its second field is.
 fn open_named(
     letter: Letter,
@@ -221,15 +292,7 @@ fn open_named(
         if !is_declaration(letter) {
             return Opening::Misopened(Fault::Declaration);
         }
-        if commas != 3 {
-            return Opening::Misopened(Fault::FieldCount);
-        }
-        return Opening::Line(Opened {
-            letter,
-            predicate: known,
-            words,
-            from,
-        });
+        return open_declaration(line, known, words, from, commas, arity);
     }
     if is_barred(letter, signatures[32 + place]) {
         return Opening::Misopened(barred_fault(letter));
@@ -239,6 +302,8 @@ fn open_named(
         predicate: place,
         words,
         from,
+        arity: 0,
+        mark: 0,
     })
 }
 
@@ -259,6 +324,8 @@ fn open_bare(letter: Letter, commas: usize, line: &[u8], state: State) -> Openin
         predicate: 0,
         words,
         from: 2,
+        arity: 0,
+        mark: 0,
     })
 }
 

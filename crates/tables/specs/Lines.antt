@@ -7,9 +7,9 @@ use Prim.Native.Nat.{ℕ, _+_, _≤_, _<_}
 use lib.ListN.{length, getD, drop}
 use Rattle.theory.specs.declared.Letter.{Letter}
 use Rattle.theory.specs.declared.Letter.the-variants.{P, C, G, H, B, M, E, NoLetter}
-use Rattle.theory.specs.Text.{Bytes, isName, fieldsOf}
+use Rattle.theory.specs.Text.{Bytes, isName, natural, fieldsOf}
 use Rattle.theory.specs.Packs.{Key, keyOf, claimKey, atomKey, declaredAs}
-use Rattle.theory.specs.Written.{lineLetter, field, claimFrom, atomFrom, Written, write}
+use Rattle.theory.specs.Written.{lineLetter, field, kindFrom, claimFrom, atomFrom, Written, write}
 use Rattle.theory.specs.Faults.{Manner, firstOf, meantBy, mayStand, tests, fault}
 use Rattle.text.specs.Scans.{partsFrom}
 use Rattle.words.specs.Words.{wordsOf}
@@ -19,13 +19,13 @@ use Rattle.tables.specs.declared.Closing.{Closing}
 use Rattle.tables.specs.declared.Closing.the-variants.{Done}
 use Rattle.tables.specs.Faults.{closingNumber}
 use Rattle.tables.specs.Sorts.{Sort, declaring, numbering, stating, following, multiplying, ending, none as noSort, sortOf}
-use Rattle.tables.specs.Tables.{Tables, predicateAt, Holds}
+use Rattle.tables.specs.Tables.{Tables, flag, predicateAt, Holds}
 
 -- ## Opened
 
 -- the fields in front of those that are read one by one
 abbrev pub skipped : Sort → ℕ
-skipped declaring = 2
+skipped declaring = 4
 skipped numbering = 2
 skipped stating = 2
 skipped following = 2
@@ -35,7 +35,7 @@ skipped noSort = 1
 
 -- how many of a letter's tests the opening does
 abbrev pub openingTests : Letter → ℕ
-openingTests P = 3
+openingTests P = 4
 openingTests C = 2
 openingTests G = 3
 openingTests H = 2
@@ -46,7 +46,7 @@ openingTests NoLetter = 0
 
 -- the most fields that are read one by one
 abbrev pub most : Sort → State → ℕ
-most declaring s = 2
+most declaring s = 0
 most numbering s = 9
 most stating s = 8
 most following s = 8
@@ -54,12 +54,14 @@ most multiplying s = s .slots
 most ending s = 0
 most noSort s = 0
 
--- a predicate that is not declared yet, in a line of four fields
+-- a predicate that is not declared yet, in a line of four fields: its words, its arity and its mark
 pub record NewPredicate (line : Bytes) (w : Written) (o : Opened) : Type 0 where
   pub named : isName (field 1 (fieldsOf line)) ≡ true
   pub isNew : meantBy P (fieldsOf line) (w .pack) ≡ none
   pub four : length (fieldsOf line) ≡ 4
   pub words : o .words ≡ wordsOf (field 1 (fieldsOf line))
+  pub arity : natural 8 (field 2 (fieldsOf line)) ≡ some (o .arity)
+  pub mark : o .mark ≡ flag (kindFrom (field 3 (fieldsOf line)))
 
 -- the predicate declared under a key, in a line with a field for each argument and some more
 pub record OldPredicate (k : Key) (more : ℕ) (line : Bytes) (w : Written) (o : Opened) : Type 0 where
@@ -94,6 +96,7 @@ pub record SafeOpened (line : Bytes) (s : State) (o : Opened) : Type 0 where
   pub few : length (partsFrom 44 line (o .from)) ≤ most (sortOf (o .letter)) s
   pub place : (o .letter ≡ P → ⊥) → o .predicate < 32
   pub due : o .letter ≡ M → s .multipliers < 16
+  pub low : o .arity ≤ 8
 
 -- ## Its fields, from 0
 

@@ -152,10 +152,13 @@ pub enum Fault {
 /// A line whose tests before its fields are read are done: what the fields and the line's end need.
 pub struct Opened {
     pub letter: Letter,
+    /// Of a line that declares a predicate: its arity, and its mark, 1 if it is given. Of another both are 0.
+    pub arity: u8,
+    pub mark: u8,
     pub predicate: usize,
     /// The words of the name in its second field.
     pub words: Words,
-    /// Where the fields to be read begin.
+    /// Where the fields that are still to be read begin.
     pub from: usize,
 }
 

@@ -19,11 +19,11 @@ use Rattle.lines.proofs.load_lines.Statement.{statement}
 use Rattle.lines.proofs.load_lines.Tie as tie
 
 abbrev Inv-fields : tie.InvT-fields
-Inv-fields manner text names signatures claims classes plain variables₀ rows₀ weights₀ slots hints₀ arities₀ places₀ len state ending₀ residual number at end line o letter width small₀ row₀ many₀ from₀ index₀ variables rows weights hints arities places ending small row many from index =
-    (ending ≡ AllPass) × FieldsRead letter line (tables names signatures claims variables₀ rows₀ slots) state o many from index (stores small row variables rows weights) × (length arities ≡ 512) × (length places ≡ 512)
+Inv-fields manner text names signatures claims classes plain variables₀ rows₀ weights₀ slots hints₀ arities₀ places₀ len state ending₀ residual number at end line o letter width row₀ many₀ from₀ index₀ variables rows weights hints arities places ending row many from index =
+    (ending ≡ AllPass) × FieldsRead letter line (tables names signatures claims variables₀ rows₀ slots) state o many from index (stores row variables rows weights) × (length arities ≡ 512) × (length places ≡ 512)
 
 abbrev μ-fields : tie.MeasureT-fields
-μ-fields manner text names signatures claims classes plain variables₀ rows₀ weights₀ slots hints₀ arities₀ places₀ len state ending₀ residual number at end line o letter width small₀ row₀ many₀ from₀ index₀ variables rows weights hints arities places ending small row many from index =
+μ-fields manner text names signatures claims classes plain variables₀ rows₀ weights₀ slots hints₀ arities₀ places₀ len state ending₀ residual number at end line o letter width row₀ many₀ from₀ index₀ variables rows weights hints arities places ending row many from index =
     width + 1 - from
 
 abbrev Inv-lines : tie.InvT-lines
@@ -56,10 +56,10 @@ at-fields c = c .before .before .before
 
 -- what is lent to `field`, and to `close`
 abbrev at-field : tie.After-places Inv-fields μ-fields Inv-lines μ-lines → tie.After-field-end Inv-fields μ-fields Inv-lines μ-lines
-at-field c = c .before .before .before .before .before .before .before .before .before .before .before .before
+at-field c = c .before .before .before .before .before .before .before .before .before .before .before
 
 abbrev at-close : tie.After-weights2 Inv-fields μ-fields Inv-lines μ-lines → tie.After-fields Inv-fields μ-fields Inv-lines μ-lines
-at-close c = c .before .before .before .before .before .before .before .before
+at-close c = c .before .before .before .before .before .before .before
 
 -- ---- what is known there
 
