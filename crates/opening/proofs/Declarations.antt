@@ -1,9 +1,8 @@
 -- The opening of a line that declares a new predicate, test by test: what `open_declaration` answers.
-use mathlib.Core.Path.{_≡_, refl, sym, _∙_, ap}
+use mathlib.Core.Path.{_≡_, refl, sym, _∙_}
 use mathlib.Core.Bool.{Bool, true, false, cond}
 use Prim.Native.Nat.{ℕ, _+_, _≤_, _<_}
 use native.Mathlib.Omega.{arith}
-use lib.Dec.{ltb}
 use lib.ListN.{length}
 use Rattle.groundwork.proofs.Truth.{eqb-different, lt-ltb, ge-ltb}
 use Rattle.theory.specs.declared.Letter.the-variants.{P}
@@ -17,7 +16,7 @@ use Rattle.tables.specs.declared.Opening.the-variants.{Line, Misopened}
 use Rattle.tables.specs.Tables.{flag, noArity}
 use Rattle.opening.specs.declared.Marking.{Marking}
 use Rattle.opening.specs.declared.Marking.the-variants.{Mark, NoKind}
-use Rattle.opening.specs.Opening.{markOf, declaration}
+use Rattle.opening.specs.Opening.{kindMark, declaration}
 
 -- ---- what a marking tells
 
@@ -42,9 +41,9 @@ module _ (line : Bytes) (known : ℕ) (words : Words) (from commas arity : ℕ) 
     pub new-malformed : noArity ≤ arity → Misopened Number ≡ declaration line known words from commas arity
     new-malformed high = rw (three, ge-ltb arity noArity high)
 
-    module _ (low : arity < noArity) (r : Marking) (read : r ≡ markOf (field 1 (partsFrom 44 line from))) where
-      pub new-unkind : r ≡ NoKind → Misopened Number ≡ declaration line known words from commas arity
-      new-unkind is = rw (three, lt-ltb arity noArity low, no-kind (isKind (field 1 (partsFrom 44 line from))) _ read is)
+    module _ (low : arity < noArity) (r : Marking) (read : r ≡ kindMark (field 1 (partsFrom 44 line from))) where
+      pub new-kindless : r ≡ NoKind → Misopened Number ≡ declaration line known words from commas arity
+      new-kindless is = rw (three, lt-ltb arity noArity low, no-kind (isKind (field 1 (partsFrom 44 line from))) _ read is)
 
       pub new-declared : (n mark : ℕ) → n ≡ arity → r ≡ Mark mark → Line (record { letter = P; predicate = known; words = words; from = length line + 1; arity = n; mark = mark }) ≡ declaration line known words from commas arity
       new-declared n mark same is =

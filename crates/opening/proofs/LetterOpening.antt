@@ -172,14 +172,8 @@ module _ {names signatures : List ℕ} {s : State} {line : Bytes} {name : Named}
             → OpensLetter P line names signatures s (Line (record { letter = P; predicate = s .predicates; words = name .words; from = length line + 1; arity = arity; mark = flag (kindFrom (field 1 (partsFrom 44 line (name .stop + 1)))) }))
         declared short four good =
             let (is, low) = arity-given (field 2 (fieldsOf line)) arity given (and-left _ _ good) in
-            passes _ short
-            (record {
-              rest = parts-done 44 line (length line + 1) (omega arith) ∙ sym (drop-of-length-le (fieldsOf line) {i = 4} (omega arith));
-              few = omega arith;
-              place = λ e. absurd (e refl);
-              due = λ e. absurd (other-than-m e);
-              low = low;
-            })
+            let none = parts-done 44 line (length line + 1) (omega arith) ∙ sym (drop-of-length-le (fieldsOf line) {i = 4} (omega arith)) in
+            passes _ short (record { rest = none; few = omega arith; place = λ e. absurd (e refl); due = λ e. absurd (other-than-m e); low = low })
             λ manner w outline stands.
             record {
               left = past-opening manner (fieldsOf line) (w .pack) P HasName.predicate (looked .stands .named) (is-new w outline) (ap not (equal-eqb (length (fieldsOf line)) 4 four), (ap not good, tt));

@@ -80,10 +80,10 @@ barredBy NoLetter = Declaration
 -- ## Declarations
 
 -- the mark that a field writes, where it is a kind
-abbrev pub markOf : Bytes → Marking
-markOf f = cond (isKind f) (Mark (flag (kindFrom f))) NoKind
+abbrev pub kindMark : Bytes → Marking
+kindMark f = cond (isKind f) (Mark (flag (kindFrom f))) NoKind
 
--- the opening of a line that declares a predicate which is new, with so many commas and, from a place on, its arity and its kind
+-- the opening of a line that declares a new predicate, by the number of its commas, its arity, and the kind after that, which stands from a place on
 abbrev pub declaration : Bytes → ℕ → Words → ℕ → ℕ → ℕ → Opening
 declaration line known words from commas arity =
     let kind = field 1 (partsFrom 44 line from) in

@@ -15,7 +15,7 @@ ghost use Rattle.words.specs.Classes.{Classes};
 ghost use Rattle.tables.specs.Tables.{SafeState, SafeSignatures, noArity};
 ghost use Rattle.tables.specs.Sorts.{sortOf};
 ghost use Rattle.tables.specs.Lines.{most};
-ghost use Rattle.opening.specs.Opening.{declares, bars, barredBy, markOf, declaration, HasName, Nameless, Begins, LetterRead, NameRead, Completes, Stands, OpensLetter, OpensBare, Opens};
+ghost use Rattle.opening.specs.Opening.{declares, bars, barredBy, kindMark, declaration, HasName, Nameless, Begins, LetterRead, NameRead, Completes, Stands, OpensLetter, OpensBare, Opens};
 use numbers::Natural;
 use tables::Fault;
 use tables::Hints;
@@ -142,7 +142,7 @@ pub enum Marking {
 
 /// The mark of the kind that a field writes.
 fn mark_of(field: &[u8]) -> Marking
-    ensures { λ r. ⌜ r ≡ markOf (now (field .entry)) ⌝ }
+    ensures { λ r. ⌜ r ≡ kindMark (now (field .entry)) ⌝ }
 {
     if field.len() != 1 {
         return Marking::NoKind;
@@ -159,7 +159,7 @@ fn mark_of(field: &[u8]) -> Marking
 
 /// The mark of the kind in the field after the one from a place on.
 fn read_mark(line: &[u8], from: usize) -> Marking
-    ensures { λ r. ⌜ r ≡ markOf (field 1 (partsFrom 44 (now (line .entry)) from)) ⌝ }
+    ensures { λ r. ⌜ r ≡ kindMark (field 1 (partsFrom 44 (now (line .entry)) from)) ⌝ }
 {
     if line.len() < from {
         return Marking::NoKind;

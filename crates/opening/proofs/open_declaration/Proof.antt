@@ -1,6 +1,6 @@
 -- `opening::open_declaration` meets its contract. Assumes nothing.
 use borrow.Author.Needs.{needs}
-use Rattle.opening.proofs.Declarations.{new-miscounted, new-malformed, new-unkind, new-declared}
+use Rattle.opening.proofs.Declarations.{new-miscounted, new-malformed, new-kindless, new-declared}
 use Rattle.opening.proofs.open_declaration.Statement.{statement}
 use Rattle.opening.proofs.open_declaration.Tie as tie
 
@@ -11,7 +11,7 @@ returns-2 : tie.Need-returns-2
 returns-2 c = search (needs, new-malformed)
 
 returns-3 : tie.Need-returns-3
-returns-3 c = search (needs, new-unkind)
+returns-3 c = search (needs, new-kindless)
 
 returns-4 : tie.Need-returns-4
 returns-4 c = search (needs, new-declared)
