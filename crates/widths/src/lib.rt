@@ -41,13 +41,6 @@ pub fn u16_to_i64(n: u16) -> i64
     n as i64
 }
 
-pub fn u32_to_u8(n: u32) -> u8
-    requires { ⌜ n < 256 ⌝ }
-    ensures { λ r. ⌜ r ≡ n ⌝ }
-{
-    n as u8
-}
-
 pub fn u32_to_usize(n: u32) -> usize
     ensures { λ r. ⌜ r ≡ n ⌝ }
 {
