@@ -110,6 +110,11 @@ def main(argv):
     for new, olds in sorted(taken.items()):
         if len(olds) > 1:
             print(f"falls together: {sorted(olds)} as {new}")
+    # an operator's places are port.py's
+    for x, ys in by_port.items():
+        for y in ys:
+            if "◌" in y:
+                final[x] = y
     # what stands in the files now: a name of port.py's, or the older one
     now = collections.defaultdict(set)
     for x, ys in by_port.items():

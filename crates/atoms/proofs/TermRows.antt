@@ -14,7 +14,7 @@ use lib.ListN.{length, get_or, take}
 use lib.Seq.{take-suc, length-take-le, get_or-take}
 use Rattle.groundwork.proofs.Lists.{member_get_d}
 use Rattle.groundwork.proofs.Truth.{by_truth, ltb-lt, ltb-ge}
-use Rattle.theory.specs.Lists.{_∈_}
+use Rattle.theory.specs.Lists.{◌∈◌}
 use Rattle.theory.specs.Text.{Bytes}
 use Rattle.theory.specs.Terms.{Term, Terms, variable, nil, cons, arity, read_term, variables, all_variables}
 use Rattle.theory.specs.Sizes.{Measure, counted}

@@ -10,7 +10,7 @@ use lib.Dec.{leb}
 use lib.ListN.{length}
 use Rattle.groundwork.proofs.Lists.{end_cases}
 use Rattle.groundwork.proofs.Truth.{by_truth, and_left, and_right, and_both, leb-le, le-leb}
-use Rattle.theory.specs.Lists.{_∈_, every}
+use Rattle.theory.specs.Lists.{◌∈◌, every}
 use Rattle.theory.specs.Text.{Bytes, among, is_name}
 use Rattle.theory.specs.Terms.{Term, Terms, variable, symbol, nil, cons, arity, WellFormed, AllWellFormed}
 use Rattle.theory.specs.Packs.{Atom, line_limit, subgoal_limit, variable_limit}

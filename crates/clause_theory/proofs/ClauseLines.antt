@@ -5,7 +5,7 @@ use mathlib.Core.List.Memᴰ
 use mathlib.Core.List.{List, [], ◌∷◌, ◌++◌, map, flat_map, append_assoc, cons≢nil}
 use lib.ListN.{length, replicate}
 use Rattle.groundwork.proofs.Lists.{all_cons, all_append}
-use Rattle.theory.specs.Lists.{_∈_}
+use Rattle.theory.specs.Lists.{◌∈◌}
 use Rattle.theory.specs.Text.{Bytes, lines_of, fields_of}
 use Rattle.theory.specs.Packs.{Atom, head_line, subgoal_line, line, text_of}
 use Rattle.theory.specs.declared.Letter.{Letter}

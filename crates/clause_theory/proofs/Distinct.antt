@@ -6,7 +6,7 @@ use mathlib.Core.List.Memᴰ
 use Prim.Native.Nat.{◌≤◌}
 use native.Mathlib.Omega.{arith}
 use lib.ListN.{length, length-append}
-use Rattle.theory.specs.Lists.{_∈_}
+use Rattle.theory.specs.Lists.{◌∈◌}
 use Rattle.theory.specs.Text.{Bytes}
 use Rattle.theory.proofs.Judging.Variables.{Once, once_none, once_more}
 

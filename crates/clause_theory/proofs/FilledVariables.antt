@@ -10,7 +10,7 @@ use native.Mathlib.Omega.{arith}
 use lib.ListN.{length, length-append}
 use Rattle.groundwork.proofs.Lists.{get_d_member, member_get_d, end_cases}
 use Rattle.groundwork.proofs.Truth.{by_truth}
-use Rattle.theory.specs.Lists.{_∈_}
+use Rattle.theory.specs.Lists.{◌∈◌}
 use Rattle.theory.specs.Text.{Bytes, among}
 use Rattle.theory.specs.Residuals.{numbered, rule_variables}
 use Rattle.clause_theory.specs.ClauseTokens.{Mark, name, variable, opens, closes, comma, neck, stop, stray}

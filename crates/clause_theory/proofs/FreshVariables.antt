@@ -9,7 +9,7 @@ use native.Mathlib.Decide.{dec_lt}
 use native.Mathlib.Omega.{arith}
 use lib.ListN.{length}
 use Rattle.groundwork.proofs.Truth.{by_truth, never_both}
-use Rattle.theory.specs.Lists.{_∈_}
+use Rattle.theory.specs.Lists.{◌∈◌}
 use Rattle.theory.specs.Text.{Bytes, among}
 use Rattle.clause_theory.specs.Import.{numbered_variable, lowest_from, fresh_variable, fresh_variables}
 use Rattle.clause_theory.proofs.Distinct.{once_few}

@@ -12,7 +12,7 @@ use lib.Dec.{leb}
 use lib.ListN.{length, length-append}
 use Rattle.groundwork.proofs.Lists.{length_end, flat_map_append, flat_map_end, all_end}
 use Rattle.groundwork.proofs.Truth.{by_truth, never_both, leb-le, leb-gt}
-use Rattle.theory.specs.Lists.{_∈_, ending, over}
+use Rattle.theory.specs.Lists.{◌∈◌, ending, over}
 use Rattle.theory.specs.Text.{Bytes}
 use Rattle.theory.specs.Packs.{text_of}
 use Rattle.theory.specs.Check.{numbers}

@@ -10,7 +10,7 @@ use native.Mathlib.Omega.{arith}
 use lib.ListN.{length, take, drop, length-append, get_or-eq_default}
 use lib.Seq.{split_at, length-take-le}
 use Rattle.groundwork.proofs.Truth.{by_truth}
-use Rattle.theory.specs.Lists.{_∈_}
+use Rattle.theory.specs.Lists.{◌∈◌}
 use Rattle.theory.specs.Text.{Bytes, bytes, among, decimal}
 use Rattle.theory.specs.Terms.{Term, Terms, symbol, nil, cons, arity, symbol_token, tokens, all_tokens, WellFormed, AllWellFormed, variables, all_variables}
 use Rattle.theory.specs.Terms as T

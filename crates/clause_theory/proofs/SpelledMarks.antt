@@ -6,7 +6,7 @@ use mathlib.Core.List.Memᴰ
 use mathlib.Core.List.{List, [], ◌∷◌, ◌++◌, flat_map}
 use Rattle.groundwork.proofs.Lists.{all_cons, all_append}
 use Rattle.groundwork.proofs.Truth.{or_left, or_right}
-use Rattle.theory.specs.Lists.{_∈_}
+use Rattle.theory.specs.Lists.{◌∈◌}
 use Rattle.theory.specs.Text.{Bytes, bytes, is_lower, is_upper}
 use Rattle.theory.specs.Terms.{Term, Terms, symbol, nil, cons}
 use Rattle.theory.specs.Terms as T

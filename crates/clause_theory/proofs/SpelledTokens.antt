@@ -5,7 +5,7 @@ use mathlib.Core.List.Memᴰ
 use mathlib.Core.List.{List, ◌++◌}
 use Prim.Native.Nat.{ℕ}
 use Rattle.groundwork.proofs.Truth.{or_left, or_right}
-use Rattle.theory.specs.Lists.{_∈_, every}
+use Rattle.theory.specs.Lists.{◌∈◌, every}
 use Rattle.theory.specs.Text.{Bytes, bytes, same, is_upper}
 use Rattle.clause_theory.specs.ClauseTokens.{Mark, Token}
 use Rattle.clause_theory.specs.Cutting.{is_run, Known, a_name, a_variable, the_lone, an_opening, a_closing, a_comma, a_neck, a_stop, last_stop, Marked, known, unknown, CutFrom, nothing_left, layout_first, token_first, Cut}

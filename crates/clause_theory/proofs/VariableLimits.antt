@@ -9,7 +9,7 @@ use native.Mathlib.Omega.{arith}
 use lib.Dec.{leb}
 use lib.ListN.{length}
 use Rattle.groundwork.proofs.Truth.{by_truth, never_both, and_left, and_right, leb-le}
-use Rattle.theory.specs.Lists.{_∈_, every}
+use Rattle.theory.specs.Lists.{◌∈◌, every}
 use Rattle.theory.specs.Text.{Bytes, is_name, is_variable}
 use Rattle.theory.specs.Terms.{Term, Terms, symbol, nil, cons, arity, variables, all_variables}
 use Rattle.theory.specs.Terms as T

@@ -4,7 +4,7 @@
 -- proofs/ImportKept.antt.
 use Rattle.std.specs.Prelude.{◌≡◌, ◌⊎◌, ◌↔◌, true, false, ℕ, ◌+◌, ◌*◌, ◌≤◌, ◌<◌, length, take, drop, replicate}
 use mathlib.Core.List.{List, [], ◌∷◌, ◌++◌, map, flat_map}
-use Rattle.theory.specs.Lists.{_∈_, ending, over}
+use Rattle.theory.specs.Lists.{◌∈◌, ending, over}
 use Rattle.theory.specs.Text.{Bytes, bytes, lines_of, fields_of, is_lower, is_upper, is_name, decimal}
 use Rattle.theory.specs.Terms.{Term, Terms, symbol, nil, cons, arity, all_variables, AllWellFormed}
 use Rattle.theory.specs.Terms as T

@@ -1,6 +1,6 @@
 -- The variables of a clause as numbers: a table of the named ones, and how often `_` stands.
 use Rattle.std.specs.Prelude.{◌≡◌, true, false, List, [], ◌∷◌, ◌++◌, ℕ, ◌+◌, ◌≤◌, ◌<◌, length}
-use Rattle.theory.specs.Lists.{_∈_}
+use Rattle.theory.specs.Lists.{◌∈◌}
 use Rattle.theory.specs.Text.{Bytes, bytes, is_variable}
 use Rattle.theory.specs.Packs.{variable_limit}
 use Rattle.theory.specs.Residuals.{numbered}

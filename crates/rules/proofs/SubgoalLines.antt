@@ -9,7 +9,7 @@ use lib.Dec.{leb, ltb}
 use lib.ListN.{length, get_or, drop, length-append}
 use Rattle.groundwork.proofs.Lists.{get_d_member, length_end}
 use Rattle.groundwork.proofs.Truth.{by_truth, not-true, and_left, leb-gt}
-use Rattle.theory.specs.Lists.{_∈_, is_empty, ending}
+use Rattle.theory.specs.Lists.{◌∈◌, is_empty, ending}
 use Rattle.theory.specs.Text.{Bytes, fields_of}
 use Rattle.theory.specs.Terms.{all_variables}
 use Rattle.theory.specs.Sizes.{Measure}

@@ -11,7 +11,7 @@ use lib.Dec.{leb}
 use lib.ListN.{length, length-append}
 use Rattle.groundwork.proofs.Truth.{and_left, and_right, and_both, leb-le, le-leb}
 use Rattle.groundwork.proofs.Lists.{length_end, end_cases}
-use Rattle.theory.specs.Lists.{_∈_, every}
+use Rattle.theory.specs.Lists.{◌∈◌, every}
 use Rattle.theory.specs.Text.{Bytes, bytes, is_name, decimal}
 use Rattle.theory.specs.Terms.{Term, Terms, symbol, nil, cons, arity, symbol_token, written_term}
 use Rattle.theory.specs.Terms as Terms

@@ -8,7 +8,7 @@ use native.Mathlib.Omega.{arith}
 use lib.ListN.{length, get_or, get_or-append}
 use lib.Seq.{get_or-append_seam}
 use Rattle.groundwork.proofs.Truth.{by_truth, never_both}
-use Rattle.theory.specs.Lists.{_∈_}
+use Rattle.theory.specs.Lists.{◌∈◌}
 use Rattle.theory.specs.Text.{Bytes, same, among}
 use Rattle.theory.specs.Sizes.{occurrences}
 use Rattle.theory.specs.Residuals.{numbered}

@@ -7,7 +7,7 @@ use native.Mathlib.Omega.{arith}
 use lib.ListN.{length, get_or, get_or-append}
 use Rattle.groundwork.proofs.Truth.{by_truth}
 use Rattle.groundwork.proofs.Lists.{get_d_member, member_get_d}
-use Rattle.theory.specs.Lists.{_∈_}
+use Rattle.theory.specs.Lists.{◌∈◌}
 use Rattle.theory.specs.Text.{Bytes, among}
 use Rattle.theory.specs.Residuals.{numbered}
 use Rattle.theory.proofs.Judging.RuleVariables.{numbered_length}

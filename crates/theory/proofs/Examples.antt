@@ -11,7 +11,7 @@ use native.Mathlib.Omega.{arith}
 use Prim.Native.String.{String}
 use lib.IntN.{ℤ, pos, negsuc}
 use lib.ListN.{replicate}
-use Rattle.theory.specs.Lists.{_∈_, total, every, any, is_some, is_empty}
+use Rattle.theory.specs.Lists.{◌∈◌, total, every, any, is_some, is_empty}
 use Rattle.theory.specs.Text.{Bytes, bytes, same, among, parts_at, joined, lines_of, is_name_byte, is_word, value_after, is_decimal, natural, negated, integer, last_digits, decimal}
 use Rattle.theory.specs.Terms.{Term, variable, nil, cons, arity, symbol_from, symbol_in, token_of, first_terms, after, after_all, terms_of, the_only, read_term, variables}
 use Rattle.theory.specs.Sizes.{arities_of, sum_of_arities, occurrences, occurrences_in, structural, flagged, constant_of, counted}
@@ -81,9 +81,9 @@ pub record Row : Type 1 where
   pub answer : Answer
   pub besides : Type 0
 
-infix 10 _gives_
-abbrev pub _gives_ : Example → Answer → Row
-_gives_ e a = record { call = e; answer = a; besides = Unit {0} }
+infix 10 ◌gives◌
+abbrev pub ◌gives◌ : Example → Answer → Row
+◌gives◌ e a = record { call = e; answer = a; besides = Unit {0} }
 
 -- a claim that contradicts itself
 abbrev contradicted : String

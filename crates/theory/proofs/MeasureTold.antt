@@ -8,7 +8,7 @@ use Prim.Native.Nat.{◌≤◌}
 use lib.ListN.{length}
 use Rattle.groundwork.proofs.Truth.{by_truth, and_left, never_both}
 use Rattle.groundwork.proofs.Lists.{member_unempty}
-use Rattle.theory.specs.Lists.{every, is_empty, _∈_}
+use Rattle.theory.specs.Lists.{every, is_empty, ◌∈◌}
 use Rattle.theory.specs.Text.{Bytes, between}
 use Rattle.theory.specs.Terms.{Term, WrittenAs, read_term, variables, IsGround}
 use Rattle.theory.specs.Sizes.{structural, size}

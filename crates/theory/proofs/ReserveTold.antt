@@ -3,7 +3,7 @@ use mathlib.Core.Path.{◌≡◌, refl, sym, ◌∙◌, ap}
 use mathlib.Core.Bool.{Bool, cond}
 use lib.Dec.{eqb}
 use Rattle.groundwork.proofs.Truth.{by_truth, eqb-equal, eqb-unequal, eqb-different}
-use Rattle.theory.specs.Lists.{_∈_}
+use Rattle.theory.specs.Lists.{◌∈◌}
 use Rattle.theory.specs.Text.{Bytes}
 use Rattle.theory.specs.Packs.{Predicate, Pack}
 use Rattle.theory.specs.Written.{pack_of}

@@ -8,7 +8,7 @@ use lib.Dec.{eqb, leb}
 use lib.ListN.{length}
 use Rattle.groundwork.proofs.Truth.{by_truth, never_both, and_left, and_right, and_both, or_left, or_right, eqb-equal, equal-eqb, leb-le, le-leb}
 use Rattle.groundwork.proofs.Lists.{member_unempty}
-use Rattle.theory.specs.Lists.{_∈_, every, passing}
+use Rattle.theory.specs.Lists.{◌∈◌, every, passing}
 use Rattle.theory.specs.Text.{Bytes, between, is_lower, is_upper, is_digit, is_name_byte, is_word, is_variable, value_after, decimal, signed_decimal}
 use Rattle.theory.specs.Terms.{Term, variable, symbol, Terms, nil, cons, arity, symbol_token, tokens, all_tokens, WellFormed, AllWellFormed, variables, all_variables}
 use Rattle.theory.specs.Packs.{Atom, Key, key, claim_key, claims_on, text_of}

@@ -1,6 +1,6 @@
 -- Document 01, "Derivations", with 02's 1/14: which facts are given, and what has a derivation from them.
 use Rattle.std.specs.Prelude.{◌≡◌}
-use Rattle.theory.specs.Lists.{_∈_}
+use Rattle.theory.specs.Lists.{◌∈◌}
 use Rattle.theory.specs.Terms.{Substitution, all_under}
 use Rattle.theory.specs.Packs.{given, Atom, Rule, Pack}
 use Rattle.theory.specs.Facts.{IsFact, MeetsAll}

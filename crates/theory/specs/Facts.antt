@@ -2,7 +2,7 @@
 use Rattle.std.specs.Prelude.{◌≡◌, Bool, List, [], ◌∷◌, ℕ, ℤ, pos, ◌+ℤ◌, ◌*ℤ◌, ◌≤ℤ◌}
 use Rattle.std.proofs.Math.Option.{some}
 use Rattle.std.specs.Int.Signed.{non_neg}
-use Rattle.theory.specs.Lists.{_∈_, every}
+use Rattle.theory.specs.Lists.{◌∈◌, every}
 use Rattle.theory.specs.Terms.{AllGround}
 use Rattle.theory.specs.Sizes.{Measure, argument_sizes}
 use Rattle.theory.specs.Packs.{Predicate, Claim, Atom, Pack, measure_in, atom_key, declared_as, claims_on}

@@ -1,6 +1,6 @@
 -- Document 01, "Forms": a constant and a whole number for each variable; the form of a term; a form's value.
 use Rattle.std.specs.Prelude.{List, [], ◌∷◌, ℕ, ℤ, pos, negsuc, ◌+ℤ◌, ◌*ℤ◌}
-use Rattle.theory.specs.Lists.{_∈_}
+use Rattle.theory.specs.Lists.{◌∈◌}
 use Rattle.theory.specs.Text.{Bytes}
 use Rattle.theory.specs.Terms.{Term}
 use Rattle.theory.specs.Sizes.{Measure, constant_of, coefficient_of}

@@ -1,7 +1,7 @@
 -- Document 01, the table of "What check returns", with 02's 1/14, 3/14 and 5/14, in words: what each number says of a line by its letter,
 -- by its fields and by what the lines before it write. In what order they apply is a table (proofs/Judging/Examples).
 use Rattle.std.specs.Prelude.{◌≡◌, false, ◌⊎◌, ◌↔◌, List, [], ℕ, ◌+◌, ◌≤◌, ◌<◌, ℤ, pos, nat_abs, length, drop, ◌<ℤ◌}
-use Rattle.theory.specs.Lists.{_∈_, ending}
+use Rattle.theory.specs.Lists.{◌∈◌, ending}
 use Rattle.theory.specs.Text.{Bytes, is_name, decimal, signed_decimal, fields_of}
 use Rattle.theory.specs.Terms.{Term, WrittenAs, all_variables}
 use Rattle.theory.specs.Packs.{Kind, given, ruled, Predicate, Claim, Rule, Pack, measure_in, predicate_limit, claim_limit, rule_limit, subgoal_limit, variable_limit, number_limit, key, key_of, claim_key, atom_key, claims_on, claims_on_all, kind_letter}

@@ -1,7 +1,7 @@
 -- Document 01, the table of "What check returns", in words: a line's fault is the first number that applies to it, and what 4 says by its
 -- bytes. The tests are in Faults, what the other numbers say in LettersTold; that all agree is promised (Promised, `LinesPromised`).
 use Rattle.std.specs.Prelude.{◌≡◌, true, cond, ◌⊎◌, ◌↔◌, List, [], ◌∷◌, ℕ, ◌≤◌, ◌<◌, length}
-use Rattle.theory.specs.Lists.{_∈_}
+use Rattle.theory.specs.Lists.{◌∈◌}
 use Rattle.theory.specs.Text.{Bytes}
 use Rattle.theory.specs.Packs.{line_limit}
 use Rattle.theory.specs.Written.{Written}

@@ -4,9 +4,9 @@ use mathlib.Core.List.{List, [], ◌∷◌, ◌++◌, Memᴰ}
 use Rattle.std.proofs.Math.Option.{Option, some, none}
 
 -- a is one of l
-infix 50 _∈_
-abbrev pub _∈_ : {A : Type 0} → A → List A → Type 0
-_∈_ a l = Memᴰ a l
+infix 50 ◌∈◌
+abbrev pub ◌∈◌ : {A : Type 0} → A → List A → Type 0
+◌∈◌ a l = Memᴰ a l
 
 -- the test holds of each element
 unfoldable pub every {ℓ} : {A : Type ℓ} → (A → Bool) → List A → Bool

@@ -1,6 +1,6 @@
 -- Document 01, measure, in words: what each of its answers says of the bytes. What it computes is in Measure.
 use Rattle.std.specs.Prelude.{◌≡◌, ◌≤◌, length}
-use Rattle.theory.specs.Lists.{_∈_}
+use Rattle.theory.specs.Lists.{◌∈◌}
 use Rattle.theory.specs.Text.{Bytes}
 use Rattle.theory.specs.Terms.{Term, WrittenAs, variables, IsGround}
 use Rattle.theory.specs.Sizes.{sum_of_arities}

@@ -1,6 +1,6 @@
 -- Demand 1, for check: what each of its answers says of the text, of its lines and of the area, in words.
 use Rattle.std.specs.Prelude.{◌≡◌, true, false, List, [], ◌∷◌, ◌++◌, ℕ, ◌+◌, ◌-◌, ◌≤◌, ◌<◌, ℤ, pos, length, get_or, drop, ◌<ℤ◌}
-use Rattle.theory.specs.Lists.{_∈_}
+use Rattle.theory.specs.Lists.{◌∈◌}
 use Rattle.theory.specs.Text.{Bytes, lines_of}
 use Rattle.theory.specs.Packs.{Rule, Pack, measure_in, text_limit, no_claim, atom_key, claims_on, multiplier_line, line as line_of}
 use Rattle.theory.specs.Written.{Written, nothing, write, write_all, pack_of}

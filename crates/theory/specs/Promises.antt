@@ -3,7 +3,7 @@
 use Rattle.std.specs.Prelude.{◌≡◌, ◌↔◌, List, ℕ, ◌+◌, ◌≤◌, ℤ, pos, length, drop}
 use Rattle.std.proofs.Math.Option.{some}
 use Prim.Native.Char.{code}
-use Rattle.theory.specs.Lists.{_∈_, ending}
+use Rattle.theory.specs.Lists.{◌∈◌, ending}
 use Rattle.theory.specs.Text.{Bytes, lines_of}
 use Rattle.theory.specs.Terms.{Term, variables, Substitution, under}
 use Rattle.theory.specs.Sizes.{sum_of_arities, occurrences_in, Measure, structural, constant_of, coefficient_of, size}

@@ -1,6 +1,6 @@
 -- Document 01, "Forms", its last sentence: which forms stay in the signed 64-bit range.
 use Rattle.std.specs.Prelude.{◌≡◌, ◌⊎◌, List, ◌∷◌, ◌++◌, ℕ, ◌^◌, ◌<◌, pos, nat_abs, take}
-use Rattle.theory.specs.Lists.{_∈_}
+use Rattle.theory.specs.Lists.{◌∈◌}
 use Rattle.theory.specs.Text.{Bytes, lines_of, fields_of}
 use Rattle.theory.specs.Forms.{Form, times}
 use Rattle.theory.specs.Packs.{Claim, Atom, Rule, Pack, measure_in, atom_key, claims_on}

@@ -2,7 +2,7 @@
 -- computes is in Program.
 use Rattle.std.specs.Prelude.{◌≡◌, ℕ, ◌≤◌, ◌<◌, length}
 use mathlib.Core.List.{List, [], ◌∷◌, ◌++◌, flat_map}
-use Rattle.theory.specs.Lists.{_∈_, ending}
+use Rattle.theory.specs.Lists.{◌∈◌, ending}
 use Rattle.theory.specs.Text.{Bytes, bytes, decimal}
 use Rattle.theory.specs.Packs.{text_of}
 use Rattle.theory.specs.Check.{Numbers, verdict_of}

@@ -3,7 +3,7 @@
 -- Facts and Residuals have the definitions; that they say this is promised (Promised, `SizesPromised`).
 use Rattle.std.specs.Prelude.{◌≡◌, ◌↔◌, ℕ, ◌-◌, ◌≤◌, ℤ, pos, ◌+ℤ◌, ◌-ℤ◌, ◌*ℤ◌, length, get_or, replicate}
 use mathlib.Core.List.{List, ◌∷◌, ◌++◌, map, flat_map}
-use Rattle.theory.specs.Lists.{_∈_, summed}
+use Rattle.theory.specs.Lists.{◌∈◌, summed}
 use Rattle.theory.specs.Text.{Bytes}
 use Rattle.theory.specs.Terms.{nil}
 use Rattle.theory.specs.Sizes.{Measure, sizes_where, argument_sizes}

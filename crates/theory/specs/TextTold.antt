@@ -4,7 +4,7 @@
 use Rattle.std.specs.Prelude.{◌≡◌, true, ◌↔◌, ℕ, suc, ◌+◌, ◌/◌, ◌%◌, ◌≤◌, ◌<◌, ℤ, pos, negsuc, nat_abs, length, get_or}
 use mathlib.Core.List.{List, [], ◌∷◌, ◌++◌, map, flat_map}
 use Rattle.std.proofs.Math.Option.{some, none}
-use Rattle.theory.specs.Lists.{_∈_, passing, total}
+use Rattle.theory.specs.Lists.{◌∈◌, passing, total}
 use Rattle.theory.specs.Text.{Bytes, joined, lines_of, fields_of, is_name, is_variable, is_decimal, value_after, natural, integer, decimal, signed_decimal}
 use Rattle.theory.specs.Terms.{Term, Terms, tokens, all_tokens, WellFormed, AllWellFormed, variables, all_variables}
 use Rattle.theory.specs.Packs.{Predicate, Claim, Atom, Rule, Key, same_key, key_of, claim_key, declared_as, claims_on, text_of}

@@ -30,7 +30,7 @@ use Rattle.theory.proofs.Reading.Presence.{some_is, is_some_lem, is_empty_lem, e
 use Rattle.theory.proofs.Judging.LineKeys.{less_plus, declared_with, StatesAtom, atom_arity, atom_full, atom_declared}
 use Rattle.theory.proofs.Judging.Steps.{Step, fact_step, head_step, subgoal_step, MeetsEach}
 use Rattle.theory.proofs.Reading.TermFields.{terms_written, terms_formed, written_terms, written_are_terms, written_arity, terms_plain}
-use Rattle.theory.proofs.Judging.Tests.{Clear, _then_, clear_parts, both_clear}
+use Rattle.theory.proofs.Judging.Tests.{Clear, ◌then◌, clear_parts, both_clear}
 
 -- the fields of an atom's line
 abbrev pub atom_line : Letter → Atom → List Bytes

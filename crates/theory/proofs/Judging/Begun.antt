@@ -9,7 +9,7 @@ use lib.Dec.{ltb}
 use lib.ListN.{length, get_or, get_or-append}
 use lib.Seq.{get_or-append_seam}
 use Rattle.groundwork.proofs.Truth.{by_truth, ltb-lt, ltb-ge}
-use Rattle.theory.specs.Lists.{_∈_, ending}
+use Rattle.theory.specs.Lists.{◌∈◌, ending}
 use Rattle.theory.specs.Packs.{ruled, Atom, Rule, Pack, subgoal_limit, variable_limit, atom_key, claims_on, on_subgoals, on_multipliers, head_alone}
 use Rattle.theory.specs.Residuals.{rule_variables}
 use Rattle.theory.specs.Limits.{AtomFits, MultipliersFit, JustifiedBy}

@@ -7,7 +7,7 @@ use native.Mathlib.Nat.{le_of_eq, le_trans}
 use native.Mathlib.Omega.{arith}
 use lib.ListN.{length, get_or}
 use lib.Seq.{get_or-append_seam}
-use Rattle.theory.specs.Lists.{_∈_, ending}
+use Rattle.theory.specs.Lists.{◌∈◌, ending}
 use Rattle.theory.specs.Text.{Bytes}
 use Rattle.theory.specs.Packs.{from_rules, from_facts, from_claims, Predicate, Claim, Atom, Rule, Pack, subgoal_limit, variable_limit, claim_key, atom_key, claims_on, subgoal_line, multiplier_line, on_subgoals, on_multipliers, opening}
 use Rattle.theory.specs.Residuals.{rule_variables}

@@ -9,7 +9,7 @@ use native.Mathlib.Omega.{arith}
 use lib.IntN.{ℤ, pos, nat_abs}
 use lib.ListN.{length, length-map, drop}
 use lib.Seq.{drop-cons}
-use Rattle.theory.specs.Lists.{every, _∈_, ending}
+use Rattle.theory.specs.Lists.{every, ◌∈◌, ending}
 use Rattle.theory.specs.Text.{Bytes, bytes, is_name, integer, signed_decimal}
 use Rattle.theory.specs.Packs.{Claim, Pack, claim_limit, number_limit, claim_key, claims_on, claim_line, on_claims, from_facts}
 use Rattle.theory.specs.declared.Letter.TheVariants.{C}
@@ -27,7 +27,7 @@ use Rattle.theory.proofs.Reading.Presence.{some_is, is_some_lem, is_empty_lem, e
 use Rattle.theory.proofs.Reading.Spelling.{integer_of_signed, signed_of_integer, integer_within}
 use Rattle.theory.proofs.Judging.LineKeys.{less_plus, declared_with, claim_full, claim_declared}
 use Rattle.theory.proofs.Judging.Steps.{Step, claim_step}
-use Rattle.theory.proofs.Judging.Tests.{Clear, _then_}
+use Rattle.theory.proofs.Judging.Tests.{Clear, ◌then◌}
 
 -- the numbers of a claim, with its constant in front
 record Numbers (fields : List Bytes) : Type 0 where

@@ -6,7 +6,7 @@ use Prim.Native.Nat.{◌≤◌, ◌<◌}
 use lib.Dec.{leb}
 use lib.ListN.{length}
 use Rattle.groundwork.proofs.Truth.{by_truth, leb-le, leb-gt, le-leb, gt-leb, or_neither, or_not_left, or_not_right}
-use Rattle.theory.specs.Lists.{is_empty, _∈_}
+use Rattle.theory.specs.Lists.{is_empty, ◌∈◌}
 use Rattle.theory.specs.Packs.{Claim, Rule, Pack, atom_key, claims_on}
 use Rattle.theory.specs.Faults.{no_rule, last_rule, head_claims, is_complete}
 use Rattle.theory.proofs.Judging.LastRule.{last_member}

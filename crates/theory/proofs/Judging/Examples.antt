@@ -23,9 +23,9 @@ pub record Row : Type 0 where
   pub text : String
   pub numbers : List ℕ
 
-infix 10 _has_
-abbrev pub _has_ : String → List ℕ → Row
-_has_ text numbers = record { text = text; numbers = numbers }
+infix 10 ◌has◌
+abbrev pub ◌has◌ : String → List ℕ → Row
+◌has◌ text numbers = record { text = text; numbers = numbers }
 
 -- after some lines, so as the line of a number
 pub record Place : Type 0 where

@@ -12,7 +12,7 @@ use Rattle.theory.specs.declared.Letter.{Letter}
 use Rattle.theory.specs.declared.Letter.TheVariants.{P, C, G, H, B, M, E, NoLetter}
 use Rattle.theory.specs.Written.{line_letter, Written}
 use Rattle.theory.specs.Faults.{Test, test, first_given, is_unfit, Manner, predicate_tests, claim_tests, atom_tests, fact_tests, head_tests, subgoal_tests, multiplier_tests, end_tests, tests, fault}
-use Rattle.theory.proofs.Judging.Tests.{_then_}
+use Rattle.theory.proofs.Judging.Tests.{◌then◌}
 
 -- no test has a number as high
 abbrev pub Below : ℕ → List Test → Type 0

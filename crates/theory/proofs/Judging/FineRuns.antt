@@ -7,7 +7,7 @@ use Prim.Native.Nat.{◌≤◌}
 use lib.ListN.{length}
 use Rattle.groundwork.proofs.Lists.{all_cons}
 use Rattle.groundwork.proofs.Truth.{never_both}
-use Rattle.theory.specs.Lists.{_∈_}
+use Rattle.theory.specs.Lists.{◌∈◌}
 use Rattle.theory.specs.Text.{Bytes, fields_of}
 use Rattle.theory.specs.Packs.{Pack, empty_pack, line_limit, line, open_lines}
 use Rattle.theory.specs.Written.{Written, nothing, write, write_all}

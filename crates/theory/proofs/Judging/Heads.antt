@@ -3,7 +3,7 @@ use mathlib.Core.Path.{◌≡◌, refl, sym, ap}
 use mathlib.Core.Bool.{Bool, true, false, not, ◌&&◌, ◌||◌}
 use mathlib.Core.List.{List, [], ◌∷◌}
 use Rattle.groundwork.proofs.Truth.{by_truth, not-true, not-false, and_left, and_right}
-use Rattle.theory.specs.Lists.{_∈_, any}
+use Rattle.theory.specs.Lists.{◌∈◌, any}
 use Rattle.theory.specs.Packs.{ruled, Predicate, Claim, Rule, Pack, same_key, key_of, claim_key, atom_key}
 use Rattle.theory.specs.Written.{on_last}
 use Rattle.theory.specs.Faults.{is_given, owes_rule, heads_rule, is_headless}

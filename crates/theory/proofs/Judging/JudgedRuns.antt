@@ -10,7 +10,7 @@ use lib.Dec.{eqb}
 use lib.ListN.{length}
 use Rattle.groundwork.proofs.Lists.{member_unempty, all_cons}
 use Rattle.groundwork.proofs.Truth.{never_both, eqb-equal, equal-eqb}
-use Rattle.theory.specs.Lists.{_∈_, ending}
+use Rattle.theory.specs.Lists.{◌∈◌, ending}
 use Rattle.theory.specs.Text.{Bytes, fields_of}
 use Rattle.theory.specs.Terms.{all_variables}
 use Rattle.theory.specs.Packs.{Pack, line, end_line, line_limit, variable_limit, on_subgoals, on_multipliers, on_predicates, on_claims, head_alone}

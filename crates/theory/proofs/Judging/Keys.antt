@@ -9,7 +9,7 @@ use Prim.Native.Nat.{ℕ, ◌<◌}
 use lib.ListN.{length, get_or}
 use Rattle.groundwork.proofs.Truth.{by_truth, never_both, and_left, and_right, and_both, equal-eqb, eqb-equal}
 use Rattle.groundwork.proofs.Lists.{get_d_member}
-use Rattle.theory.specs.Lists.{_∈_}
+use Rattle.theory.specs.Lists.{◌∈◌}
 use Rattle.theory.specs.Text.{same}
 use Rattle.theory.specs.Packs.{Predicate, Claim, no_claim, Key, key, same_key, key_of, claim_key, declared_as, claims_on}
 use Rattle.theory.proofs.Reading.Bytes.{same_refl, same_equal}

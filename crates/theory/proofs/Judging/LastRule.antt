@@ -3,7 +3,7 @@ use mathlib.Core.Path.{◌≡◌, refl, sym, ◌∙◌, ap, subst}
 use mathlib.Core.Logic.{◌⊎◌}
 use mathlib.Core.List.Memᴰ
 use mathlib.Core.List.{List, [], ◌∷◌, ◌++◌, drop_last, nil≢cons}
-use Rattle.theory.specs.Lists.{_∈_}
+use Rattle.theory.specs.Lists.{◌∈◌}
 use Rattle.theory.specs.Packs.{Rule}
 use Rattle.theory.specs.Written.{on_last}
 use Rattle.theory.specs.Faults.{last_of}

@@ -13,7 +13,7 @@ use lib.Signed.{non_neg, ◌<ℤ◌, clash_ℤ}
 use Rattle.groundwork.proofs.Truth.{by_truth, never_both, not-true, and_left, and_right, and_both, eqb-equal, equal-eqb, leb-le, le-leb, ltb-lt, lt-ltb}
 use Rattle.groundwork.proofs.Lists.{member_split}
 use Rattle.groundwork.proofs.Order.{nonneg_test, below_zero}
-use Rattle.theory.specs.Lists.{_∈_, any, every, is_some, is_empty}
+use Rattle.theory.specs.Lists.{◌∈◌, any, every, is_some, is_empty}
 use Rattle.theory.specs.Text.{Bytes, is_name, natural, integer, decimal, fields_of}
 use Rattle.theory.specs.Terms.{Term, WrittenAs, read_term, all_variables}
 use Rattle.theory.specs.Packs.{given, ruled, Predicate, Claim, Atom, Pack, measure_in, Key, same_key, key_of, claim_key, atom_key, declared_as, claims_on, predicate_limit, claim_limit, rule_limit, subgoal_limit, variable_limit, number_limit}

@@ -23,7 +23,7 @@ use Rattle.theory.proofs.Judging.MultiplierLines.{multiplier_step_lem, multiplie
 use Rattle.theory.proofs.Reading.PlainFields.{plain_nil, plain_cons, letter_plain, fields_of_line, line_fit}
 use Rattle.theory.proofs.Judging.PredicateLines.{predicate_step_lem, predicate_readable}
 use Rattle.theory.proofs.Judging.Steps.{Step, predicate_step, claim_step, fact_step, head_step, subgoal_step, multiplier_step}
-use Rattle.theory.proofs.Judging.Tests.{Clear, _then_, Numbered, clear_zero, zero_clear}
+use Rattle.theory.proofs.Judging.Tests.{Clear, ◌then◌, Numbered, clear_zero, zero_clear}
 
 abbrev pub before : Pack → Written
 before p = record { pack = p; ended = false }

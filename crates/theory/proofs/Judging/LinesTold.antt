@@ -10,7 +10,7 @@ use native.Mathlib.Omega.{arith}
 use lib.Dec.{eqb}
 use lib.ListN.{get_or}
 use Rattle.groundwork.proofs.Truth.{by_truth, never_both, and_both, or_left, or_right, eqb-equal, equal-eqb}
-use Rattle.theory.specs.Lists.{_∈_, every}
+use Rattle.theory.specs.Lists.{◌∈◌, every}
 use Rattle.theory.specs.Text.{Bytes, fields_of}
 use Rattle.theory.specs.Packs.{Pack}
 use Rattle.theory.specs.declared.Letter.{Letter}
@@ -20,7 +20,7 @@ use Rattle.theory.specs.Faults.{Test, test, first_given, is_unfit, may_stand, wh
 use Rattle.theory.specs.LinesTold.{found, applying, LineTold}
 use Rattle.theory.proofs.Judging.Fitness.{unfit_exactly}
 use Rattle.theory.proofs.Judging.LineReading.{tests_numbered}
-use Rattle.theory.proofs.Judging.Tests.{_then_, Numbered}
+use Rattle.theory.proofs.Judging.Tests.{◌then◌, Numbered}
 
 -- ---- the numbers found
 

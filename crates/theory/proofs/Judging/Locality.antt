@@ -7,7 +7,7 @@ use mathlib.Core.List.{List, [], ◌∷◌, flat_map}
 use Prim.Native.Nat.{ℕ}
 use lib.Dec.{leb}
 use lib.ListN.{length}
-use Rattle.theory.specs.Lists.{is_empty, _∈_}
+use Rattle.theory.specs.Lists.{is_empty, ◌∈◌}
 use Rattle.theory.specs.Text.{Bytes, fields_of}
 use Rattle.theory.specs.Sizes.{Measure}
 use Rattle.theory.specs.Packs.{Claim, Atom, Pack, measure_in, rule_limit, atom_key, claims_on, claims_on_all}

@@ -8,7 +8,7 @@ use native.Mathlib.Omega.{arith}
 use lib.Dec.{eqb}
 use lib.ListN.{length, length-map, length-drop, drop}
 use lib.Seq.{drop-cons}
-use Rattle.theory.specs.Lists.{every, _∈_, ending}
+use Rattle.theory.specs.Lists.{every, ◌∈◌, ending}
 use Rattle.theory.specs.Text.{Bytes, bytes, natural, decimal}
 use Rattle.theory.specs.Packs.{Pack, variable_limit, number_limit, claims_on_all, multiplier_line, on_multipliers, on_rules, opening}
 use Rattle.theory.specs.declared.Letter.TheVariants.{M}
@@ -24,7 +24,7 @@ use Rattle.theory.proofs.Reading.PlainFields.{plain_cons, plain_map, decimal_pla
 use Rattle.theory.proofs.Judging.ResidualNumbers.{justified_nonnegative, nonnegative_justified}
 use Rattle.theory.proofs.Reading.Spelling.{natural_of_decimal, decimal_of_natural, natural_within}
 use Rattle.theory.proofs.Judging.Steps.{Step, multiplier_step}
-use Rattle.theory.proofs.Judging.Tests.{Clear, _then_}
+use Rattle.theory.proofs.Judging.Tests.{Clear, ◌then◌}
 
 pub multiplier_line_again : (fields : List Bytes) → 1 ≤ length fields → field 0 fields ≡ bytes "M" → every is_multiplier (drop 1 fields) ≡ true
     → multiplier_line (multipliers_from fields) ≡ fields

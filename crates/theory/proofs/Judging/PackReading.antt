@@ -6,7 +6,7 @@ use mathlib.Core.List.{List, [], ◌∷◌, ◌++◌, map, flat_map, map-append}
 use Prim.Native.Nat.{ℕ, ◌≤◌}
 use lib.IntN.{ℤ, nat_abs}
 use Rattle.groundwork.proofs.Lists.{flat_map_end, flat_map_single, split_member, grown, all_cons, all_append}
-use Rattle.theory.specs.Lists.{_∈_, ending}
+use Rattle.theory.specs.Lists.{◌∈◌, ending}
 use Rattle.theory.specs.Text.{Bytes, bytes, same, is_name, lines_of}
 use Rattle.theory.specs.Terms.{AllWellFormed}
 use Rattle.theory.specs.Packs.{Predicate, Claim, Atom, Rule, Pack, number_limit, predicate_line, claim_line, fact_line, subgoal_line, multiplier_line, end_line, rule_lines, open_lines, line, pack_lines, written, on_subgoals, on_multipliers, from_rules, from_facts, from_claims, from_predicates}

@@ -23,7 +23,7 @@ use Rattle.theory.proofs.Reading.PlainFields.{plain_nil, plain_cons, name_plain,
 use Rattle.theory.proofs.Reading.Presence.{none_is, is_none_lem, some_is, is_empty_lem, empty_is}
 use Rattle.theory.proofs.Reading.Spelling.{natural_of_decimal, decimal_of_natural, natural_within}
 use Rattle.theory.proofs.Judging.LineKeys.{declared_with}
-use Rattle.theory.proofs.Judging.Tests.{Clear, _then_}
+use Rattle.theory.proofs.Judging.Tests.{Clear, ◌then◌}
 use Rattle.theory.proofs.Judging.Steps.{Step, predicate_step}
 
 predicate_line_again : (fields : List Bytes) → length fields ≡ 4 → field 0 fields ≡ bytes "P" → field 2 fields ≡ decimal (predicate_from fields).arguments

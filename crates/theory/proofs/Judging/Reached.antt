@@ -7,7 +7,7 @@ use mathlib.Core.Option.{none}
 use Prim.Native.Nat.{◌≤◌, ◌<◌}
 use native.Mathlib.Omega.{arith}
 use lib.ListN.{length}
-use Rattle.theory.specs.Lists.{_∈_, ending}
+use Rattle.theory.specs.Lists.{◌∈◌, ending}
 use Rattle.theory.specs.Text.{Bytes}
 use Rattle.theory.specs.Packs.{Predicate, Claim, Atom, Rule, Pack, measure_in, predicate_limit, claim_limit, rule_limit, Key, key_of, claim_key, declared_as, claims_on, on_subgoals, on_multipliers, on_predicates, on_claims, on_facts, on_rules, opening, head_alone, from_rules, from_facts, from_claims}
 use Rattle.theory.specs.Faults.{no_rule, last_rule, is_complete}

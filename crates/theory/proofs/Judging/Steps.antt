@@ -5,7 +5,7 @@ use mathlib.Core.List.{List, [], ◌∷◌}
 use mathlib.Core.Option.{none}
 use Prim.Native.Nat.{ℕ, ◌≤◌, ◌<◌}
 use lib.ListN.{length}
-use Rattle.theory.specs.Lists.{_∈_, ending}
+use Rattle.theory.specs.Lists.{◌∈◌, ending}
 use Rattle.theory.specs.Text.{Bytes}
 use Rattle.theory.specs.Sizes.{Measure}
 use Rattle.theory.specs.Packs.{ruled, Predicate, Claim, Atom, Rule, Pack, measure_in, predicate_limit, claim_limit, rule_limit, subgoal_limit, variable_limit, key_of, claim_key, declared_as, claims_on, predicate_line, claim_line, fact_line, head_line, subgoal_line, multiplier_line, on_subgoals, on_multipliers, on_predicates, on_claims, on_facts, on_rules, opening, head_alone, atom_key, from_rules, from_facts, from_claims}

@@ -12,9 +12,9 @@ Clear [] = Unit {0}
 Clear (t ∷ ts) = (t.finds ≡ false) × Clear ts
 
 -- one test after another
-infixr 10 _then_
-abbrev pub _then_ : {X Y : Type 0} → X → Y → X × Y
-_then_ x y = (x, y)
+infixr 10 ◌then◌
+abbrev pub ◌then◌ : {X Y : Type 0} → X → Y → X × Y
+◌then◌ x y = (x, y)
 
 -- some tests after others
 pub clear_parts : (ts us : List Test) → Clear (ts ++ us) → Clear ts × Clear us

@@ -7,7 +7,7 @@ use lib.ListN.{length}
 use lib.Signed.{non_neg, ◌<ℤ◌}
 use Rattle.groundwork.proofs.Order.{below_zero}
 use Rattle.groundwork.proofs.Truth.{not-true, not-false, eqb-equal}
-use Rattle.theory.specs.Lists.{_∈_}
+use Rattle.theory.specs.Lists.{◌∈◌}
 use Rattle.theory.specs.Text.{Bytes, fields_of}
 use Rattle.theory.specs.Packs.{claims_on_all, multiplier_line, line}
 use Rattle.theory.specs.declared.Letter.TheVariants.{M}

@@ -6,7 +6,7 @@ use mathlib.Core.List.{List, [], ◌∷◌, ◌++◌}
 use mathlib.Core.List.Memᴰ
 use Rattle.groundwork.proofs.Lists.{end_cases}
 use Rattle.groundwork.proofs.Truth.{by_truth, never_both, or_not_left, or_not_right}
-use Rattle.theory.specs.Lists.{_∈_}
+use Rattle.theory.specs.Lists.{◌∈◌}
 use Rattle.theory.specs.Text.{Bytes, same, among}
 use Rattle.theory.specs.Terms.{all_variables}
 pub use Rattle.theory.specs.Forms.{Once, once_none, once_more}

@@ -9,7 +9,7 @@ use lib.Dec.{eqb}
 use lib.IntN.{ℤ}
 use lib.ListN.{length, length-append}
 use Rattle.groundwork.proofs.Truth.{by_truth}
-use Rattle.theory.specs.Lists.{_∈_}
+use Rattle.theory.specs.Lists.{◌∈◌}
 use Rattle.theory.specs.Text.{Bytes, on_first, lines_of}
 use Rattle.theory.specs.Packs.{Rule, claim_limit, atom_key}
 use Rattle.theory.specs.Written.{nothing, write_all, pack_of}

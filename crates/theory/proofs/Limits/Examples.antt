@@ -11,7 +11,7 @@ use Rattle.theory.specs.Packs.{text_limit}
 use Rattle.theory.specs.Check.{numbers, judgement_of}
 use Rattle.theory.specs.Outcomes.{TextLengthTold}
 use Rattle.theory.specs.Measure.{measured}
-use Rattle.theory.proofs.Examples.{Example, check, check_on, measure_on, checked, sized, answer_to, before, unchanged, Row, _gives_, AnswersMet}
+use Rattle.theory.proofs.Examples.{Example, check, check_on, measure_on, checked, sized, answer_to, before, unchanged, Row, ◌gives◌, AnswersMet}
 
 -- a quoted text so many times
 abbrev times : ℕ → String → Bytes

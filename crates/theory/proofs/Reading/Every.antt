@@ -6,7 +6,7 @@ use mathlib.Core.List.{List, [], ◌∷◌, ◌++◌}
 use Prim.Native.Nat.{ℕ, zero, suc, ◌≤◌}
 use native.Mathlib.Omega.{arith}
 use lib.ListN.{length, take, replicate}
-use Rattle.theory.specs.Lists.{every, any, _∈_}
+use Rattle.theory.specs.Lists.{every, any, ◌∈◌}
 use Rattle.groundwork.proofs.Truth.{by_truth, never_both, and_left, and_right, and_both, or_left, or_right, or_not_left, or_not_right, or_neither}
 
 module _ {A : Type 0} (test : A → Bool) where

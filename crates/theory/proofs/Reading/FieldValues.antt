@@ -4,7 +4,7 @@ use mathlib.Core.Bool.{Bool, true, false, cond, ◌||◌}
 use mathlib.Core.List.Memᴰ
 use mathlib.Core.List.{List, [], ◌∷◌, map}
 use mathlib.Core.Option.{Option, some, get_or}
-use Rattle.theory.specs.Lists.{every, is_some, _∈_}
+use Rattle.theory.specs.Lists.{every, is_some, ◌∈◌}
 use Rattle.theory.specs.Text.{Bytes, bytes, same}
 use Rattle.theory.specs.Packs.{Kind, given, ruled, kind_letter}
 use Rattle.theory.specs.Written.{kind_from}

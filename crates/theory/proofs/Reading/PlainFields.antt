@@ -7,7 +7,7 @@ use Prim.Native.Nat.{ℕ, ◌≤◌}
 use lib.Dec.{ltb}
 use lib.ListN.{length}
 use lib.IntN.{ℤ}
-use Rattle.theory.specs.Lists.{every, _∈_}
+use Rattle.theory.specs.Lists.{every, ◌∈◌}
 use Rattle.theory.specs.Text.{Bytes, bytes, between, is_name, decimal, signed_decimal, fields_of}
 use Rattle.theory.specs.Packs.{line, line_limit}
 use Rattle.theory.specs.declared.Letter.{Letter}

@@ -7,7 +7,7 @@ use Prim.Native.Nat.{ℕ}
 use lib.Dec.{eqb}
 use Rattle.groundwork.proofs.Truth.{by_truth, never_both, and_both, not-true, eqb-equal, eqb_same}
 use Rattle.groundwork.proofs.Lists.{all_cons}
-use Rattle.theory.specs.Lists.{every, _∈_, ending}
+use Rattle.theory.specs.Lists.{every, ◌∈◌, ending}
 use Rattle.theory.specs.Text.{Bytes, on_first, parts_at, joined, lines_of}
 use Rattle.theory.specs.Packs.{text_of}
 use Rattle.theory.specs.Check.{is_finished}

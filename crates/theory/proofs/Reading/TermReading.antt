@@ -5,7 +5,7 @@ use mathlib.Core.List.Memᴰ
 use mathlib.Core.List.{List, [], ◌∷◌, ◌++◌, append-nil, append_assoc}
 use mathlib.Core.Option.{Option, some, none, map, some-injective, none-ne-some}
 use Prim.Native.Nat.{ℕ, zero, suc, ◌≤◌}
-use Rattle.theory.specs.Lists.{every, _∈_}
+use Rattle.theory.specs.Lists.{every, ◌∈◌}
 use Rattle.theory.specs.Text.{Bytes, parts_at, joined}
 use Rattle.theory.specs.Terms.{Term, variable, symbol, Terms, nil, cons, arity, symbol_token, tokens, all_tokens, written_term, WellFormed, AllWellFormed, WrittenAs}
 use Rattle.theory.specs.Terms.{Token, token_of, first_terms, after, after_all, terms_of, the_only, read_term}

@@ -8,7 +8,7 @@ use native.Mathlib.Omega.{arith}
 use lib.Dec.{eqb}
 use lib.ListN.{length, length-append}
 use Rattle.groundwork.proofs.Truth.{by_truth, never_both, eqb-equal, eqb_same, not-true}
-use Rattle.theory.specs.Lists.{every, _∈_}
+use Rattle.theory.specs.Lists.{every, ◌∈◌}
 use Rattle.theory.specs.Text.{Bytes, bytes, lines_of}
 use Rattle.theory.specs.Program.{pack_part, queries}
 use Rattle.theory.specs.ReplyTold.{LineBegins, at_start, after_line, EndLine, Divided, at_end, no_end}

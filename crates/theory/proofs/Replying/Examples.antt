@@ -3,11 +3,11 @@ use mathlib.Core.Path.{refl}
 use mathlib.Core.List.{List, [], ◌∷◌}
 use Prim.Native.String.{String}
 use Rattle.theory.specs.Text.{bytes}
-use Rattle.theory.proofs.Examples.{reply_to, printed, answer_to, Row, _gives_, AnswersMet}
+use Rattle.theory.proofs.Examples.{reply_to, printed, answer_to, Row, ◌gives◌, AnswersMet}
 
-infix 10 _prints_
-abbrev _prints_ : String → String → Row
-_prints_ input output = reply_to input gives printed (bytes output)
+infix 10 ◌prints◌
+abbrev ◌prints◌ : String → String → Row
+◌prints◌ input output = reply_to input gives printed (bytes output)
 
 -- The document's own example. No input, no `E` line, an `E` without its byte 10. Lines that only begin or end like `E`; one of
 -- them refuses the pack, and the query too. A second `E` is a query. The last query with and without its byte 10; an empty one

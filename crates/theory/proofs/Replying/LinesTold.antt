@@ -7,7 +7,7 @@ use mathlib.Core.Logic.{◌⊎◌, inl, inr}
 use Prim.Native.Nat.{ℕ}
 use lib.Dec.{eqb}
 use Rattle.groundwork.proofs.Truth.{by_truth, eqb-equal, eqb-unequal, eqb-different}
-use Rattle.theory.specs.Lists.{_∈_, ending}
+use Rattle.theory.specs.Lists.{◌∈◌, ending}
 use Rattle.theory.specs.Text.{Bytes, on_first, lines_of}
 use Rattle.theory.specs.Packs.{text_of}
 use Rattle.theory.specs.ReplyTold.{NoLineEnds, HasLines, ended, unended}

@@ -8,7 +8,7 @@ use Prim.Native.Nat.{ℕ, zero, suc, ◌≤◌}
 use native.Mathlib.Omega.{arith}
 use lib.ListN.{length}
 use Rattle.groundwork.proofs.Truth.{by_truth, not-false, and_right, and_both, or_not_left, or_not_right, or_neither}
-use Rattle.theory.specs.Lists.{is_some, _∈_}
+use Rattle.theory.specs.Lists.{is_some, ◌∈◌}
 use Rattle.theory.specs.Text.{Bytes, bytes, same, is_name, natural, last_digits, decimal}
 use Rattle.theory.specs.Packs.{Predicate, Pack, Key, key, key_of, same_key, declared_as}
 use Rattle.theory.specs.Written.{field}

@@ -7,7 +7,7 @@ use mathlib.Core.Option.{Option, some, none, map, get_or, some-injective, none-n
 use Prim.Native.Nat.{ℕ, ◌≤◌}
 use lib.ListN.{drop}
 use Rattle.groundwork.proofs.Truth.{by_truth, never_both}
-use Rattle.theory.specs.Lists.{is_some, _∈_}
+use Rattle.theory.specs.Lists.{is_some, ◌∈◌}
 use Rattle.theory.specs.Text.{Bytes, bytes, same, is_decimal, natural, decimal, fields_of}
 use Rattle.theory.specs.Reserve.{size_from, query_from, query_of}
 use Rattle.theory.specs.Queries.{written_size, SizeField, unknown, known}

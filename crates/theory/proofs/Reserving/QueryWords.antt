@@ -8,7 +8,7 @@ use native.Mathlib.Omega.{arith}
 use lib.ListN.{length, get_or, drop, length-map}
 use lib.Seq.{drop-cons}
 use Rattle.groundwork.proofs.Truth.{by_truth, never_both, not-false, not-true}
-use Rattle.theory.specs.Lists.{every, is_some, _∈_}
+use Rattle.theory.specs.Lists.{every, is_some, ◌∈◌}
 use Rattle.theory.specs.Text.{Bytes, bytes, is_name, decimal, fields_of}
 use Rattle.theory.specs.Packs.{Predicate, Pack, line}
 use Rattle.theory.specs.Written.{field}
@@ -26,7 +26,7 @@ use Rattle.theory.proofs.Reading.Separators.{joined_of_parts}
 use Rattle.theory.proofs.Reading.Spelling.{natural_of_decimal}
 use Rattle.theory.proofs.Judging.Fitness.{fit_told, unfit_told, unfit_exactly, fit_exactly}
 use Rattle.theory.proofs.Judging.LineKeys.{sizes_count}
-use Rattle.theory.proofs.Judging.Tests.{first_passed, first_found, clear_zero, _then_}
+use Rattle.theory.proofs.Judging.Tests.{first_passed, first_found, clear_zero, ◌then◌}
 use Rattle.theory.proofs.Reserving.QueryFields.{name_test, named_told, named_clear, asked_test, asked_told, asked_clear}
 use Rattle.theory.proofs.Reserving.QuerySizes.{AllSmall, query_small, SmallSize, unknown_alone, size_again, size_written, size_told, size_passes}
 

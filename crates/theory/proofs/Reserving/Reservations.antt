@@ -9,7 +9,7 @@ use native.Mathlib.Omega.{arith}
 use lib.IntN.{ℤ, pos}
 use lib.Signed.{◌≤ℤ◌, ◌<ℤ◌, lt_z_yes, lt_z_no, clash_ℤ}
 use Rattle.groundwork.proofs.Truth.{true_from, holds_from, fails_from, by_truth}
-use Rattle.theory.specs.Lists.{_∈_}
+use Rattle.theory.specs.Lists.{◌∈◌}
 use Rattle.theory.specs.Packs.{Claim, Pack, claims_on}
 use Rattle.theory.specs.Reserve.{Query, query_key, numerator, Fields, fields, Usable, usable_from, impossibles, smallest, bounded, impossible_or, reservation}
 use Rattle.theory.specs.SmallestBound.{numerator_of, IsBound, UsableClaim, BoundGiven, ImpossibleBy, NoneUsable}

@@ -7,7 +7,7 @@ use Prim.Native.Char.{code}
 use lib.Dec.{eqb}
 use lib.ListN.{length}
 use Rattle.groundwork.proofs.Truth.{by_truth, eqb-equal, eqb-unequal}
-use Rattle.theory.specs.Lists.{_∈_}
+use Rattle.theory.specs.Lists.{◌∈◌}
 use Rattle.theory.specs.Text.{Bytes}
 use Rattle.theory.specs.Packs.{Predicate, Pack}
 use Rattle.theory.specs.Written.{pack_of}

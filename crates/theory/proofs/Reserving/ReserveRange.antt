@@ -12,7 +12,7 @@ use lib.IntN.{ℤ, pos, nat_abs, ◌*ℤ◌}
 use lib.ListN.{length}
 use Rattle.groundwork.proofs.Magnitude.{nat_abs_add, nat_abs_mul}
 use Rattle.groundwork.proofs.Truth.{by_truth, eqb-equal}
-use Rattle.theory.specs.Lists.{_∈_}
+use Rattle.theory.specs.Lists.{◌∈◌}
 use Rattle.theory.specs.Text.{Bytes}
 use Rattle.theory.specs.Packs.{Claim, Pack, number_limit}
 use Rattle.theory.specs.Written.{pack_of}

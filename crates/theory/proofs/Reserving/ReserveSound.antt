@@ -3,7 +3,7 @@ use mathlib.Core.Path.{sym, ap, subst}
 use Prim.Native.Nat.{ℕ, ◌≤◌}
 use native.Mathlib.Omega.{arith}
 use lib.Signed.{clash_ℤ}
-use Rattle.theory.specs.Lists.{_∈_}
+use Rattle.theory.specs.Lists.{◌∈◌}
 use Rattle.theory.specs.Packs.{Claim, Atom, Pack, measure_in, Key, claims_on}
 use Rattle.theory.specs.Reserve.{Query, query_key, size_at, HasKnownSizes}
 use Rattle.theory.specs.SmallestBound.{UsableClaim, BoundGiven, ImpossibleBy}

@@ -12,7 +12,7 @@ use lib.IntN.{pos}
 use lib.Signed.{lt_z}
 use Rattle.groundwork.proofs.Lists.{get_d_member, all_cons}
 use Rattle.groundwork.proofs.Truth.{by_truth, ltb-lt, ltb-ge, eqb-equal, eqb-unequal}
-use Rattle.theory.specs.Lists.{_∈_}
+use Rattle.theory.specs.Lists.{◌∈◌}
 use Rattle.theory.specs.Packs.{Claim, no_claim}
 use Rattle.theory.specs.Reserve.{Query, is_usable, numerator, bound_by, Usable, usable_from, impossibles, smallest}
 use Rattle.theory.specs.SmallestBound.{NumberedFrom}

@@ -8,7 +8,7 @@ use native.Mathlib.Nat.{zero-add}
 use native.Mathlib.Omega.{arith}
 use lib.ListN.{length, length-append}
 use Rattle.groundwork.proofs.Lists.{all_cons}
-use Rattle.theory.specs.Lists.{_∈_, every}
+use Rattle.theory.specs.Lists.{◌∈◌, every}
 use Rattle.theory.specs.Text.{Bytes, is_name, lines_of, decimal}
 use Rattle.theory.specs.Packs.{Rule, text_of}
 use Rattle.theory.specs.Sheet.{spaces, right_aligned, left_aligned, Entry, rule_entry, columns, sheet_line, sheet_lines}

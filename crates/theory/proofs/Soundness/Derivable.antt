@@ -7,7 +7,7 @@ use lib.IntN.{pos}
 use lib.Signed.{◌≤ℤ◌}
 use Rattle.groundwork.proofs.Order.{nonneg_pos, add_nonneg, mul_nonneg, nonneg_of_rest}
 use Rattle.groundwork.proofs.Lists.{member_get_d}
-use Rattle.theory.specs.Lists.{_∈_}
+use Rattle.theory.specs.Lists.{◌∈◌}
 use Rattle.theory.specs.Text.{Bytes}
 use Rattle.theory.specs.Terms.{Substitution}
 use Rattle.theory.specs.Sizes.{Measure, size}

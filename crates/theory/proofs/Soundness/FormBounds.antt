@@ -10,7 +10,7 @@ use lib.IntN.{ℤ, pos, negsuc, nat_abs, ◌+ℤ◌, ◌*ℤ◌}
 use lib.ListN.{length, length-append}
 use Rattle.groundwork.proofs.Truth.{by_truth}
 use Rattle.groundwork.proofs.Magnitude.{nat_abs_add, nat_abs_mul}
-use Rattle.theory.specs.Lists.{_∈_, total}
+use Rattle.theory.specs.Lists.{◌∈◌, total}
 use Rattle.theory.specs.Text.{Bytes, same}
 use Rattle.theory.specs.Terms.{Term, Terms, variable, symbol, nil, cons, arity, tokens, all_tokens, WellFormed, AllWellFormed}
 use Rattle.theory.specs.Sizes.{Measure, structural, flagged, size, argument_sizes, counted, arguments_counted, occurrences, constant_of}

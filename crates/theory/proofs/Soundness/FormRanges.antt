@@ -11,7 +11,7 @@ use lib.IntN.{ℤ, pos}
 use lib.ListN.{length, take, drop, length-take, take-append-drop}
 use Rattle.groundwork.proofs.Truth.{not-true}
 use Rattle.groundwork.proofs.Lists.{flat_map_member, length_flat_map, get_d_member}
-use Rattle.theory.specs.Lists.{_∈_}
+use Rattle.theory.specs.Lists.{◌∈◌}
 use Rattle.theory.specs.Text.{Bytes, fields_of}
 use Rattle.theory.specs.Terms.{AllWellFormed}
 use Rattle.theory.specs.Forms.{Form}

@@ -9,7 +9,7 @@ use lib.Signed.{◌≤ℤ◌}
 use Rattle.groundwork.proofs.Difference.{diff_eq, to-diff, by_diff}
 use Rattle.groundwork.proofs.Ring.{*ℤ_distrib_left, *ℤ_distrib_right, *ℤ_assoc, neg_as_times, +ℤ_middle}
 use Rattle.groundwork.proofs.Order.{nonneg_pos, add_nonneg, mul_nonneg}
-use Rattle.theory.specs.Lists.{_∈_}
+use Rattle.theory.specs.Lists.{◌∈◌}
 use Rattle.theory.specs.Text.{Bytes}
 use Rattle.theory.specs.Forms.{Form, zero_form, plus, times, minus, constant_form, value_at}
 use Rattle.theory.specs.Limits.{NonNegative}

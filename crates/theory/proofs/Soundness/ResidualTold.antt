@@ -10,7 +10,7 @@ use lib.ListN.{length, get_or, take, replicate, length-append, length-map, lengt
 use lib.Seq.{length-take-le}
 use Rattle.groundwork.proofs.Lists.{all_append}
 use Rattle.groundwork.proofs.Difference.{diff_eq, to-diff, by_diff}
-use Rattle.theory.specs.Lists.{_∈_, summed}
+use Rattle.theory.specs.Lists.{◌∈◌, summed}
 use Rattle.theory.specs.Text.{Bytes}
 use Rattle.theory.specs.Terms.{all_variables}
 use Rattle.theory.specs.Sizes.{Measure, sizes_where, argument_sizes}

@@ -9,7 +9,7 @@ use native.Mathlib.Omega.{arith}
 use lib.IntN.{ℤ, pos, ◌+ℤ◌}
 use lib.ListN.{length}
 use Rattle.groundwork.proofs.Truth.{by_truth}
-use Rattle.theory.specs.Lists.{_∈_, total}
+use Rattle.theory.specs.Lists.{◌∈◌, total}
 use Rattle.theory.specs.Text.{Bytes, same}
 use Rattle.theory.specs.Terms.{Term, Terms, variable, symbol, nil, cons, arity, variables, all_variables, AllGround, IsGround, Substitution, under, all_under}
 use Rattle.theory.specs.Sizes.{Measure, flagged, size, argument_sizes, counted, arguments_counted, occurrences, constant_of, constants_of, size_where, sizes_where}
