@@ -36,7 +36,7 @@ pub fn measure_word(two: Two) -> u64
 
 /// Four numbers: those of a refusal, or 0 and what the call counts.
 #[repr(C)]
-#[derive(Drop)]
+#[derive(Clone, Copy)]
 pub struct Answer {
     pub number: u64,
     pub line: u64,

@@ -13,7 +13,7 @@ mod c_answers;
 pub use c_answers::{Answer, check_word, four_numbers, import_numbers, measure_word, reserve_word};
 
 /// Check's four numbers.
-#[derive(Drop)]
+#[derive(Clone, Copy)]
 pub struct Four {
     pub number: u8,
     pub line: u16,
@@ -22,7 +22,7 @@ pub struct Four {
 }
 
 /// Reserve's three fields: a letter's byte, a bound or a refusal's number, a claim.
-#[derive(Drop)]
+#[derive(Clone, Copy)]
 pub struct Three {
     pub letter: u8,
     pub middle: u64,
@@ -30,7 +30,7 @@ pub struct Three {
 }
 
 /// Measure's refusal, or 0, and the size.
-#[derive(Drop)]
+#[derive(Clone, Copy)]
 pub struct Two {
     pub refusal: u8,
     pub size: u32,

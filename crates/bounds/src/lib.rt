@@ -37,7 +37,7 @@ fn share_of(number: i64, size: u32) -> i64
 }
 
 /// A claim's numerator, and whether an unknown argument rules the claim out.
-#[derive(Drop)]
+#[derive(Clone, Copy)]
 pub struct Weighed {
     pub blocked: bool,
     pub numerator: i64,
@@ -68,7 +68,7 @@ fn weigh(claims: &Claims, place: usize, arity: usize, sizes: &[u32; 8]) -> Weigh
 }
 
 /// What comes of a claim: nothing where it is not usable; that no fact is possible; or a bound.
-#[derive(Drop)]
+#[derive(Clone, Copy)]
 pub struct Use {
     pub usable: bool,
     pub impossible: bool,

@@ -28,7 +28,7 @@ fn number_after(mark: Mark, names: &WordTable, named: usize, number: usize) -> u
 }
 
 /// Whether the lines of a clause are written, and how many bytes they take.
-#[derive(Drop)]
+#[derive(Clone, Copy)]
 pub struct Lines {
     pub fine: bool,
     pub bytes: usize,

@@ -28,6 +28,7 @@ numbered_from n (suc k) = numbered_variable n ∷ numbered_from (suc n) k
 
 from_member : (n k : ℕ) {x : Bytes} → x ∈ numbered_from n k → (m : ℕ) × (n ≤ m) × (m < n + k) × (x ≡ numbered_variable m)
 unfolding numbered_from
+from_member n zero m = elim m [ ]
 from_member n (suc k) (Memᴰ.head e) = (n, omega arith, omega arith, e)
 from_member n (suc k) (Memᴰ.tail m) = let later = from_member (suc n) k m in (later.0, omega (arith, later.1), omega (arith, later.2), later.3)
 
@@ -127,6 +128,7 @@ fresh_length (suc k) taken = ap suc (fresh_length k (fresh_variable taken ∷ ta
 
 pub fresh_apart : (k : ℕ) (taken : List Bytes) (x : Bytes) → x ∈ fresh_variables k taken → x ∈ taken → ⊥
 unfolding fresh_variables
+fresh_apart zero taken x m taken_has = elim m [ ]
 fresh_apart (suc k) taken x (Memᴰ.head e) m = not_among (fresh_variable taken) taken (fresh_free taken) (Memᴰ.cast (sym e) m)
 fresh_apart (suc k) taken x (Memᴰ.tail later) m = fresh_apart k (fresh_variable taken ∷ taken) x later (Memᴰ.tail m)
 

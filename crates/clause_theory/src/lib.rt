@@ -1,7 +1,7 @@
 // The answer of import as a type. What each case means is said once, in specs/Importations.antt.
 
 /// What import answers.
-#[derive(Drop)]
+#[derive(Clone, Copy)]
 pub enum Importation {
     /// The lines are in the buffer: how many clauses, and how many bytes.
     Imported(usize, usize),

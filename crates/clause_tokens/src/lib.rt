@@ -5,7 +5,7 @@ ghost use Rattle.words.specs.Classes.{Class, Classes};
 ghost use Rattle.clause_tokens.specs.NextTokens.{LayoutEnds, Sign, sign_more, RunFound, NextToken, is_stop_mark};
 
 /// What a token is. `Nothing`: only layout stands up to the end.
-#[derive(Drop)]
+#[derive(Clone, Copy)]
 pub enum Mark {
     Name,
     Variable,
@@ -20,7 +20,7 @@ pub enum Mark {
 }
 
 /// A token: what it is, where it starts, and the place after it.
-#[derive(Drop)]
+#[derive(Clone, Copy)]
 pub struct Token {
     pub mark: Mark,
     pub start: usize,

@@ -12,7 +12,7 @@ use words::{WordTable, Words};
 
 /// How many variables a clause has: those that it names, whose words stand in the table, and each `_`; or too many of them, or
 /// one whose name is too long.
-#[derive(Drop)]
+#[derive(Clone, Copy)]
 pub struct Variables {
     pub fine: bool,
     pub named: usize,

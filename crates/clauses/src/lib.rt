@@ -9,7 +9,7 @@ use clause_tokens::Mark;
 
 /// Where the reader stands in a clause: what was read last (0: an atom or a term is due, 1: a name, 2: another term), how many
 /// compounds are open, and whether the head is complete; or the token can't stand there (3), or the clause is at its end (4).
-#[derive(Drop)]
+#[derive(Clone, Copy)]
 struct Standing {
     last: u8,
     depth: usize,
@@ -107,7 +107,7 @@ fn advance(last: u8, depth: usize, body: bool, mark: Mark) -> Standing
 }
 
 /// Where a clause ends, or the place of the first token that can't continue it.
-#[derive(Drop)]
+#[derive(Clone, Copy)]
 pub struct Ending {
     pub fine: bool,
     pub place: usize,

@@ -4,7 +4,7 @@ ghost use Rattle.std.specs.Int.Signed.{lt_z};
 ghost use Rattle.forms.specs.Sums.{Within, Zero, Sum, Multiple};
 
 /// A form over the variables of one rule: its constant, then a coefficient for each of them.
-#[derive(Drop)]
+#[derive(Clone, Copy)]
 pub struct Form {
     pub constant: i64,
     pub coefficients: [i64; 16],

@@ -14,7 +14,7 @@ use words::WordTable;
 
 /// What comes of a clause. Fault 0: the place after it, and how many bytes its lines take; 25: the place where the text leaves
 /// the subset; 26: the clause passes a limit, or the page is too short for its lines.
-#[derive(Drop)]
+#[derive(Clone, Copy)]
 struct Taken {
     fault: u8,
     place: usize,

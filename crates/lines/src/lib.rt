@@ -131,7 +131,7 @@ fn zeros_ahead(letter: Letter, line: &[u8], from: usize) -> usize
 }
 
 /// How the lines of a text end: all pass, or the first fault.
-#[derive(Drop)]
+#[derive(Clone, Copy)]
 pub enum Ending {
     AllPass,
     Stopped(Fault),
@@ -139,7 +139,7 @@ pub enum Ending {
 
 /// A text whose lines are judged: how they end, the number of the last line that was read, the state there, and the
 /// residual where that line's claim is not justified.
-#[derive(Drop)]
+#[derive(Clone, Copy)]
 pub struct LoadedLines {
     pub ending: Ending,
     pub line: usize,

@@ -8,13 +8,13 @@ mod runs;
 pub use runs::zeros;
 
 /// A decimal number, or what is none: malformed or out of range.
-#[derive(Drop)]
+#[derive(Clone, Copy)]
 pub enum Natural {
     Whole(u32),
     NoNatural,
 }
 
-#[derive(Drop)]
+#[derive(Clone, Copy)]
 pub enum Integer {
     Signed(i64),
     NoInteger,

@@ -84,13 +84,13 @@ fn may_stand(letter: Letter, state: State, signatures: &Signatures) -> bool
 }
 
 /// The name in a line's second field: its words, and where the field ends.
-#[derive(Drop)]
+#[derive(Clone, Copy)]
 pub struct Named {
     pub words: Words,
     pub stop: usize,
 }
 
-#[derive(Drop)]
+#[derive(Clone, Copy)]
 pub enum Naming {
     Found(Named),
     NoName,
@@ -128,7 +128,7 @@ fn read_arity(line: &[u8], from: usize) -> usize
 }
 
 /// The mark that a kind is kept as: 1 if it is that of given predicates, else 0.
-#[derive(Drop)]
+#[derive(Clone, Copy)]
 pub enum Marking {
     Mark(u8),
     NoKind,

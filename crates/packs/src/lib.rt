@@ -70,7 +70,7 @@ fn lay(area: &mut [i64], form: Form)
 }
 
 /// A text that is judged: the verdict, whether that is for an unjustified claim, the state, and the residual of that claim.
-#[derive(Drop)]
+#[derive(Clone, Copy)]
 pub struct Loaded {
     pub verdict: Verdict,
     pub residual: Form,

@@ -14,7 +14,7 @@ use theory::QueryRefusal;
 use words::Word;
 
 /// What a query asks: its predicate's place, how many arguments that has, and the asked argument's place, from 0.
-#[derive(Drop)]
+#[derive(Clone, Copy)]
 pub struct Asked {
     pub predicate: usize,
     pub arity: usize,
@@ -22,7 +22,7 @@ pub struct Asked {
 }
 
 /// A query whose tests are done: refused by one of them, or what it asks.
-#[derive(Drop)]
+#[derive(Clone, Copy)]
 pub enum Tested {
     Refused(QueryRefusal),
     Asks(Asked),

@@ -3,7 +3,7 @@ ghost use Rattle.std.specs.Prelude.{◌<◌};
 ghost use Rattle.sections.specs.Sections.{LinesOfLetter, RulesBegin, StandsSomeRule, RuleFound};
 
 /// Lines that begin with one letter: how many, and the place after them.
-#[derive(Drop)]
+#[derive(Clone, Copy)]
 pub struct Run {
     pub lines: usize,
     pub after: usize,
@@ -36,7 +36,7 @@ pub fn rules_begin(text: &[u8]) -> usize
 }
 
 /// A rule's lines: where the head's name ends, how many subgoals and `M` lines there are, and the place after them.
-#[derive(Drop)]
+#[derive(Clone, Copy)]
 pub struct RuleLines {
     pub name_end: usize,
     pub subgoals: usize,

@@ -99,7 +99,7 @@ pub fn is_within(set: PredicateSet, other: PredicateSet) -> bool
 
 /// The scalars that go with the tables. Their order matters for speed: the flags stand last, since gaps after them, between
 /// the numbers, make copies slow, and what seldom changes stands in front.
-#[derive(Drop)]
+#[derive(Clone, Copy)]
 pub struct State {
     pub predicates: usize,
     /// The predicates that have a fact.
@@ -122,14 +122,14 @@ pub struct State {
 }
 
 /// How lines are judged: as those of a whole pack, or the same but that no ruled predicate with a claim has to head a rule.
-#[derive(Drop)]
+#[derive(Clone, Copy)]
 pub enum Manner {
     Whole,
     ButForHeads,
 }
 
 /// What is wrong with a line: one case for each number that a line may have, of document 01's table and of later requests.
-#[derive(Drop)]
+#[derive(Clone, Copy)]
 pub enum Fault {
     UnfitLine,
     Letter,
@@ -147,7 +147,7 @@ pub enum Fault {
 }
 
 /// A line whose tests before its fields are read are done: what the fields and the line's end need.
-#[derive(Drop)]
+#[derive(Clone, Copy)]
 pub struct Opened {
     pub letter: Letter,
     /// Of a line that declares a predicate: its arity, and its mark, 1 if it is given. Of another both are 0.
@@ -160,21 +160,21 @@ pub struct Opened {
     pub from: usize,
 }
 
-#[derive(Drop)]
+#[derive(Clone, Copy)]
 pub enum Opening {
     Line(Opened),
     Misopened(Fault),
 }
 
 /// A field that is read, with the number of the rule's variables then.
-#[derive(Drop)]
+#[derive(Clone, Copy)]
 pub enum Fielding {
     Read(usize),
     Misread(Fault),
 }
 
 /// A line that is done, with the state after it.
-#[derive(Drop)]
+#[derive(Clone, Copy)]
 pub enum Closing {
     Done(State),
     Misclosed(Fault),

@@ -9,7 +9,7 @@ ghost use Rattle.term_lines.specs.Drawings.{RoomTold, LetterIs, Drawable, Draws}
 
 /// How far the lines of a clause are written: the place on the page after what is written, where this line begins, how many
 /// compounds are open, how many lines are complete, how many arguments of the atom have begun; and whether no limit is passed.
-#[derive(Drop)]
+#[derive(Clone, Copy)]
 pub struct Drawn {
     pub to: usize,
     pub line: usize,

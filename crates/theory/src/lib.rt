@@ -2,7 +2,7 @@
 // and specs/Answers.antt.
 
 /// What a line is, by its first field.
-#[derive(Drop)]
+#[derive(Clone, Copy)]
 pub enum Letter {
     P,
     C,
@@ -15,7 +15,7 @@ pub enum Letter {
 }
 
 /// What an accepted pack counts: its lines, its rules, its `M` lines.
-#[derive(Drop)]
+#[derive(Clone, Copy)]
 pub struct Counts {
     pub lines: u16,
     pub rules: u8,
@@ -23,7 +23,7 @@ pub struct Counts {
 }
 
 /// Why check refuses a pack, one case for each number of document 01's table and of 02's requests; a line comes first.
-#[derive(Drop)]
+#[derive(Clone, Copy)]
 pub enum Refusal {
     /// 1: the residual area is shorter than 17 numbers.
     ShortArea,
@@ -62,21 +62,21 @@ pub enum Refusal {
 }
 
 /// What check answers.
-#[derive(Drop)]
+#[derive(Clone, Copy)]
 pub enum Verdict {
     Accepted(Counts),
     Refused(Refusal),
 }
 
 /// A bound on the asked size, and the lowest claim that gives it.
-#[derive(Drop)]
+#[derive(Clone, Copy)]
 pub struct Bound {
     pub size: u64,
     pub claim: u8,
 }
 
 /// Why reserve refuses a query. 15 is no longer given: what it was for is 14.
-#[derive(Drop)]
+#[derive(Clone, Copy)]
 pub enum QueryRefusal {
     /// 4: over 1,024 bytes, or a byte outside 32 to 126.
     UnfitQuery,
@@ -91,7 +91,7 @@ pub enum QueryRefusal {
 }
 
 /// What reserve answers.
-#[derive(Drop)]
+#[derive(Clone, Copy)]
 pub enum Reservation {
     Bounded(Bound),
     NoBound,
@@ -102,7 +102,7 @@ pub enum Reservation {
 }
 
 /// What sheet answers.
-#[derive(Drop)]
+#[derive(Clone, Copy)]
 pub enum Filing {
     /// The sheet is on the page. The pack's counts are check's.
     Filed(Counts),
@@ -112,7 +112,7 @@ pub enum Filing {
 }
 
 /// What measure answers: a ground term's size, or why there is none.
-#[derive(Drop)]
+#[derive(Clone, Copy)]
 pub enum Measurement {
     Size(u32),
     /// 4: over 1,024 bytes, or a byte outside 32 to 126.

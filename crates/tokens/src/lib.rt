@@ -85,7 +85,7 @@ pub fn end_of(place: u16) -> usize
 }
 
 /// What was read of a field: how many symbols and variables, and whether it is a term.
-#[derive(Drop)]
+#[derive(Clone, Copy)]
 pub struct Tokens {
     pub symbols: usize,
     pub variables: usize,

@@ -11,14 +11,14 @@ pub use hints::{Hints, hash, place_by};
 pub use table::{class_of, class_table, word_end, word_of};
 
 /// A name or a variable as two words of eight bytes.
-#[derive(Drop)]
+#[derive(Clone, Copy)]
 pub struct Words {
     pub first: u64,
     pub second: u64,
 }
 
 /// What bytes are: a name, a variable or neither.
-#[derive(Drop)]
+#[derive(Clone, Copy)]
 pub enum Word {
     Name(Words),
     Variable(Words),

@@ -63,6 +63,7 @@ on_member k (d ∷ cs) c m = step (on_member k cs c) (kept_cases (same_key k (cl
 
 pub member_on : (k : Key) (cs : List Claim) (c : Claim) → c ∈ cs → claim_key c ≡ k → c ∈ claims_on k cs
 unfolding claims_on
+member_on k [] c m here = elim m [ ]
 member_on k (d ∷ cs) c (Memᴰ.head is) here = kept_first (same_key k (claim_key d)) d (claims_on k cs) is (same_key_here k (claim_key d) (ap claim_key (sym is) ∙ here))
 member_on k (d ∷ cs) c (Memᴰ.tail m) here = kept_rest (same_key k (claim_key d)) d (claims_on k cs) (member_on k cs c m here)
 

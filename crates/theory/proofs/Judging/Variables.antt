@@ -24,6 +24,7 @@ among_member x (y ∷ ys) e =
 
 pub not_among : (x : Bytes) (ys : List Bytes) → among x ys ≡ false → x ∈ ys → ⊥
 unfolding among
+not_among x [] e m = elim m [ ]
 not_among x (y ∷ ys) e (Memᴰ.head h) = same_unequal x y (or_not_left (same x y) (among x ys) e) h
 not_among x (y ∷ ys) e (Memᴰ.tail m) = not_among x ys (or_not_right (same x y) (among x ys) e) m
 
@@ -53,6 +54,7 @@ seen_numbered seen (y ∷ ys) {x} m = seen_numbered (cond (among y seen) seen (s
 
 pub member_numbered : (seen ys : List Bytes) {x : Bytes} → x ∈ ys → x ∈ numbered seen ys
 unfolding numbered
+member_numbered seen [] m = elim m [ ]
 member_numbered seen (y ∷ ys) {x} (Memᴰ.head e) = seen_numbered (cond (among y seen) seen (seen ++ (y ∷ []))) ys
     (by_truth (λ b. x ∈ cond b seen (seen ++ (y ∷ []))) (among y seen) (λ h. Memᴰ.cast e (among_member y seen h)) (λ h. Memᴰ.append_right seen (Memᴰ.head e)))
 member_numbered seen (y ∷ ys) (Memᴰ.tail m) = member_numbered (cond (among y seen) seen (seen ++ (y ∷ []))) ys m
@@ -65,6 +67,7 @@ rule_variables_once head subgoals = numbered_once [] (atoms_variables (head ∷ 
 
 pub variable_of_atom : (atoms : List Atom) {a : Atom} {x : Bytes} → a ∈ atoms → x ∈ all_variables a.terms → x ∈ atoms_variables atoms
 unfolding atoms_variables
+variable_of_atom [] m n = elim m [ ]
 variable_of_atom (b ∷ rest) {x = x} (Memᴰ.head e) n = Memᴰ.append_left (atoms_variables rest) (subst (λ (c : Atom). x ∈ all_variables c.terms) e n)
 variable_of_atom (b ∷ rest) (Memᴰ.tail m) n = Memᴰ.append_right (all_variables b.terms) (variable_of_atom rest m n)
 

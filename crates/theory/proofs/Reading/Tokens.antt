@@ -39,6 +39,7 @@ symbol_parts f k h = parts_of_joined 47 f (decimal k ∷ []) free
     free : AllFree 47 (f ∷ decimal k ∷ [])
     free part (Memᴰ.head e) = rw e (name_no_slash f h)
     free part (Memᴰ.tail (Memᴰ.head e)) = rw e (decimal_no_slash k)
+    free part (Memᴰ.tail (Memᴰ.tail m)) = elim m [ ]
 
 pub token_of_symbol : (f : Bytes) (k : ℕ) → is_name f ≡ true → k ≤ 9 → token_of (symbol_token f k) ≡ symbol_of f k
 unfolding token_of symbol_in symbol_from

@@ -25,7 +25,7 @@ use Rattle.theory.proofs.Judging.LineKeys.{less_plus, declared_with, found_key, 
 -- ---- the name
 
 -- a member under a key: something is declared under it
-member_declared : (k : Key) {ps : List Predicate} {x : Predicate} → x ∈ ps → key_of x ≡ k → is_some (declared_as k ps) ≡ true
+member_declared : (k : Key) {x : Predicate} {ps : List Predicate} → x ∈ ps → key_of x ≡ k → is_some (declared_as k ps) ≡ true
 unfolding declared_as is_some
 member_declared k (Memᴰ.head {x = y} e) is = rw (same_key_here k (key_of y) (ap key_of (sym e) ∙ is))
 member_declared k (Memᴰ.tail {x = y} {xs = ps} m) is =

@@ -78,6 +78,7 @@ ascending_below h end = end
 ascending_below h (next l a) = next (le_trans h l) a
 
 ascending_low : {k : ℕ} {u : Usable} {us : List Usable} → Ascending k us → u ∈ us → k ≤ u.number
+ascending_low end m = elim m [ ]
 ascending_low (next l a) (Memᴰ.head e) = rw e l
 ascending_low {u = u} (next l a) (Memᴰ.tail m) = let above = ascending_low a m in omega arith
 
