@@ -1,0 +1,39 @@
+-- `Form::times` meets its contract. The loop's invariant: each coefficient passed is k times the form's.
+use mathlib.Core.Path.{◌≡◌, ◌∙◌}
+use Prim.Native.Nat.{ℕ, ◌-◌, ◌≤◌, ◌<◌}
+use native.Mathlib.Omega.{arith}
+use borrow.Author.Count.{below_none}
+use borrow.Author.Rules.{rules}
+use lib.IntN.{pos, ◌*ℤ◌}
+use lib.ListN.{length, get_or, length-set}
+use mir.Syntax.{w64}
+use mir.Val.{to_z}
+use Rattle.forms.specs.Sums.{at}
+use Rattle.forms.proofs.Results.{kept, constant_multiplies, coefficient_multiplies, rule_more}
+use Rattle.forms.proofs.Form.times.Goals as goal
+
+pub loop-i-init : goal.loop-i-init
+loop-i-init c = (search rules, search rules, search rules, below_none _)
+
+pub overflow_mul-products : goal.overflow_mul-products
+overflow_mul-products c = (coefficient_multiplies c.args.k c.requires c.loop-i.i (omega arith)).fits
+
+pub loop-i-preserved : goal.loop-i-preserved
+loop-i-preserved c =
+    let k = c.args.k in
+    let f = c.args.self in
+    let i = c.loop-i.i in
+    let next = coefficient_multiplies k c.requires i (omega arith) in (
+      search rules,
+      simp length-set (search rules),
+      search rules,
+      rule_more (λ j. kept k *ℤ at f j) c.loop-i.products i _ (omega arith) c.loop-i.invariant.3 (next.result ∙ rw next.left),
+    )
+
+pub overflow_mul-result : goal.overflow_mul-result
+overflow_mul-result c = (constant_multiplies c.args.k c.requires).fits
+
+pub returns : goal.returns
+returns c =
+    let constant = constant_multiplies c.args.k c.requires in
+    record { constant = constant.result; coefficient = λ i less. rw constant.left at (c.loop-i.invariant.3 i (omega arith)) }
