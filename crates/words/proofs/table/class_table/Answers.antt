@@ -2,13 +2,8 @@
 use mathlib.Core.Path.{refl}
 use Rattle.theory.specs.Text.{is_name_byte}
 use Rattle.words.proofs.Entries.{every_entry, agree, is_class, classes_are}
-use Rattle.words.proofs.table.class_table.Statement.{statement}
-use Rattle.words.proofs.table.class_table.Tie as tie
+use Rattle.words.proofs.table.class_table.Goals as goal
 
-returns : tie.Need-returns
+pub returns : goal.returns
 unfolding every_entry agree is_class is_name_byte
 returns c = classes_are _ refl refl
-
-pub class-table-spec : {M : Type 1} → statement M
-class-table-spec =
-    tie.close (tie.spec returns)
