@@ -1,2 +1,0 @@
--- What a reader owns, for the walks.
-pub mod Holding
