@@ -1,0 +1,9 @@
+use Prim.Native.Nat.{◌-◌}
+use Rattle.terms.proofs.AritySums.{Summing, summing_none, summing_more, summing_all, summing_fits}
+use Rattle.terms.proofs.sum_of_arities.Given as goal
+
+abbrev pub invariant-loop-i : goal.invariant-loop-i
+invariant-loop-i l = Summing l.arities l.symbols l.sum l.i
+
+abbrev pub decreases-loop-i : goal.decreases-loop-i
+decreases-loop-i l = l.symbols - l.i
