@@ -1,1 +1,2 @@
 pub mod TokenLaws
+pub mod Tags

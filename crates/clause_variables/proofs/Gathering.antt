@@ -133,9 +133,11 @@ module _ {names : List ℕ} {known alone : ℕ} {xs : List Bytes} (g : Gathered 
 -- a named variable: its own bytes
 by_written : {x : Bytes} {m : T.Mark} (P : T.Mark → Type 0) → Seen x Variable m → (is_variable x ≡ leb (length x) 16 → is_lone x ≡ false → P (variable x)) → P m
 by_written P (seen_variable proper written) p = p proper written
+by_written P (seen_sign s) p = elim s [ ]
 
 by_lone : {x : Bytes} {m : T.Mark} (P : T.Mark → Type 0) → Seen x Lone m → P (variable (bytes "_")) → P m
 by_lone P seen_lone p = p
+by_lone P (seen_sign s) p = elim s [ ]
 
 module _ (text : Bytes) (start end : ℕ) (names : List ℕ) (known alone : ℕ) (high : end ≤ length text) where
   word : Bytes

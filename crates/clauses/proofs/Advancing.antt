@@ -148,6 +148,7 @@ module _ (r : Standing) where
 
 by_name : (P : T.Mark → Type 0) {x : Bytes} {m : T.Mark} → Seen x Name m → ((f : Bytes) → P (name f)) → P m
 by_name P {x} (seen_name w) p = p x
+by_name P (seen_sign s) p = elim s [ ]
 
 by_variable : (P : T.Mark → Type 0) {x : Bytes} {k : Mark} {m : T.Mark} → OneOf (1 ∷ 2 ∷ []) (tag_of the_type k) → Seen x k m → ((y : Bytes) → P (variable y)) → P m
 by_variable P way (seen_name w) p = absurd (miss (1 ∷ 2 ∷ []) 0 tt way)

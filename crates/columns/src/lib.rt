@@ -20,7 +20,8 @@ fn put_name(page: &mut [u8], width: usize, name: &[u8]) -> usize
     requires { (length name.now ≤ width) × (width < length page.old) }
     ensures { Puts (left_aligned width name.now ++ (32 ∷ [])) page.old page.new result }
 {
-    let end = bytes::copy(name, page);
+    let end = name.len();
+    page[..end].copy_from_slice(name);
     pages::put_spaces(&mut page[end..width + 1]);
     width + 1
 }

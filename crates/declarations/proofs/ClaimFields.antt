@@ -8,8 +8,8 @@ use native.Mathlib.Omega.{arith}
 use lib.IntN.{ℤ, pos, nat_abs}
 use lib.ListN.{length, set, length-set}
 use lib.Seq.{get_or-set_same, get_or-set_other}
-use mir.Facts.{to_z-of_z, sfits_widen}
-use mir.Syntax.{w16}
+use mir.Facts.{to_z-of_z}
+use mir.Syntax.{w16, w64}
 use mir.Val.{SFits, to_z, of_z}
 use Rattle.groundwork.proofs.Truth.{never_both}
 use Rattle.widths.proofs.Kept.{small_fits}
@@ -39,7 +39,7 @@ module _ (field : Bytes) (read : Integer) (is : integer_of read ≡ integer 9999
 
     -- the number stands as its bits
     whole : kept z ≡ z
-    whole = to_z-of_z (sfits_widen tt fits)
+    whole = to_z-of_z {w = w64} (small_fits w64 z (omega (arith, small)))
 
     pub number_fits : nat_abs (kept z) < 32768
     number_fits = rw whole (omega (arith, small))

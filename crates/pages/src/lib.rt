@@ -74,7 +74,9 @@ pub fn put_part(text: &[u8], start: usize, end: usize, page: &mut [u8], to: usiz
     requires { (start ≤ end) × (end ≤ length text.now) × (to + (end - start) ≤ length page.old) }
     ensures { PutAt (part text.now start end) (end - start) page.old page.new to result }
 {
-    to + bytes::copy(&text[start..end], &mut page[to..])
+    let length = end - start;
+    page[to..to + length].copy_from_slice(&text[start..end]);
+    to + length
 }
 
 /// Fills a page with spaces.

@@ -1,0 +1,13 @@
+use mathlib.Core.Logic.{⊎_elim}
+use Prim.Native.Nat.{◌-◌, ◌≤◌}
+use native.Mathlib.Omega.{arith}
+use lib.IntN.{pos}
+use Rattle.groundwork.proofs.Stretches.{Stored, stored_none}
+use Rattle.declarations.proofs.Laying.{laid_at, laid_all, laid_number, laid_zero}
+use Rattle.declarations.proofs.lay.Given as goal
+
+abbrev pub invariant-loop-i : goal.invariant-loop-i
+invariant-loop-i l = (l.i ≤ 9) × Stored (pos 0) (laid_at l.row l.arity) l.at l.initial.claims l.claims l.i
+
+abbrev pub decreases-loop-i : goal.decreases-loop-i
+decreases-loop-i l = 9 - l.i

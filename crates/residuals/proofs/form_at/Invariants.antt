@@ -1,0 +1,14 @@
+use mathlib.Core.Path.{◌≡◌, ◌∙◌}
+use Prim.Native.Nat.{◌+◌, ◌-◌, ◌≤◌}
+use native.Mathlib.Omega.{arith}
+use lib.IntN.{pos}
+use lib.ListN.{length, length-set, get_or-replicate}
+use Rattle.groundwork.proofs.Stretches.{Stored, stored_none, stored_front, stored_more}
+use Rattle.residuals.proofs.Rows.{cells_from, cell_read, form_read}
+use Rattle.residuals.proofs.form_at.Given as goal
+
+abbrev pub invariant-loop-i : goal.invariant-loop-i
+invariant-loop-i l = (l.i ≤ l.width) × (length l.coefficients ≡ 16) × Stored (pos 0) (cells_from l.rows (l.base + 1)) 0 l.initial.coefficients l.coefficients l.i
+
+abbrev pub decreases-loop-i : goal.decreases-loop-i
+decreases-loop-i l = l.width - l.i

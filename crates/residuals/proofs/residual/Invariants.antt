@@ -1,0 +1,12 @@
+use mathlib.Core.Path.{◌≡◌}
+use Prim.Native.Nat.{◌+◌, ◌-◌, ◌≤◌}
+use native.Mathlib.Omega.{arith}
+use Rattle.residuals.specs.Sums.{width, Partial}
+use Rattle.residuals.proofs.Sums.{no_atoms_lem}
+use Rattle.residuals.proofs.residual.Given as goal
+
+abbrev pub invariant-loop-atom : goal.invariant-loop-atom
+invariant-loop-atom l = (l.atom ≤ l.subgoals + 1) × Partial l.weights l.rows (width l.variables) l.atom l.form
+
+abbrev pub decreases-loop-atom : goal.decreases-loop-atom
+decreases-loop-atom l = l.subgoals + 1 - l.atom
