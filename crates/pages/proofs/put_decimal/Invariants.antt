@@ -1,0 +1,10 @@
+use native.Mathlib.Omega.{arith}
+use Rattle.theory.proofs.Reading.Digits.{digits_some}
+use Rattle.pages.proofs.Writing.{Writing, writing_begin, writing_below, writing_more, writing_end}
+use Rattle.pages.proofs.put_decimal.Given as goal
+
+abbrev pub invariant-loop-left : goal.invariant-loop-left
+invariant-loop-left l = Writing l.n l.initial.page l.page l.many l.left l.at
+
+abbrev pub decreases-loop-left : goal.decreases-loop-left
+decreases-loop-left l = l.left
