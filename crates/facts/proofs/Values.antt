@@ -11,11 +11,11 @@ use lib.IntN.{ℤ, pos, nat_abs, ◌+ℤ◌, ◌*ℤ◌}
 use lib.ListN.{get_or}
 use lib.Signed.{lt_z, non_neg}
 use mir.Facts.{to_z-of_z}
-use mir.Syntax.{w64}
+use mir.Syntax.{w16, w64}
 use mir.Val.{SFits}
 use Rattle.groundwork.proofs.Magnitude.{nat_abs_add, nat_abs_mul}
 use Rattle.groundwork.proofs.Truth.{by_truth, never_both, and_left, and_right, and_both}
-use Rattle.widths.proofs.Kept.{small_fits, small_kept}
+use Rattle.widths.proofs.Kept.{kept_at, small_fits, small_kept}
 use Rattle.forms.proofs.Signs.{negative, not_negative}
 use Rattle.forms.proofs.Results.{kept, Exact, exact_product}
 use Rattle.tables.specs.Tables.{claim_place, row_place, SafeClaims, SafeRows}
@@ -45,6 +45,12 @@ module _ (claims : List ℤ) (rows : List ℕ) (safe : SafeClaims claims) (small
 pub value_none : (claims : List ℤ) (place : ℕ) (rows : List ℕ) {sum : ℤ} → sum ≡ get_or claims place (pos 0) → sum ≡ value_to claims place rows 0
 unfolding value_to
 value_none claims place rows is = is
+
+-- a claim's number, as the code reads it at 16 bits and keeps it at 64
+pub number_kept : {number n : ℤ} → nat_abs number ≤ 9999 → n ≡ kept_at w16 number → kept n ≡ number
+number_kept {number} small is =
+    let whole = is ∙ small_kept w16 number (omega (arith, small)) in
+    ap kept whole ∙ small_kept w64 number (omega (arith, small))
 
 -- ---- one argument more, in 64 bits
 

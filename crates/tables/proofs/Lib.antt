@@ -9,3 +9,4 @@ pub mod Shipping
 pub mod Outlines
 pub mod SlotCounts
 pub mod Manners
+pub mod LetterTags

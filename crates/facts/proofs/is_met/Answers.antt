@@ -13,13 +13,13 @@ loop-j-init c = (search rules, met_none _ _ _ _)
 
 pub returns-then-is_negative : goal.returns-then-is_negative
 returns-then-is_negative c =
-    turn_unmet c.requires.3 c.requires.4 c.args.predicate c.args.arity c.loop-j.j c.requires.2 c.claim_place.ensures c.before.before.value_of_lem.ensures _ c.is_negative.ensures c.args.count (omega arith) c.if-is_negative.true
+    turn_unmet c.requires.3 c.requires.4 c.args.predicate c.args.arity c.loop-j.j c.requires.2 c.claim_place.ensures c.before.before.value_of-value.ensures _ c.is_negative.ensures c.args.count (omega arith) c.if-is_negative.true
 
 pub loop-j-preserved : goal.loop-j-preserved
 loop-j-preserved c =
     let turn = c.loop-j in (
       search rules,
-      turn_met c.requires.3 c.requires.4 c.args.predicate c.args.arity turn.j c.requires.2 c.claim_place.ensures c.before.before.value_of_lem.ensures _ c.is_negative.ensures c.if-is_negative.false turn.invariant.1,
+      turn_met c.requires.3 c.requires.4 c.args.predicate c.args.arity turn.j c.requires.2 c.claim_place.ensures c.before.before.value_of-value.ensures _ c.is_negative.ensures c.if-is_negative.false turn.invariant.1,
     )
 
 pub returns : goal.returns

@@ -12,7 +12,7 @@ use Rattle.facts.proofs.Values.{value_none, value_room, value_more}
 use Rattle.facts.proofs.value_of.Given as goal
 
 abbrev pub invariant-loop-k : goal.invariant-loop-k
-invariant-loop-k l = (l.k ≤ l.arity) × (to_z w64 l.sum ≡ value_to l.claims l.place l.rows l.k)
+invariant-loop-k l = (l.k ≤ l.arity) × (l.sum ≡ value_to l.claims l.place l.rows l.k)
 
 abbrev pub decreases-loop-k : goal.decreases-loop-k
 decreases-loop-k l = l.arity - l.k
