@@ -47,6 +47,10 @@ pub record Turn (manner : Manner) (text : Bytes) (start : State) (t₀ : Tables)
   pub finds : Finds text 10 at end
   pub opens : Opens (part text at end) t.names t.signatures s r
 
+pub turn_of : {manner : Manner} {text : Bytes} {start : State} {t₀ : Tables} {s : State} {t : Tables} {weights : List ℤ} {number at end : ℕ} {r : Opening} → manner.allows ≡ may_stand → LinesRead manner text start t₀ s t weights number at → at < length text
+    → Finds text 10 at end → Opens (part text at end) t.names t.signatures s r → Turn manner text start t₀ s t weights number at end r
+turn_of allows read inside finds opens = record { allows = allows; read = read; inside = inside; finds = finds; opens = opens }
+
 pub turn_begins : {manner : Manner} {text : Bytes} {start : State} {t₀ : Tables} {s : State} {t : Tables} {weights : List ℤ} {number at : ℕ} → LinesRead manner text start t₀ s t weights number at
     → {line : Bytes} {o : Opened} {many : ℕ} → many ≡ variables_before (sort_of o.letter) s → FieldsRead o.letter line t s o many o.from 0 (emptied t weights)
 turn_begins {s = s} {t} {weights} read {line} {o} is = subst⁻¹ (λ (n : ℕ). FieldsRead o.letter line t s o n o.from 0 (emptied t weights)) is (fields_begin o.letter read.safe read.clear)

@@ -1,0 +1,11 @@
+-- `lines::zeros_ahead` meets its contract. Assumes nothing.
+use borrow.Author.Rules.{rules}
+use Rattle.lines.specs.Steps.{none}
+use Rattle.lines.proofs.ZeroFields.{zeros_skipped}
+use Rattle.lines.proofs.zeros_ahead.Goals as goal
+
+pub returns-in-M : goal.returns-in-M
+returns-in-M c = search (rules, zeros_skipped)
+
+pub returns-in-P : goal.returns-in-P
+returns-in-P c = none
