@@ -97,7 +97,5 @@ fn main(rt: HostRuntime) -> io::Result<()> {
     let mut input = input_room();
     let n = streams::read_full(&mut rt.reader(), &mut input)?;
     let r = reply(&input[..n]);
-    let page = r.page;
-    let length = r.length;
-    io::writer(&rt).write_all(&page[..length])
+    io::writer(&rt).write_all(&r.page[..r.length])
 }
