@@ -24,3 +24,22 @@ pub fn read_full<R: Read>(reader: &mut R, room: &mut [u8]) -> io::Result<usize>
     }
     Ok(done)
 }
+
+#[cfg(test)]
+mod tests {
+    use super::*;
+    use std::test::Fail;
+
+    #[test]
+    fn reads_to_the_end_or_until_full(rt: HostRuntime) -> Result<(), Fail> {
+        let mut room = [7u8; 4];
+        let mut short: &[u8] = b"abc";
+        assert!(rt; read_full(&mut short, &mut room)? == 3);
+        assert!(rt; room == [97, 98, 99, 7]);
+        let mut long: &[u8] = b"defghi";
+        assert!(rt; read_full(&mut long, &mut room)? == 4);
+        assert!(rt; room == [100, 101, 102, 103]);
+        assert!(rt; long == b"hi".as_slice());
+        Ok(())
+    }
+}
