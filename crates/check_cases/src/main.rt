@@ -1,24 +1,23 @@
 // Checks the packs on standard input and prints for each the four numbers, a colon, and the area as the call leaves it.
 // A case is a line `length,area`, then so many bytes of text, then a byte 10; the area has so many numbers, each 7 at
 // entry. Where the cases and the expected output come from is said in the file origin.md.
-ghost use Rattle.std.specs.Prelude.{◌≡◌, ◌≤◌, ◌<◌, nat_abs, length};
+#![tactic(auto)]
+
+ghost use Rattle.std.specs.Prelude.{◌≡◌, ◌≤◌, ◌<◌, nat_abs, length, IfOk};
 
 use answers::Four;
-use libc::STDOUT_FILENO;
 use numbers::Natural;
+use std::io;
 
-fn show(n: u64) {
-    io::print_decimal(STDOUT_FILENO, n);
+fn show(rt: &impl Print, n: u64) -> io::Result<()> {
+    print!(rt; "{n}")
 }
 
-fn show_four(four: Four) {
-    show(four.number as u64);
-    io::write_all(STDOUT_FILENO, b",");
-    show(four.line as u64);
-    io::write_all(STDOUT_FILENO, b",");
-    show(four.rule as u64);
-    io::write_all(STDOUT_FILENO, b",");
-    show(four.claim as u64);
+fn show_four(rt: &impl Print, four: Four) -> io::Result<()> {
+    print!(rt;
+        "{},{},{},{}",
+        four.number, four.line, four.rule, four.claim
+    )
 }
 
 // How far a number lies from 0. The difference fits at every number, where a negation does not at the least one.
@@ -28,38 +27,38 @@ fn size(z: i64) -> u64
     if z < 0 { (-1 - z) as u64 + 1 } else { z as u64 }
 }
 
-fn show_signed(z: i64) {
+fn show_signed(rt: &impl Print, z: i64) -> io::Result<()> {
     if z < 0 {
-        io::write_all(STDOUT_FILENO, b"-");
+        print!(rt; "-")?;
     }
-    show(size(z));
+    show(rt, size(z))
 }
 
-fn show_area(area: &[i64]) {
-    io::write_all(STDOUT_FILENO, b":");
+fn show_area(rt: &impl Print, area: &[i64]) -> io::Result<()> {
+    print!(rt; ":")?;
     let mut i: usize = 0;
     while i < area.len() {
         if 0 < i {
-            io::write_all(STDOUT_FILENO, b",");
+            print!(rt; ",")?;
         }
-        show_signed(area[i]);
+        show_signed(rt, area[i])?;
         i += 1;
     }
-    io::write_all(STDOUT_FILENO, b"\n");
+    println!(rt)
 }
 
 // Checks a text with the area that is lent, and shows the answer and the area.
-fn check_into(text: &[u8], area: &mut [i64]) {
-    show_four(answers::numbers_of(packs::check(text, area)));
-    show_area(area);
+fn check_into(rt: &impl Print, text: &[u8], area: &mut [i64]) -> io::Result<()> {
+    show_four(rt, answers::numbers_of(packs::check(text, area)))?;
+    show_area(rt, area)
 }
 
 // Checks a text with an area of so many sevens.
-fn check_one(text: &[u8], room: usize)
+fn check_one(rt: &impl Print, text: &[u8], room: usize) -> io::Result<()>
     requires { room ≤ 19 }
 {
     let mut area = [7i64; 19];
-    check_into(text, &mut area[..room]);
+    check_into(rt, text, &mut area[..room])
 }
 
 // A number of a header, or one that no case has.
@@ -72,38 +71,39 @@ fn number(field: &[u8]) -> usize {
 }
 
 // Runs the case at a place and gives the place after it, or the end where there is none.
-fn run_case(input: &[u8], at: usize) -> usize
+fn run_case(rt: &impl Print, input: &[u8], at: usize) -> io::Result<usize>
     requires { at < length input.now }
-    ensures { at < result }
+    ensures { IfOk result (λ next. at < next) }
 {
     let end = text::find(input, b'\n', at);
     let comma = text::find(input, b',', at);
     if end <= comma {
-        return input.len();
+        return Ok(input.len());
     }
     let length = number(&input[at..comma]);
     let room = number(&input[comma + 1..end]);
     if input.len() - end < 2 {
-        return input.len();
+        return Ok(input.len());
     }
     let from = end + 1;
     if input.len() - from < length {
-        return input.len();
+        return Ok(input.len());
     }
     if 19 < room {
-        return input.len();
+        return Ok(input.len());
     }
     let to = from + length;
-    check_one(&input[from..to], room);
-    to + 1
+    check_one(rt, &input[from..to], room)?;
+    Ok(to + 1)
 }
 
-fn run_cases(input: &[u8]) {
+fn run_cases(rt: &impl Print, input: &[u8]) -> io::Result<()> {
     let n = input.len();
     let mut at: usize = 0;
     while at < n {
-        at = run_case(input, at);
+        at = run_case(rt, input, at)?;
     }
+    Ok(())
 }
 
 // Room for all of the input. It has its own function, as the proof of `main` would otherwise go through every element.
@@ -111,8 +111,8 @@ fn input_room() -> [u8; 1048576] {
     [0u8; 1048576]
 }
 
-fn main() {
+fn main(rt: HostRuntime) -> io::Result<()> {
     let mut input = input_room();
-    let n = io::read_full(0, &mut input);
-    run_cases(&input[..n]);
+    let n = streams::read_full(&mut rt.reader(), &mut input)?;
+    run_cases(&rt, &input[..n])
 }

@@ -6,7 +6,8 @@ ghost use Rattle.theory.specs.Program.{reply};
 ghost use Rattle.reservation.specs.Answering.{Ready, PackHeld};
 ghost use Rattle.packcheck.specs.Printing.{PutsQueries};
 
-use libc::{STDIN_FILENO, STDOUT_FILENO};
+use std::io;
+use std::io::Write;
 use tables::{Claims, Names, Signatures};
 use theory::{Refusal, Verdict};
 
@@ -92,11 +93,9 @@ pub fn reply(input: &[u8]) -> Printed
     Printed { page, length }
 }
 
-fn main() {
+fn main(rt: HostRuntime) -> io::Result<()> {
     let mut input = input_room();
-    let n = io::read_full(STDIN_FILENO, &mut input);
+    let n = streams::read_full(&mut rt.reader(), &mut input)?;
     let r = reply(&input[..n]);
-    let page = r.page;
-    let length = r.length;
-    io::write_all(STDOUT_FILENO, &page[..length]);
+    io::writer(&rt).write_all(&r.page[..r.length])
 }

@@ -1,4 +1,6 @@
 // The parts of the program's reply: where the pack ends in the input, and the lines that are printed.
+#![tactic(auto)]
+
 ghost use Rattle.std.specs.Prelude.{[], ◌∷◌, ◌≤◌, length};
 ghost use Rattle.theory.specs.Packs.{text_of};
 ghost use Rattle.theory.specs.Check.{numbers};

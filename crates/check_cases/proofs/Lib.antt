@@ -1,2 +1,0 @@
--- What the proof of `size` cites.
-pub mod Sizes
