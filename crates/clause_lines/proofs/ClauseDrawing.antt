@@ -10,7 +10,6 @@ use lib.ListN.{length}
 use Rattle.groundwork.proofs.Truth.{never_both, not-true, not-false}
 use Rattle.theory.specs.Text.{Bytes, bytes, same}
 use Rattle.theory.specs.Packs.{text_of}
-use Rattle.theory.specs.Residuals.{numbered}
 use Rattle.clause_theory.specs.ClauseTokens.{variable}
 use Rattle.clause_theory.specs.ClauseTokens as T
 use Rattle.clause_theory.specs.Clauses.{Clause, clause_marks, due, State, state, begin, goes, ends, step}

@@ -1,4 +1,6 @@
 // The lines of a clause, written on a page token by token.
+#![tactic(auto)]
+
 ghost use Rattle.std.specs.Prelude.{◌≡◌, false, ◌+◌, ◌≤◌, ◌<◌, length};
 ghost use Rattle.words.specs.Classes.{Classes};
 ghost use Rattle.clause_variables.specs.FreshNumbers.{Tabled};

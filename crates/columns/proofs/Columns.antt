@@ -5,7 +5,7 @@ use Prim.Native.Nat.{ℕ, zero, suc, ◌+◌, ◌-◌, ◌≤◌, ◌<◌}
 use native.Mathlib.Omega.{arith}
 use borrow.Rule.Slice.PartMut.{mid_of, put_mid}
 use lib.ListN.{length, set, take, drop}
-use lib.Seq.{length-take-le, take_all}
+use lib.Seq.{length-take-le}
 use Rattle.theory.specs.Text.{Bytes, decimal}
 use Rattle.theory.specs.Sheet.{spaces, right_aligned, left_aligned}
 use Rattle.theory.proofs.Reading.Alignment.{spaces_length}
@@ -42,12 +42,12 @@ number_put page width n start whole room filled number =
     rw (before, append_assoc (spaces start) (decimal n) (32 ∷ [])) (puts_more (spaces_front page start (omega arith) filled) (decimal n ++ (32 ∷ [])) number)
 
 -- a name, and after it spaces up to one after the column
-pub name_put : (page name : Bytes) (width : ℕ) {end : ℕ} {copied part : Bytes} → length name ≤ width → width < length page → end ≡ length name → copied ≡ take (length name) name ++ drop (length name) page
-    → part ≡ spaces (length (mid_of end (width + 1 - end) copied))
-    → Puts (left_aligned width name ++ (32 ∷ [])) page (put_mid end (width + 1 - end) copied part) (width + 1)
+pub name_put : (page name : Bytes) (width : ℕ) {lent part : Bytes} → length name ≤ width → width < length page → lent ≡ name
+    → part ≡ spaces (length (mid_of (length name) (width + 1 - length name) (lent ++ drop (length name) page)))
+    → Puts (left_aligned width name ++ (32 ∷ [])) page (put_mid (length name) (width + 1 - length name) (lent ++ drop (length name) page) part) (width + 1)
 unfolding left_aligned
-name_put page name width {end} {copied} fits room all copy filled =
-    let front : Puts name page copied end = record { many = all; is = copy ∙ rw (all, take_all (length name) name (omega arith)) } in
-    let past : width + 1 - end ≡ width - length name + 1 = omega arith in
+name_put page name width {lent} fits room copied filled =
+    let front : Puts name page (lent ++ drop (length name) page) (length name) = record { many = refl; is = ap (λ (bs : Bytes). bs ++ drop (length name) page) copied } in
+    let past : width + 1 - length name ≡ width - length name + 1 = omega arith in
     rw (append_assoc name (spaces (width - length name)) (32 ∷ []), ← spaces_end (width - length name), ← past)
-    (puts_fill front spaces (width + 1) (omega arith) (omega arith) (spaces_length (width + 1 - end)) filled)
+    (puts_fill front spaces (width + 1) (omega arith) (omega arith) (spaces_length (width + 1 - length name)) filled)

@@ -1,4 +1,6 @@
 // The columns of the sheet, and a line of it. Each writer is lent the rest of the page, and gives how many bytes it wrote.
+#![tactic(auto)]
+
 ghost use Rattle.std.specs.Prelude.{[], ◌∷◌, ◌++◌, ◌≤◌, ◌<◌, length};
 ghost use Rattle.theory.specs.Text.{decimal};
 ghost use Rattle.theory.specs.Sheet.{spaces, right_aligned, left_aligned, entry, sheet_line};

@@ -4,11 +4,11 @@ use mathlib.Core.List.{[], ◌∷◌, ◌++◌, append_assoc}
 use Prim.Native.Nat.{ℕ, ◌+◌, ◌-◌, ◌≤◌}
 use native.Mathlib.Omega.{arith}
 use borrow.Rule.Slice.PartMut.{mid_of, put_mid}
-use lib.ListN.{length, set, take, drop, length-append}
-use lib.Seq.{take_all, length-take-le}
+use lib.ListN.{length, set, take, length-append}
+use lib.Seq.{length-take-le}
 use Rattle.theory.specs.Text.{Bytes, decimal}
 use Rattle.pages.specs.Pages.{Puts, PutAt}
-use Rattle.pages.proofs.Puts.{puts_same, puts_size, puts_byte, puts_more, puts_part}
+use Rattle.pages.proofs.Puts.{puts_same, puts_size, puts_byte, puts_more, puts_part, puts_fill}
 
 -- how far a writer comes, and that the page is as long as it was
 put_at : {more page₀ page : Bytes} {to r : ℕ} (count : ℕ) → to + count ≤ length page₀ → length more ≡ count → Puts (take to page₀ ++ more) page₀ page r → PutAt more count page₀ page to r
@@ -16,10 +16,11 @@ put_at {more} {page₀} {page} {to} {r} count room size puts =
     let far : r ≡ to + count = omega (arith, puts.many, length-append (take to page₀) more, length-take-le to page₀ (omega arith)) in
     record { puts = puts; after = far; size = puts_size puts (omega arith) }
 
-pub copied_part : (source page : Bytes) (at : ℕ) {lent : Bytes} {n : ℕ} (count : ℕ) → at + count ≤ length page → length source ≡ count → n ≡ length source → lent ≡ take (length source) source ++ drop (length source) (mid_of at (length page - at) page)
-    → PutAt source count page (put_mid at (length page - at) page lent) at (at + n)
-copied_part source page at {lent} {n} count room size all copy =
-    put_at count room size (puts_part (omega arith) (record { many = all; is = copy ∙ rw (all, take_all (length source) source (omega arith)) refl }))
+-- a text that is copied over a part of the page as long as it
+pub copied_part : (source page : Bytes) (at : ℕ) {lent : Bytes} (count : ℕ) → at + count ≤ length page → length source ≡ count → lent ≡ source
+    → PutAt source count page (put_mid at (at + count - at) page lent) at (at + count)
+copied_part source page at count room size all =
+    put_at count room size (puts_fill (puts_same page at (omega arith)) (λ _. source) (at + count) (omega arith) room (omega arith) all)
 
 pub byte_put : (page : Bytes) (to b : ℕ) → to + 1 ≤ length page → PutAt (b ∷ []) 1 page (set page to b) to (to + 1)
 byte_put page to b room = put_at 1 room refl (puts_byte (puts_same page to (omega arith)) b (omega arith))

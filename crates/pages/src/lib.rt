@@ -1,5 +1,7 @@
 // Writing into a lent page, at a place: what lies around the bytes that a writer writes stays, and it gives the place after
 // them. Spaces fill all that is lent.
+#![tactic(auto)]
+
 ghost use Rattle.std.specs.Prelude.{◌≡◌, [], ◌∷◌, ◌++◌, ◌+◌, ◌-◌, ◌≤◌, ◌<◌, length};
 ghost use Rattle.theory.specs.Text.{decimal};
 ghost use Rattle.theory.specs.Sheet.{spaces};

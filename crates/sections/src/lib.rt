@@ -1,4 +1,6 @@
 // The lines of an accepted text, found again by their first bytes: a walk that judges nothing.
+#![tactic(auto)]
+
 ghost use Rattle.std.specs.Prelude.{◌<◌};
 ghost use Rattle.sections.specs.Sections.{LinesOfLetter, RulesBegin, StandsSomeRule, RuleFound};
 

@@ -22,8 +22,8 @@ use Rattle.clause_tokens.specs.declared.Mark.{Mark}
 use Rattle.clause_tokens.specs.declared.Mark.TheVariants.{Name, Variable, Lone}
 use Rattle.clause_variables.proofs.FreshSearch.{numbered_variable_lem}
 use Rattle.term_lines.specs.declared.Drawn.{Drawn}
-use Rattle.term_lines.specs.Texts.{line_front, line_text, drawn_text, Moves, names_atom, names_symbol, reads_variable, atoms_of, OpenedFit, LastFits, current, StateFits}
-use Rattle.term_lines.specs.Drawings.{DigitsStand, ArgumentsBegun, Drawing, DrawnNext, drawn_on, passes, Shows, shows_name, shows_variable, shows_lone, Drawable, Draws, RoomTold, LetterIs}
+use Rattle.term_lines.specs.Texts.{line_front, line_text, drawn_text, Moves, names_atom, names_symbol, reads_variable, ends_line, atoms_of, OpenedFit, LastFits, current, StateFits}
+use Rattle.term_lines.specs.Drawings.{DigitsStand, ArgumentsBegun, Drawing, DrawnNext, drawn_on, passes, Shows, shows_name, shows_variable, shows_lone, shows_sign, Drawable, Draws, RoomTold, LetterIs}
 use Rattle.term_lines.proofs.DrawnTexts.{drawn_atom_name, drawn_symbol, drawn_variable}
 use Rattle.term_lines.proofs.DrawnLimits.{drawn_length, no_line, line_atom_name, atom_named, symbol_named, bare_atom_fits, bare_symbol_fits}
 
@@ -108,17 +108,23 @@ long_name : (x : Bytes) {s next : State} {m : T.Mark} → Shows x 0 Name m → M
 unfolding atom_of
 long_name x (shows_name told) names_atom long fits = too_long is_name x told long (atom_named x nil fits.last_fits)
 long_name x (shows_name told) names_symbol long fits = too_long is_name x told long (symbol_named x nil fits.last_fits)
+long_name x (shows_name told) (ends_line e) long fits = elim e [ ]
+long_name x (shows_sign s) _ long fits = elim s [ ]
 
 -- where nothing is open, a name begins a line
 by_atom : (P : State → State → Type 0) (x : Bytes) {s next : State} {m : T.Mark} → Shows x 0 Name m → Moves s m next → length s.opened ≡ 0
     → ((before : Option Clause) → is_name x ≡ leb (length x) 16 → P (state before [] due) (state before [] (read (symbol x nil)))) → P s next
 by_atom P x (shows_name told) (names_atom {before = before}) zero p = p before told
 by_atom P x (shows_name told) names_symbol zero p = absurd (omega arith)
+by_atom P x (shows_name told) (ends_line e) zero p = elim e [ ]
+by_atom P x (shows_sign s) _ zero p = elim s [ ]
 
 by_symbol : (P : State → State → Type 0) (x : Bytes) {s next : State} {m : T.Mark} → Shows x 0 Name m → Moves s m next → (length s.opened ≡ 0 → ⊥)
     → ((before : Option Clause) (o : Open) (opened : List Open) → is_name x ≡ leb (length x) 16 → P (state before (o ∷ opened) due) (state before (o ∷ opened) (read (symbol x nil)))) → P s next
 by_symbol P x (shows_name told) names_atom inside p = absurd (inside refl)
 by_symbol P x (shows_name told) (names_symbol {before = before} {o = o} {opened = opened}) inside p = p before o opened told
+by_symbol P x (shows_name told) (ends_line e) inside p = elim e [ ]
+by_symbol P x (shows_sign s) _ inside p = elim s [ ]
 
 part_size : (text : Bytes) (start end : ℕ) → end ≤ length text → length (part text start end) ≡ end - start
 part_size text start end within = part_length text start (end - start) end refl within
@@ -259,10 +265,14 @@ numbered_length number many size = omega (arith, size)
 by_variable : (P : State → State → Type 0) (x : Bytes) {s next : State} {m : T.Mark} → Shows x 0 Variable m → Moves s m next
     → ((before : Option Clause) (o : Open) (opened : List Open) → is_variable x ≡ leb (length x) 16 → P (state before (o ∷ opened) due) (state before (o ∷ opened) (read (Terms.variable x)))) → P s next
 by_variable P x (shows_variable told) (reads_variable {before = before} {o = o} {opened = opened}) p = p before o opened told
+by_variable P x (shows_variable told) (ends_line e) p = elim e [ ]
+by_variable P x (shows_sign s) _ p = elim s [ ]
 
 by_lone : (P : State → State → Type 0) (x : Bytes) (number : ℕ) {s next : State} {m : T.Mark} → Shows x number Lone m → Moves s m next
     → ((before : Option Clause) (o : Open) (opened : List Open) → number < 100 → P (state before (o ∷ opened) due) (state before (o ∷ opened) (read (Terms.variable (numbered_variable number))))) → P s next
 by_lone P x number (shows_lone small) (reads_variable {before = before} {o = o} {opened = opened}) p = p before o opened small
+by_lone P x number (shows_lone small) (ends_line e) p = elim e [ ]
+by_lone P x number (shows_sign s) _ p = elim s [ ]
 
 variable_fits : (x : Bytes) → is_variable x ≡ true → term_fits (Terms.variable x) ≡ true
 unfolding term_fits

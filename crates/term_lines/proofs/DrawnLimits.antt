@@ -17,7 +17,7 @@ use Rattle.theory.specs.Terms.{Term, Terms, symbol, nil, cons, arity, symbol_tok
 use Rattle.theory.specs.Terms as Terms
 use Rattle.theory.specs.Packs.{Atom, text_of, variable_limit}
 use Rattle.theory.specs.Residuals.{rule_variables}
-use Rattle.clause_theory.specs.ClauseTokens.{Mark, name, variable}
+use Rattle.clause_theory.specs.ClauseTokens.{Mark}
 use Rattle.clause_theory.specs.Clauses.{Clause, Open, ending_term, Last, due, read, State, state, atom_of, added}
 use Rattle.clause_theory.specs.Import.{clause_lines, term_fits, terms_fit, atom_fits, line_fits, clause_fits}
 use Rattle.theory.proofs.Reading.Decimals.{decimal_one}

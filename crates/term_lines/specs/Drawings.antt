@@ -6,7 +6,7 @@ use Rattle.theory.specs.Text.{Bytes, is_name, is_variable}
 use Rattle.theory.specs.Terms.{arity}
 use Rattle.clause_theory.specs.Clauses.{Clause, Open, State, state, due}
 use Rattle.clause_theory.specs.ClauseTokens as T
-use Rattle.clause_theory.specs.Import.{numbered_variable, filled}
+use Rattle.clause_theory.specs.Import.{numbered_variable}
 use Rattle.text.specs.Scans.{part}
 use Rattle.pages.specs.Pages.{Puts}
 use Rattle.clause_tokens.specs.NextTokens.{Sign}

@@ -1,4 +1,6 @@
 // Names and variables in the lines of a clause, which are written on a page as its tokens are read.
+#![tactic(auto)]
+
 ghost use Rattle.std.specs.Prelude.{◌≡◌, true, false, [], ◌∷◌, ◌++◌, ◌+◌, ◌-◌, ◌≤◌, length};
 ghost use Rattle.theory.specs.Text.{decimal};
 ghost use Rattle.clause_theory.specs.Import.{numbered_variable};

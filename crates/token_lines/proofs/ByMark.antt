@@ -44,9 +44,10 @@ pub data Plain : Mark → Type 0 where
   plain_neck : Plain Neck
   plain_stop : Plain Stop
 
-pub renumber : {x : Bytes} {k : Mark} {m : T.Mark} (i j : ℕ) → Plain k → Shows x i k m → Shows x j k m
+pub renumber : {x : Bytes} {k : Mark} (i j : ℕ) {m : T.Mark} → Plain k → Shows x i k m → Shows x j k m
 renumber i j plain (shows_name told) = shows_name told
 renumber i j plain (shows_variable told) = shows_variable told
+renumber i j plain (shows_lone small) = elim plain [ ]
 renumber i j plain (shows_sign sign) = shows_sign sign
 
 module _ {text : Bytes} {mark : Mark} {start end number : ℕ} {d : Drawn} {page : Bytes} {digits : List ℕ} where

@@ -16,7 +16,6 @@ use Rattle.theory.proofs.Reading.Decimals.{decimal_one}
 use Rattle.pages.specs.Pages.{Puts}
 use Rattle.pages.proofs.Puts.{puts_more, puts_change}
 use Rattle.clause_tokens.specs.NextTokens.{sign_comma}
-use Rattle.clause_tokens.specs.declared.Mark.{Mark}
 use Rattle.clause_tokens.specs.declared.Mark.TheVariants.{Comma}
 use Rattle.term_lines.specs.declared.Drawn.{Drawn}
 use Rattle.term_lines.specs.Texts.{after_each, drawn_text, Moves, ends_line, next_argument, next_term, current, StateFits}

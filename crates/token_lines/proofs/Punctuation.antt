@@ -32,6 +32,7 @@ by_opens_atom : (P : State → State → Type 0) {x : Bytes} {s next : State} {m
     → ((before : Option Clause) (f : Bytes) → P (state before [] (read (symbol f nil))) (state before (record { name = f; before = nil } ∷ []) due)) → P s next
 by_opens_atom P (shows_sign sign_opens) (opens_atom {before = before} {f = f}) zero p = p before f
 by_opens_atom P (shows_sign sign_opens) opens_symbol zero p = absurd (omega arith)
+by_opens_atom P (shows_sign sign_opens) (ends_line e) zero p = elim e [ ]
 
 -- a compound that has just opened
 bare_opens : (limit : ℕ) (f : Bytes) → 1 ≤ limit → is_name f ≡ true → OpenFits limit (record { name = f; before = nil })
@@ -92,6 +93,7 @@ module _ {text : Bytes} {start end : ℕ} {d : Drawn} {page : Bytes} {digits : L
 by_closes : (P : State → State → Type 0) {x : Bytes} {s next : State} {m : T.Mark} → Shows x 0 Closes m → Moves s m next
     → ((before : Option Clause) (o : Open) (opened : List Open) (t : Term) → P (state before (o ∷ opened) (read t)) (state before opened (read (symbol o.name (ending_term t o.before))))) → P s next
 by_closes P (shows_sign sign_closes) (closes_one {before = before} {o = o} {opened = opened} {t = t}) p = p before o opened t
+by_closes P (shows_sign sign_closes) (ends_line e) p = elim e [ ]
 
 -- one compound fewer is open
 begun_before : (o : Open) (opened : List Open) (n : ℕ) → ArgumentsBegun (o ∷ opened) n → ArgumentsBegun opened n
@@ -187,6 +189,7 @@ by_opens_symbol : (P : State → State → Type 0) {x : Bytes} {s next : State} 
     → ((before : Option Clause) (o : Open) (opened : List Open) (f : Bytes) → P (state before (o ∷ opened) (read (symbol f nil))) (state before (record { name = f; before = nil } ∷ o ∷ opened) due)) → P s next
 by_opens_symbol P (shows_sign sign_opens) opens_atom inside p = absurd (inside refl)
 by_opens_symbol P (shows_sign sign_opens) (opens_symbol {before = before} {o = o} {opened = opened} {f = f}) inside p = p before o opened f
+by_opens_symbol P (shows_sign sign_opens) (ends_line e) inside p = elim e [ ]
 
 -- places kept for the compounds further out stay
 stand_kept : (before : Option Clause) (opened : List Open) (digits : List ℕ) (k v : ℕ) → length opened ≤ k → DigitsStand before opened digits → DigitsStand before opened (set digits k v)

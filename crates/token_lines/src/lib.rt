@@ -1,4 +1,6 @@
 // What each token makes of the lines of a clause.
+#![tactic(auto)]
+
 ghost use Rattle.std.specs.Prelude.{◌≡◌, ◌+◌, ◌-◌, ◌≤◌, ◌<◌, length, get_or};
 ghost use Rattle.clause_tokens.specs.declared.Mark.TheVariants.{Opens, Closes, Comma};
 ghost use Rattle.term_lines.specs.Drawings.{Drawable, Draws};

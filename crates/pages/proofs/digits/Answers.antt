@@ -1,9 +1,5 @@
 -- `pages::digits` meets its contract. Assumes nothing.
-use mathlib.Core.Path.{◌≡◌}
-use Prim.Native.Nat.{◌+◌, ◌≤◌}
 use native.Mathlib.Omega.{arith}
-use lib.ListN.{length}
-use Rattle.theory.specs.Text.{decimal}
 use Rattle.theory.proofs.Reading.Digits.{digits_one, digits_more, digits_few}
 use Rattle.pages.proofs.digits.Goals as goal
 

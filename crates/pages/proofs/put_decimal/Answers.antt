@@ -2,7 +2,7 @@
 use native.Mathlib.Omega.{arith}
 use borrow.Author.Rules.{rules}
 use Rattle.theory.proofs.Reading.Digits.{digits_some}
-use Rattle.pages.proofs.Writing.{Writing, writing_begin, writing_below, writing_more, writing_end}
+use Rattle.pages.proofs.Writing.{writing_begin, writing_below, writing_more, writing_end}
 use Rattle.pages.proofs.put_decimal.Goals as goal
 
 pub overflow_sub-at : goal.overflow_sub-at

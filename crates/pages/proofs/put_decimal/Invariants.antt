@@ -1,6 +1,4 @@
-use native.Mathlib.Omega.{arith}
-use Rattle.theory.proofs.Reading.Digits.{digits_some}
-use Rattle.pages.proofs.Writing.{Writing, writing_begin, writing_below, writing_more, writing_end}
+use Rattle.pages.proofs.Writing.{Writing}
 use Rattle.pages.proofs.put_decimal.Given as goal
 
 abbrev pub invariant-loop-left : goal.invariant-loop-left

@@ -1,10 +1,7 @@
-use mathlib.Core.Path.{◌≡◌, ◌∙◌, ap}
-use mathlib.Core.List.{◌++◌, append-nil}
+use mathlib.Core.Path.{◌≡◌}
+use mathlib.Core.List.{◌++◌}
 use Prim.Native.Nat.{◌-◌, ◌≤◌}
-use native.Mathlib.Omega.{arith}
-use lib.ListN.{length, set, drop, length-set}
-use lib.Seq.{drop-length}
-use Rattle.theory.specs.Text.{Bytes}
+use lib.ListN.{length, drop}
 use Rattle.theory.specs.Sheet.{spaces}
 use Rattle.pages.proofs.put_spaces.Given as goal
 

@@ -1,0 +1,34 @@
+-- `clause_lines::put_clause` meets its contract. Assumes nothing.
+use Rattle.clause_lines.proofs.ClauseDrawing.{progress_none, progress_all, progress_tabled, progress_low, progress_drawable, progress_ordered, progress_inside, progress_less, progress_size, progress_over, progress_whole, progress_more}
+use borrow.Author.Rules.{rules}
+use Rattle.clause_lines.proofs.put_clause.Goals as goal
+
+pub loop-at-init : goal.loop-at-init
+loop-at-init c = search (rules, progress_none)
+
+pub number_after-number-requires : goal.number_after-number-requires
+number_after-number-requires c = search (rules, progress_tabled, progress_low)
+
+pub put_token-drawn-requires : goal.put_token-drawn-requires
+put_token-drawn-requires c = search (rules, progress_ordered, progress_inside, progress_drawable)
+
+pub shape_of-page-then-not-drawn : goal.shape_of-page-then-not-drawn
+shape_of-page-then-not-drawn c = search (rules, progress_size)
+
+pub returns-then-not-drawn : goal.returns-then-not-drawn
+returns-then-not-drawn c = search (rules, progress_over)
+
+pub shape_of-page-then-is_end : goal.shape_of-page-then-is_end
+shape_of-page-then-is_end c = search (rules, progress_size)
+
+pub returns-then-is_end : goal.returns-then-is_end
+returns-then-is_end c = search (rules, progress_whole)
+
+pub loop-at-smaller : goal.loop-at-smaller
+loop-at-smaller c = search (rules, progress_less)
+
+pub loop-at-preserved : goal.loop-at-preserved
+loop-at-preserved c = search (rules, progress_more)
+
+pub returns : goal.returns
+returns c = search (rules, progress_all)

@@ -1,0 +1,25 @@
+-- `term_lines::put_symbol` meets its contract. Assumes nothing.
+use Rattle.term_lines.proofs.Drawing.{to_within, line_within, line_used, room_on_page, name_long, symbol_no_room, symbol_put}
+use borrow.Author.Rules.{rules}
+use Rattle.term_lines.proofs.put_symbol.Goals as goal
+
+pub returns-then-end-start-gt16 : goal.returns-then-end-start-gt16
+returns-then-end-start-gt16 c = search (rules, name_long)
+
+pub overflow_sub-page : goal.overflow_sub-page
+overflow_sub-page c = search (rules, to_within)
+
+pub overflow_sub-to : goal.overflow_sub-to
+overflow_sub-to c = search (rules, line_within)
+
+pub lacks_room-requires : goal.lacks_room-requires
+lacks_room-requires c = search (rules, line_used)
+
+pub returns-then-lacks_room : goal.returns-then-lacks_room
+returns-then-lacks_room c = search (rules, symbol_no_room)
+
+pub put_bare-after-requires : goal.put_bare-after-requires
+put_bare-after-requires c = (search rules, search rules, search (rules, room_on_page))
+
+pub returns : goal.returns
+returns c = search (rules, symbol_put)
