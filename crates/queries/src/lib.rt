@@ -1,4 +1,6 @@
 // The tests of a query, against the predicates that the tables hold.
+#![tactic(auto)]
+
 ghost use Rattle.std.specs.Prelude.{◌≡◌, ◌≤◌, length};
 ghost use Rattle.std.proofs.Math.Option.{get_or};
 ghost use Rattle.theory.specs.Text.{natural};

@@ -2,7 +2,6 @@
 use native.Mathlib.Omega.{arith}
 use lib.ListN.{length-take}
 use borrow.Author.Rules.{rules}
-use Rattle.groundwork.proofs.Truth.{not-true, not-false}
 use Rattle.queries.proofs.QueryRanges.{arity_small, place_low, place_fits}
 use Rattle.queries.proofs.QueryOpening.{opens_unfit, opens_undeclared, second_inside, opens_unasked, sizes_few, opens_malformed, opens_known, opens_asked}
 use Rattle.queries.proofs.open_query.Goals as goal
@@ -29,7 +28,7 @@ pub read_sizes-requires : goal.read_sizes-requires
 read_sizes-requires c = (search (rules, sizes_few), search rules, search rules)
 
 pub returns-then-not-read_sizes : goal.returns-then-not-read_sizes
-returns-then-not-read_sizes c = search (rules, opens_malformed, not-true)
+returns-then-not-read_sizes c = search (rules, opens_malformed)
 
 pub offset_bounds-sizes-asked : goal.offset_bounds-sizes-asked
 offset_bounds-sizes-asked c = search (rules, place_fits)
@@ -38,7 +37,7 @@ pub bounds-sizes-asked : goal.bounds-sizes-asked
 bounds-sizes-asked c = search (rules, place_low)
 
 pub returns-then-sizes-asked-ne-UNKNOWN_SIZE : goal.returns-then-sizes-asked-ne-UNKNOWN_SIZE
-returns-then-sizes-asked-ne-UNKNOWN_SIZE c = search (rules, opens_known, not-false)
+returns-then-sizes-asked-ne-UNKNOWN_SIZE c = search (rules, opens_known)
 
 pub returns : goal.returns
-returns c = search (rules, opens_asked, not-false)
+returns c = search (rules, opens_asked)

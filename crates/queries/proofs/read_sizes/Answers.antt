@@ -1,8 +1,6 @@
 -- `queries::read_sizes` meets its contract. Assumes nothing.
-use Prim.Native.Nat.{◌+◌, ◌-◌}
-use lib.ListN.{length}
 use borrow.Author.Rules.{rules}
-use Rattle.queries.proofs.SizeLoop.{SizesSoFar, sizes_none, sizes_room, sizes_more, sizes_malformed, sizes_all}
+use Rattle.queries.proofs.SizeLoop.{sizes_none, sizes_room, sizes_more, sizes_malformed, sizes_all}
 use Rattle.queries.proofs.read_sizes.Goals as goal
 
 pub loop-at-init : goal.loop-at-init

@@ -1,6 +1,6 @@
 use Prim.Native.Nat.{◌+◌, ◌-◌}
 use lib.ListN.{length}
-use Rattle.queries.proofs.SizeLoop.{SizesSoFar, sizes_none, sizes_room, sizes_more, sizes_malformed, sizes_all}
+use Rattle.queries.proofs.SizeLoop.{SizesSoFar}
 use Rattle.queries.proofs.read_sizes.Given as goal
 
 abbrev pub invariant-loop-at : goal.invariant-loop-at
