@@ -1,1 +1,3 @@
+#![tactic(auto)]
+
 // Laws on whole numbers, truth values and lists that the kit's library lacks. No code.

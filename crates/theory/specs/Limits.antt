@@ -2,7 +2,7 @@
 -- demand 2, when a pack is accepted.
 use Rattle.std.specs.Prelude.{◌≡◌, true, List, [], ◌∷◌, ◌++◌, ℕ, ◌≤◌, ◌<◌, ℤ, pos, nat_abs, length, get_or, ◌≤ℤ◌}
 use Rattle.std.proofs.Math.Option.{some, none}
-use Rattle.theory.specs.Lists.{◌∈◌, every}
+use Rattle.theory.specs.Lists.{◌∈◌}
 use Rattle.theory.specs.Text.{Bytes, is_name}
 use Rattle.theory.specs.Terms.{AllWellFormed, AllGround}
 use Rattle.theory.specs.Forms.{Form}

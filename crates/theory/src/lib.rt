@@ -1,5 +1,6 @@
 // The letters of lines and the answers of the calls, as types. What each case means is said once, in specs/Written.antt
 // and specs/Answers.antt.
+#![tactic(auto)]
 
 /// What a line is, by its first field.
 #[derive(Clone, Copy)]

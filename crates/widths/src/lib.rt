@@ -1,4 +1,6 @@
 // Numbers at another width: one function for each cast, since the checker covers the cast of an element only so.
+#![tactic(auto)]
+
 ghost use Rattle.std.specs.Prelude.{◌≡◌, false, ◌<◌, pos, nat_abs};
 ghost use Rattle.std.specs.Int.Signed.{lt_z};
 

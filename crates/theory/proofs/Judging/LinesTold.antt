@@ -4,19 +4,18 @@ use mathlib.Core.Bool.{Bool, true, false, cond, not, ◌&&◌, ◌||◌, or-fals
 use mathlib.Core.Logic.{⊎_elim, ◌↔◌}
 use mathlib.Core.List.Memᴰ
 use mathlib.Core.List.{List, [], ◌∷◌, nil≢cons}
-use mathlib.Core.Option.{none}
 use Prim.Native.Nat.{ℕ}
 use native.Mathlib.Omega.{arith}
 use lib.Dec.{eqb}
 use lib.ListN.{get_or}
 use Rattle.groundwork.proofs.Truth.{by_truth, never_both, and_both, or_left, or_right, eqb-equal, equal-eqb}
-use Rattle.theory.specs.Lists.{◌∈◌, every}
+use Rattle.theory.specs.Lists.{◌∈◌}
 use Rattle.theory.specs.Text.{Bytes, fields_of}
 use Rattle.theory.specs.Packs.{Pack}
 use Rattle.theory.specs.declared.Letter.{Letter}
 use Rattle.theory.specs.declared.Letter.TheVariants.{P, C, G, H, B, M, E, NoLetter}
 use Rattle.theory.specs.Written.{line_letter, Written}
-use Rattle.theory.specs.Faults.{Test, test, first_given, is_unfit, may_stand, whole, predicate_tests, claim_tests, atom_tests, fact_tests, head_tests, subgoal_tests, multiplier_tests, end_tests, tests, line_tests, fault}
+use Rattle.theory.specs.Faults.{Test, first_given, is_unfit, may_stand, whole, predicate_tests, claim_tests, atom_tests, fact_tests, head_tests, subgoal_tests, multiplier_tests, end_tests, tests, line_tests, fault}
 use Rattle.theory.specs.LinesTold.{found, applying, LineTold}
 use Rattle.theory.proofs.Judging.Fitness.{unfit_exactly}
 use Rattle.theory.proofs.Judging.LineReading.{tests_numbered}

@@ -5,7 +5,6 @@ use mathlib.Core.List.Memᴰ
 use mathlib.Core.List.{List, [], flat_map}
 use native.Mathlib.Nat.{le_of_eq, le_antisymm, le_trans}
 use native.Mathlib.Omega.{arith}
-use Rattle.theory.specs.Lists.{every}
 use Rattle.theory.specs.Text.{Bytes}
 use Rattle.theory.specs.Packs.{Rule, Pack, claims_on, open_lines, opening, empty_pack, from_rules, from_facts, from_claims, from_predicates}
 use Rattle.theory.specs.Faults.{is_complete}
