@@ -25,13 +25,13 @@ decimal_zeros [] h e = absurd (omega arith)
 decimal_zeros (b ∷ []) h e = absurd (omega arith)
 decimal_zeros (b ∷ c ∷ bs) h e = simp (equal-eqb b 48 e, and-false)
 
-decimal_one : (s : Bytes) → (length s ≡ 0 → ⊥) → length s ≤ 1 → is_decimal s ≡ every is_digit s
+pub decimal_one : (s : Bytes) → (length s ≡ 0 → ⊥) → length s ≤ 1 → is_decimal s ≡ every is_digit s
 unfolding is_decimal every
 decimal_one [] any h = absurd (any refl)
 decimal_one (b ∷ []) any h = sym (and-true (is_digit b))
 decimal_one (b ∷ c ∷ bs) any h = absurd (omega arith)
 
-decimal_more : (s : Bytes) → 1 < length s → (get_or s 0 0 ≡ 48 → ⊥) → is_decimal s ≡ every is_digit s
+pub decimal_more : (s : Bytes) → 1 < length s → (get_or s 0 0 ≡ 48 → ⊥) → is_decimal s ≡ every is_digit s
 unfolding is_decimal every
 decimal_more [] h e = absurd (omega arith)
 decimal_more (b ∷ []) h e = absurd (omega arith)

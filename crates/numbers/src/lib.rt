@@ -1,4 +1,6 @@
 // The numbers in fields: decimal numbers, and fields `0` in runs.
+#![tactic(auto)]
+
 ghost use Rattle.std.specs.Prelude.{◌≡◌, ◌-◌, ◌≤◌, ◌<◌, negsuc};
 ghost use Rattle.theory.specs.Text.{natural, integer};
 ghost use Rattle.numbers.specs.Numbers.{natural_of, integer_of};

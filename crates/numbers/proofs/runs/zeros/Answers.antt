@@ -1,9 +1,6 @@
 -- `numbers::runs::zeros` meets its contract. Assumes nothing.
-use Prim.Native.Nat.{◌+◌, ◌-◌, ◌*◌}
-use lib.ListN.{length}
 use borrow.Author.Rules.{rules}
 use Rattle.numbers.proofs.ZeroRuns.{zeros_none, zeros_more, zeros_four}
-use Rattle.numbers.specs.Zeros.{Zeros}
 use Rattle.numbers.proofs.runs.zeros.Goals as goal
 
 pub returns-then-bytes-from-lt8 : goal.returns-then-bytes-from-lt8

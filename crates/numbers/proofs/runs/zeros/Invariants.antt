@@ -1,6 +1,5 @@
 use Prim.Native.Nat.{◌+◌, ◌-◌, ◌*◌}
 use lib.ListN.{length}
-use Rattle.numbers.proofs.ZeroRuns.{zeros_none, zeros_more, zeros_four}
 use Rattle.numbers.specs.Zeros.{Zeros}
 use Rattle.numbers.proofs.runs.zeros.Given as goal
 
