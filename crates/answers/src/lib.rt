@@ -1,4 +1,6 @@
 // The answers of the calls as numbers: as document 01's numbers and fields, and as C gets them.
+#![tactic(auto)]
+
 ghost use Rattle.std.specs.Prelude.{◌≡◌};
 ghost use Rattle.theory.specs.Check.{numbers};
 ghost use Rattle.theory.specs.Reserve.{fields};
