@@ -1,4 +1,6 @@
 // Import: every clause of the text is judged first, and only then are the lines written.
+#![tactic(auto)]
+
 ghost use Rattle.std.specs.Prelude.{◌≡◌, [], ◌≤◌, length};
 ghost use Rattle.theory.specs.Lists.{over};
 ghost use Rattle.clause_theory.specs.ClauseTokens.{tokens_of};
