@@ -6,13 +6,19 @@ use native.Mathlib.Omega.{arith}
 use lib.IntN.{ℤ, pos, negsuc, neg_ℤ, nat_abs, ◌-ℤ◌, ◌*ℤ◌, +ℤ_idl}
 use lib.Signed.{lt_z}
 use mir.Facts.{to_z-of_z}
-use mir.Syntax.{w64}
+use mir.Syntax.{w16, w64}
 use mir.Val.{SFits}
 use Rattle.groundwork.proofs.Magnitude.{nat_abs_neg, nat_abs_sub, mag_le_nat_abs}
 use Rattle.groundwork.proofs.Truth.{never_both, ge-ltb, equal-eqb, eqb-different}
 use Rattle.forms.proofs.Results.{kept, Exact, exact_product}
+use Rattle.widths.proofs.Kept.{kept_at, small_fits, widened}
 use Rattle.tables.specs.QuerySizes.{unknown_size}
 use Rattle.bounds.specs.Bounds.{blocked, share}
+
+-- ---- a claim's number, as the code reads it at 16 bits and keeps it at 64
+
+pub number_kept : {number n : ℤ} → nat_abs number ≤ 9999 → n ≡ kept_at w16 number → kept n ≡ number
+number_kept {number} {n} small is = widened w16 w64 number n tt (small_fits w16 number (omega (arith, small))) is
 
 -- ---- whether an argument rules a claim out
 

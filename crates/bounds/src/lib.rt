@@ -1,4 +1,6 @@
 // The reservation that the claims on one predicate give.
+#![tactic(auto)]
+
 ghost use Rattle.std.specs.Prelude.{◌≡◌, false, ◌+◌, ◌≤◌, ◌<◌, pos, nat_abs};
 ghost use Rattle.std.specs.Int.Signed.{lt_z};
 ghost use Rattle.tables.specs.Tables.{SafeClaims};

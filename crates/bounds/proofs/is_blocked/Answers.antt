@@ -1,5 +1,4 @@
 -- `bounds::is_blocked` meets its contract. Assumes nothing.
-use borrow.Author.Rules.{rules}
 use Rattle.bounds.proofs.Numbers.{blocked_unknown, blocked_known}
 use Rattle.bounds.proofs.is_blocked.Goals as goal
 

@@ -1,8 +1,7 @@
 -- `bounds::reserve_by` meets its contract. The loop's invariant: with the best bound so far, the claims not yet passed say what all of them say. Assumes nothing.
-use Prim.Native.Nat.{◌-◌, ◌≤◌}
 use native.Mathlib.Omega.{arith}
 use borrow.Author.Rules.{rules}
-use Rattle.bounds.proofs.Reserving.{Reserving, reserving_none, reserving_impossible, reserving_more, reserving_bounded, reserving_unbounded}
+use Rattle.bounds.proofs.Reserving.{reserving_none, reserving_impossible, reserving_more, reserving_bounded, reserving_unbounded}
 use Rattle.bounds.proofs.reserve_by.Goals as goal
 
 pub loop-i-init : goal.loop-i-init

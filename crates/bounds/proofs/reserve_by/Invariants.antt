@@ -1,6 +1,5 @@
 use Prim.Native.Nat.{◌-◌, ◌≤◌}
-use native.Mathlib.Omega.{arith}
-use Rattle.bounds.proofs.Reserving.{Reserving, reserving_none, reserving_impossible, reserving_more, reserving_bounded, reserving_unbounded}
+use Rattle.bounds.proofs.Reserving.{Reserving}
 use Rattle.bounds.proofs.reserve_by.Given as goal
 
 abbrev pub invariant-loop-i : goal.invariant-loop-i

@@ -1,5 +1,4 @@
 -- `bounds::share_of` meets its contract. Assumes nothing.
-use borrow.Author.Rules.{rules}
 use Rattle.bounds.proofs.Numbers.{share_none, share_fits, share_is}
 use Rattle.bounds.proofs.share_of.Goals as goal
 
