@@ -1,4 +1,6 @@
 // Atoms, as heads and subgoals state them: which atom of its rule a line states, and the terms that are its fields.
+#![tactic(auto)]
+
 ghost use Rattle.std.specs.Prelude.{◌≡◌, ◌≤◌, ◌<◌, length};
 ghost use Rattle.theory.specs.Sizes.{structural};
 ghost use Rattle.words.specs.Classes.{Classes};

@@ -1,4 +1,6 @@
 // `M` lines: multipliers, the weights that they give, and whether the residual by these justifies the claim.
+#![tactic(auto)]
+
 ghost use Rattle.std.specs.Prelude.{◌≡◌, ◌+◌, ◌≤◌, ◌<◌, nat_abs, length, get_or};
 ghost use Rattle.tables.specs.Tables.{SafeClaims, NoWeights};
 ghost use Rattle.residuals.specs.Sums.{Summable};

@@ -13,7 +13,7 @@ use Rattle.theory.specs.declared.Letter.TheVariants.{H, B}
 use Rattle.theory.specs.Written.{line_letter, atom_from}
 use Rattle.theory.specs.Check.{numbers}
 use Rattle.theory.specs.Pages.{Paged, paged}
-use Rattle.clause_theory.specs.ClauseTokens.{Mark, name, variable, Token, tokens_of}
+use Rattle.clause_theory.specs.ClauseTokens.{Mark, Token, tokens_of}
 use Rattle.clause_theory.specs.Cutting.{is_run, Cut}
 use Rattle.clause_theory.specs.Clauses.{Clause, clause_marks}
 use Rattle.clause_theory.specs.Import.{fresh_of, filled, clause_lines, clause_fits, import_of}

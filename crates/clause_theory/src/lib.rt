@@ -1,4 +1,5 @@
 // The answer of import as a type. What each case means is said once, in specs/Importations.antt.
+#![tactic(auto)]
 
 /// What import answers.
 #[derive(Clone, Copy)]

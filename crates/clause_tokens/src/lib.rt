@@ -1,4 +1,6 @@
 // The tokens of a clause text, one after another from a place on.
+#![tactic(auto)]
+
 ghost use Rattle.std.specs.Prelude.{◌≡◌, not, ◌+◌, ◌≤◌, ◌<◌, length, get_or, drop};
 ghost use Rattle.clause_theory.specs.ClauseTokens.{is_layout, is_neck, is_stop, sign_of};
 ghost use Rattle.words.specs.Classes.{Class, Classes};

@@ -1,4 +1,6 @@
 // The variables of a clause: those that it names, in a table of words, how often `_` stands in it, and fresh numbers.
+#![tactic(auto)]
+
 ghost use Rattle.std.specs.Prelude.{◌≡◌, false, ◌+◌, ◌≤◌, ◌<◌, length};
 ghost use Rattle.words.specs.Classes.{Classes};
 ghost use Rattle.words.specs.Words.{words_of};

@@ -1,4 +1,6 @@
 // The grammar of clauses: how far the tokens from a place on make a clause.
+#![tactic(auto)]
+
 ghost use Rattle.std.specs.Prelude.{◌≡◌, [], ◌+◌, ◌≤◌, ◌<◌, length};
 ghost use Rattle.words.specs.Classes.{Classes};
 ghost use Rattle.clause_tokens.specs.NextTokens.{tokens_at};

@@ -2,7 +2,7 @@
 use mathlib.Core.Path.{◌≡◌, refl, sym, ◌∙◌}
 use mathlib.Core.Bool.{false, cond, not}
 use mathlib.Core.List.{List, [], ◌∷◌, ◌++◌}
-use mathlib.Core.Option.{some, none}
+use mathlib.Core.Option.{none}
 use Prim.Native.Nat.{ℕ, ◌+◌, ◌≤◌, ◌<◌}
 use native.Mathlib.Omega.{arith}
 use lib.Dec.{leb}
@@ -30,7 +30,7 @@ use Rattle.tables.specs.declared.Fault.TheVariants.{CountLimit}
 use Rattle.tables.specs.declared.Closing.{Closing}
 use Rattle.tables.specs.declared.Closing.TheVariants.{Done, Misclosed}
 use Rattle.tables.specs.Tables.{Tables, tables, Holds, Safe, flag}
-use Rattle.tables.specs.Lines.{Passed, ClosedFor, at}
+use Rattle.tables.specs.Lines.{Passed, ClosedFor}
 use Rattle.tables.proofs.Outcomes.{line_number, line_passes, line_fails}
 use Rattle.tables.proofs.Declared.{with_signature, signature_stays, declares_more, claimless}
 use Rattle.tables.proofs.PredicateSets.{set_declared}

@@ -1,4 +1,6 @@
 // `P` and `C` lines: a predicate, a claim. What a claim's fields and their ends do.
+#![tactic(auto)]
+
 ghost use Rattle.std.specs.Prelude.{◌≡◌, ◌+◌, ◌≤◌, ◌<◌, length};
 ghost use Rattle.tables.specs.Tables.{SafeSignatures};
 ghost use Rattle.declarations.specs.Fields.{FieldC};

@@ -3,7 +3,7 @@ use mathlib.Core.Path.{◌≡◌, refl, sym, ◌∙◌, ap}
 use mathlib.Core.Bool.{Bool, true, false, not, cond}
 use mathlib.Core.List.Memᴰ
 use mathlib.Core.List.{List, [], ◌∷◌}
-use Prim.Native.Nat.{ℕ, zero, ◌≤◌, ◌<◌}
+use Prim.Native.Nat.{ℕ, ◌≤◌, ◌<◌}
 use native.Mathlib.Omega.{arith}
 use lib.Dec.{ltb}
 use lib.IntN.{ℤ}
@@ -12,7 +12,7 @@ use Rattle.groundwork.proofs.Lists.{member_get_d}
 use Rattle.groundwork.proofs.Truth.{by_truth, ltb-lt, ltb-ge}
 use Rattle.theory.specs.Lists.{is_empty}
 use Rattle.theory.specs.Text.{Bytes, fields_of}
-use Rattle.theory.specs.Terms.{arity, all_variables}
+use Rattle.theory.specs.Terms.{all_variables}
 use Rattle.theory.specs.Sizes.{Measure}
 use Rattle.theory.specs.Packs.{Atom, measure_in, atom_key, claims_on}
 use Rattle.theory.specs.declared.Letter.TheVariants.{G}

@@ -1,5 +1,7 @@
 // `G` lines: facts that come with the pack. Their fields are an atom's terms; here is what their end does: whether the fact
 // is ground, and whether its sizes meet the claims on its predicate.
+#![tactic(auto)]
+
 ghost use Rattle.std.specs.Prelude.{◌≡◌, ◌+◌, ◌≤◌, ◌<◌, ◌^◌, nat_abs, pos, ◌+ℤ◌, ◌*ℤ◌};
 ghost use Rattle.tables.specs.Tables.{SafeSignatures, SafeClaims, SafeRows};
 ghost use Rattle.facts.specs.Ends.{value_to, met_to, ClosesG};

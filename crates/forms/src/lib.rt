@@ -1,4 +1,6 @@
 // Forms, by value.
+#![tactic(auto)]
+
 ghost use Rattle.std.specs.Prelude.{◌≡◌, ◌≤◌, ◌^◌, pos, nat_abs};
 ghost use Rattle.std.specs.Int.Signed.{lt_z};
 ghost use Rattle.forms.specs.Sums.{Within, Zero, Sum, Multiple};

@@ -1,4 +1,6 @@
 // A text's lines, judged one by one: the loops over lines and fields, and the picking of a step by its letter.
+#![tactic(auto)]
+
 ghost use Rattle.std.specs.Prelude.{◌≡◌, ◌≤◌, length};
 ghost use Rattle.words.specs.Classes.{Classes};
 ghost use Rattle.tables.specs.Manners.{manner_of};

@@ -1,5 +1,7 @@
 // A line's tests before its fields are read. Lines open in three ways, whatever else they say: with the name of a
 // predicate that is new, with that of a declared one, or with no name.
+#![tactic(auto)]
+
 ghost use Rattle.std.specs.Prelude.{◌≡◌, true, ◌+◌, ◌≤◌, ◌<◌, length, drop};
 ghost use Rattle.std.proofs.Math.Option.{get_or};
 ghost use Rattle.theory.specs.declared.Letter.TheVariants.{M, NoLetter};

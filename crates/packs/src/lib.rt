@@ -1,4 +1,6 @@
 // Check: loading a pack, which is the tests of the whole text around its lines, and the residual area.
+#![tactic(auto)]
+
 ghost use Rattle.std.specs.Prelude.{◌≡◌, false, ◌≤◌, eqb, length};
 ghost use Rattle.theory.specs.Answers.{refusal_numbers, numbers_of};
 ghost use Rattle.theory.specs.Check.{check_of};

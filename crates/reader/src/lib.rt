@@ -1,4 +1,6 @@
 // A line and a place in it that only moves forward, over the scanner of the crate text.
+#![tactic(auto)]
+
 ghost use Rattle.std.specs.Prelude.{◌≡◌, ◌≤◌, length};
 ghost use Rattle.text.specs.Scans.{Finds};
 

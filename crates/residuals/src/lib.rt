@@ -1,5 +1,7 @@
 // The rows of a rule's arguments, each times its weight, as a form: the residual, and whether all of its numbers are at
 // least 0.
+#![tactic(auto)]
+
 ghost use Rattle.std.specs.Prelude.{◌+◌, ◌≤◌, ◌<◌, ◌^◌, nat_abs};
 ghost use Rattle.forms.specs.Sums.{Within};
 ghost use Rattle.tables.specs.Tables.{SafeRows};

@@ -1,4 +1,6 @@
 // How `H` and `B` lines end, and what they add to a rule: a head, a subgoal with a slot for each claim on its predicate.
+#![tactic(auto)]
+
 ghost use Rattle.std.specs.Prelude.{◌≡◌, ◌+◌, ◌*◌, ◌≤◌, ◌<◌, length};
 ghost use Rattle.tables.specs.Tables.{SafeSignatures};
 ghost use Rattle.rules.specs.Ends.{is_past, ClosesH, SlotsAdded, ClosesB};

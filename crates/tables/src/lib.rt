@@ -2,6 +2,8 @@
 // for a pack is said in specs/Tables.antt.
 //
 // The tables are flat arrays that the caller lends.
+#![tactic(auto)]
+
 ghost use Rattle.std.specs.Prelude.{◌≡◌, ◌≤◌, ◌<◌, ◌^◌, eqb, pos, replicate};
 ghost use Rattle.std.specs.Int.Bits.{bit_or};
 ghost use Rattle.tables.specs.Tables.{claim_place, row_place};

@@ -1,5 +1,7 @@
 // The sizes of terms, by the tokens read, worked out as section 1.4 of document 000 has them: first the sum of the arities,
 // then the occurrences of the variables. Every size and every coefficient comes of these two steps.
+#![tactic(auto)]
+
 ghost use Rattle.std.specs.Prelude.{◌≡◌, true, ◌+◌, ◌≤◌};
 ghost use Rattle.theory.specs.Sizes.{structural};
 ghost use Rattle.theory.specs.Measure.{measure_of};

@@ -1,5 +1,7 @@
 // Scanners over bytes: where a byte stands and how often, whether all bytes may stand in a line, and eight bytes as one
 // number. Fields are handed on as parts of their line; nothing is copied.
+#![tactic(auto)]
+
 ghost use Rattle.std.specs.Prelude.{◌≡◌, ◌≤◌, length};
 ghost use Rattle.theory.specs.Faults.{is_unfit};
 ghost use Rattle.text.specs.Scans.{Finds};

@@ -1,4 +1,6 @@
 // The tokens of a field, read once: whether it is a term, the arities of its symbols, and where its variables stand.
+#![tactic(auto)]
+
 ghost use Rattle.std.specs.Prelude.{◌≡◌, false, ◌+◌, ◌-◌, ◌*◌, ◌≤◌, ◌<◌, length, get_or};
 ghost use Rattle.theory.specs.Text.{is_digit};
 ghost use Rattle.words.specs.Classes.{Class, Classes};

@@ -1,4 +1,6 @@
 // Names and variables as two words of eight bytes each: read from bytes, and looked up in a table.
+#![tactic(auto)]
+
 ghost use Rattle.std.specs.Prelude.{◌≤◌};
 ghost use Rattle.words.specs.Words.{words_at, StandsAt};
 

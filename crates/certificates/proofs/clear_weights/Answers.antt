@@ -1,9 +1,7 @@
 -- `certificates::clear_weights` meets its contract. The loop's invariant: the weights passed are 0, and all else is as it was.
-use Prim.Native.Nat.{◌-◌, ◌≤◌}
 use native.Mathlib.Omega.{arith}
 use borrow.Author.Rules.{rules}
-use lib.IntN.{pos}
-use Rattle.groundwork.proofs.Stretches.{Stored, stored_none, zeros, zeros_more}
+use Rattle.groundwork.proofs.Stretches.{stored_none, zeros_more}
 use Rattle.certificates.proofs.Weighing.{weights_cleared}
 use Rattle.certificates.proofs.clear_weights.Goals as goal
 

@@ -1,8 +1,6 @@
 use Prim.Native.Nat.{◌-◌, ◌≤◌}
-use native.Mathlib.Omega.{arith}
 use lib.IntN.{pos}
-use Rattle.groundwork.proofs.Stretches.{Stored, stored_none, zeros, zeros_more}
-use Rattle.certificates.proofs.Weighing.{weights_cleared}
+use Rattle.groundwork.proofs.Stretches.{Stored, zeros}
 use Rattle.certificates.proofs.clear_weights.Given as goal
 
 abbrev pub invariant-loop-i : goal.invariant-loop-i

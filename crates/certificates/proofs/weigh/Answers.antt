@@ -1,13 +1,11 @@
 -- `certificates::weigh` meets its contract. The loop's invariant: the atom's weights passed have the products taken away, and all else is as it was.
-use Prim.Native.Nat.{◌+◌, ◌*◌, ◌-◌, ◌≤◌}
+use Prim.Native.Nat.{◌+◌}
 use native.Mathlib.Omega.{arith}
 use borrow.Author.Rules.{rules}
-use lib.IntN.{pos}
 use mir.Syntax.{w16, w32}
-use mir.Val.{to_z}
-use Rattle.groundwork.proofs.Stretches.{Stored, stored_none, stored_more}
+use Rattle.groundwork.proofs.Stretches.{stored_none, stored_more}
 use Rattle.widths.proofs.Kept.{small_fits, widened}
-use Rattle.certificates.proofs.Weighing.{Taken, weighed, taken, weighs_all}
+use Rattle.certificates.proofs.Weighing.{Taken, taken, weighs_all}
 use Rattle.certificates.proofs.weigh.Goals as goal
 
 -- the store of a turn

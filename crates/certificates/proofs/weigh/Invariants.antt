@@ -1,11 +1,7 @@
 use Prim.Native.Nat.{◌*◌, ◌-◌, ◌≤◌}
-use native.Mathlib.Omega.{arith}
 use lib.IntN.{pos}
-use mir.Syntax.{w16, w32}
-use mir.Val.{to_z}
-use Rattle.groundwork.proofs.Stretches.{Stored, stored_none, stored_more}
-use Rattle.widths.proofs.Kept.{widened}
-use Rattle.certificates.proofs.Weighing.{Taken, weighed, taken, weighs_all}
+use Rattle.groundwork.proofs.Stretches.{Stored}
+use Rattle.certificates.proofs.Weighing.{weighed}
 use Rattle.certificates.proofs.weigh.Given as goal
 
 abbrev pub invariant-loop-i : goal.invariant-loop-i

@@ -1,10 +1,8 @@
 -- `certificates::weigh_head` meets its contract. The loop's invariant: the weights passed are the claim's weights, and all else is as it was.
-use Prim.Native.Nat.{◌-◌, ◌≤◌}
 use native.Mathlib.Omega.{arith}
 use borrow.Author.Rules.{rules}
-use lib.IntN.{pos}
 use mir.Syntax.{w16, w32}
-use Rattle.groundwork.proofs.Stretches.{Stored, from, stored_none, stored_front, stored_more}
+use Rattle.groundwork.proofs.Stretches.{stored_none, stored_front, stored_more}
 use Rattle.widths.proofs.Kept.{widened}
 use Rattle.certificates.proofs.weigh_head.Goals as goal
 

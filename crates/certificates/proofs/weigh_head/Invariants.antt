@@ -1,9 +1,6 @@
 use Prim.Native.Nat.{◌-◌, ◌≤◌}
-use native.Mathlib.Omega.{arith}
 use lib.IntN.{pos}
-use mir.Syntax.{w16, w32}
-use Rattle.groundwork.proofs.Stretches.{Stored, from, stored_none, stored_front, stored_more}
-use Rattle.widths.proofs.Kept.{widened}
+use Rattle.groundwork.proofs.Stretches.{Stored, from}
 use Rattle.certificates.proofs.weigh_head.Given as goal
 
 abbrev pub invariant-loop-i : goal.invariant-loop-i

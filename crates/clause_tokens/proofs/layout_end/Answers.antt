@@ -1,7 +1,5 @@
 -- `clause_tokens::layout_end` meets its contract. Assumes nothing.
-use Prim.Native.Nat.{◌-◌}
-use lib.ListN.{length}
-use Rattle.clause_tokens.proofs.TokenLaws.{Passed, passed_none, passed_more, passed_end, passed_all}
+use Rattle.clause_tokens.proofs.TokenLaws.{passed_none, passed_more, passed_end, passed_all}
 use borrow.Author.Rules.{rules}
 use Rattle.clause_tokens.proofs.layout_end.Goals as goal
 

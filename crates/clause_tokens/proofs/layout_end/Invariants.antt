@@ -1,6 +1,6 @@
 use Prim.Native.Nat.{◌-◌}
 use lib.ListN.{length}
-use Rattle.clause_tokens.proofs.TokenLaws.{Passed, passed_none, passed_more, passed_end, passed_all}
+use Rattle.clause_tokens.proofs.TokenLaws.{Passed}
 use Rattle.clause_tokens.proofs.layout_end.Given as goal
 
 abbrev pub invariant-loop-at : goal.invariant-loop-at

@@ -1,6 +1,5 @@
 -- `clause_variables::fresh_number` meets its contract. Assumes nothing.
-use Prim.Native.Nat.{◌+◌, ◌-◌}
-use Rattle.clause_variables.proofs.FreshSearch.{Trying, trying_none, tabled_few, trying_small, trying_more, trying_less, trying_done}
+use Rattle.clause_variables.proofs.FreshSearch.{trying_none, tabled_few, trying_small, trying_more, trying_less, trying_done}
 use borrow.Author.Rules.{rules}
 use Rattle.clause_variables.proofs.fresh_number.Goals as goal
 

@@ -1,5 +1,5 @@
 use Prim.Native.Nat.{◌+◌, ◌-◌}
-use Rattle.clause_variables.proofs.FreshSearch.{Trying, trying_none, tabled_few, trying_small, trying_more, trying_less, trying_done}
+use Rattle.clause_variables.proofs.FreshSearch.{Trying}
 use Rattle.clause_variables.proofs.fresh_number.Given as goal
 
 abbrev pub invariant-loop-number : goal.invariant-loop-number

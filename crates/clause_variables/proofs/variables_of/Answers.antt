@@ -1,7 +1,5 @@
 -- `clause_variables::variables_of` meets its contract. Assumes nothing.
-use Prim.Native.Nat.{◌-◌}
-use lib.ListN.{length}
-use Rattle.clause_variables.proofs.ClauseLoop.{Gathering, gathering_none, gathering_all, token_ordered, token_inside, gathering_less, gathering_over, gathering_found, gathering_more}
+use Rattle.clause_variables.proofs.ClauseLoop.{gathering_none, gathering_all, token_ordered, token_inside, gathering_less, gathering_over, gathering_found, gathering_more}
 use borrow.Author.Rules.{rules}
 use Rattle.clause_variables.proofs.variables_of.Goals as goal
 

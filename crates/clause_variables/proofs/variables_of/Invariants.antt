@@ -1,6 +1,6 @@
 use Prim.Native.Nat.{◌-◌}
 use lib.ListN.{length}
-use Rattle.clause_variables.proofs.ClauseLoop.{Gathering, gathering_none, gathering_all, token_ordered, token_inside, gathering_less, gathering_over, gathering_found, gathering_more}
+use Rattle.clause_variables.proofs.ClauseLoop.{Gathering}
 use Rattle.clause_variables.proofs.variables_of.Given as goal
 
 abbrev pub invariant-loop-at : goal.invariant-loop-at

@@ -1,7 +1,5 @@
 -- `clauses::clause_end` meets its contract. Assumes nothing.
-use Prim.Native.Nat.{◌-◌}
-use lib.ListN.{length}
-use Rattle.clauses.proofs.Reading.{Reading, reading_none, reading_all, reading_refused, reading_ended, reading_more, reading_less}
+use Rattle.clauses.proofs.Reading.{reading_none, reading_all, reading_refused, reading_ended, reading_more, reading_less}
 use borrow.Author.Rules.{rules}
 use Rattle.clauses.proofs.clause_end.Goals as goal
 

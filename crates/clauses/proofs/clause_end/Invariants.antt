@@ -1,6 +1,6 @@
 use Prim.Native.Nat.{◌-◌}
 use lib.ListN.{length}
-use Rattle.clauses.proofs.Reading.{Reading, reading_none, reading_all, reading_refused, reading_ended, reading_more, reading_less}
+use Rattle.clauses.proofs.Reading.{Reading}
 use Rattle.clauses.proofs.clause_end.Given as goal
 
 abbrev pub invariant-loop-at : goal.invariant-loop-at

@@ -1,11 +1,8 @@
 -- `declarations::lay` meets its contract. Assumes nothing.
-use mathlib.Core.Logic.{⊎_elim}
-use Prim.Native.Nat.{◌-◌, ◌≤◌}
 use native.Mathlib.Omega.{arith}
 use borrow.Author.Rules.{rules}
-use lib.IntN.{pos}
-use Rattle.groundwork.proofs.Stretches.{Stored, stored_none}
-use Rattle.declarations.proofs.Laying.{laid_at, laid_all, laid_number, laid_zero}
+use Rattle.groundwork.proofs.Stretches.{stored_none}
+use Rattle.declarations.proofs.Laying.{laid_all, laid_number, laid_zero}
 use Rattle.declarations.proofs.lay.Goals as goal
 use Rattle.declarations.proofs.lay.Goals.{else-i-arity, then-i-arity}
 

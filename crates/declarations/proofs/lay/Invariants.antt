@@ -1,9 +1,7 @@
-use mathlib.Core.Logic.{⊎_elim}
 use Prim.Native.Nat.{◌-◌, ◌≤◌}
-use native.Mathlib.Omega.{arith}
 use lib.IntN.{pos}
-use Rattle.groundwork.proofs.Stretches.{Stored, stored_none}
-use Rattle.declarations.proofs.Laying.{laid_at, laid_all, laid_number, laid_zero}
+use Rattle.groundwork.proofs.Stretches.{Stored}
+use Rattle.declarations.proofs.Laying.{laid_at}
 use Rattle.declarations.proofs.lay.Given as goal
 
 abbrev pub invariant-loop-i : goal.invariant-loop-i

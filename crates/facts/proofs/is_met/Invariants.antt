@@ -1,9 +1,7 @@
-use mathlib.Core.Path.{◌≡◌, sym, ◌∙◌, ap}
+use mathlib.Core.Path.{◌≡◌}
 use mathlib.Core.Bool.{true}
 use Prim.Native.Nat.{◌-◌, ◌≤◌}
-use native.Mathlib.Omega.{arith}
 use Rattle.facts.specs.Ends.{met_to}
-use Rattle.facts.proofs.Values.{met_none, turn_unmet, turn_met}
 use Rattle.facts.proofs.is_met.Given as goal
 
 abbrev pub invariant-loop-j : goal.invariant-loop-j

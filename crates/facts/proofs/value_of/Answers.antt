@@ -1,14 +1,10 @@
 -- `facts::value_of` meets its contract. The loop's invariant: the sum is the claim with the arguments so far put in. Assumes nothing.
-use mathlib.Core.Path.{◌≡◌, ◌∙◌, ap}
-use Prim.Native.Nat.{ℕ, ◌+◌, ◌-◌, ◌≤◌}
+use mathlib.Core.Path.{◌∙◌, ap}
+use Prim.Native.Nat.{ℕ, ◌+◌}
 use native.Mathlib.Omega.{arith}
 use borrow.Author.Rules.{rules}
 use lib.IntN.{pos}
 use lib.ListN.{get_or}
-use mir.Syntax.{w16, w64}
-use mir.Val.{to_z}
-use Rattle.widths.proofs.Kept.{widened}
-use Rattle.forms.proofs.Results.{kept}
 use Rattle.facts.specs.Ends.{value_to}
 use Rattle.facts.proofs.Values.{value_none, value_room, value_more, number_kept}
 use Rattle.facts.proofs.value_of.Goals as goal

@@ -1,14 +1,6 @@
-use mathlib.Core.Path.{◌≡◌, ◌∙◌, ap}
-use Prim.Native.Nat.{ℕ, ◌+◌, ◌-◌, ◌≤◌}
-use native.Mathlib.Omega.{arith}
-use lib.IntN.{pos}
-use lib.ListN.{get_or}
-use mir.Syntax.{w16, w64}
-use mir.Val.{to_z}
-use Rattle.widths.proofs.Kept.{widened}
-use Rattle.forms.proofs.Results.{kept}
+use mathlib.Core.Path.{◌≡◌}
+use Prim.Native.Nat.{◌-◌, ◌≤◌}
 use Rattle.facts.specs.Ends.{value_to}
-use Rattle.facts.proofs.Values.{value_none, value_room, value_more}
 use Rattle.facts.proofs.value_of.Given as goal
 
 abbrev pub invariant-loop-k : goal.invariant-loop-k

@@ -1,6 +1,5 @@
 -- `facts::with_argument` meets its contract. Assumes nothing.
 use native.Mathlib.Omega.{arith}
-use borrow.Author.Rules.{rules}
 use Rattle.facts.proofs.Values.{product_fits, sum_fits, sum_is}
 use Rattle.facts.proofs.with_argument.Goals as goal
 

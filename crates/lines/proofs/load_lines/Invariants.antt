@@ -1,18 +1,12 @@
-use mathlib.Core.Path.{◌≡◌, refl, sym, ◌∙◌}
+use mathlib.Core.Path.{◌≡◌}
 use Prim.Native.Nat.{◌+◌, ◌-◌}
-use native.Mathlib.Omega.{arith}
 use lib.ListN.{length}
-use Rattle.text.proofs.PlainText.{plain_line}
 use Rattle.tables.specs.Manners.{manner_of}
 use Rattle.tables.specs.Tables.{tables}
-use Rattle.tables.proofs.Manners.{letters_kept}
 use Rattle.lines.specs.declared.Ending.TheVariants.{AllPass}
 use Rattle.lines.specs.Steps.{stores}
 use Rattle.lines.specs.Between.{FieldsRead, LinesRead}
 use Rattle.lines.specs.LineLoading.{unruled}
-use Rattle.lines.proofs.ZeroFields.{skipped_within}
-use Rattle.lines.proofs.LineLoop.{zeros_clear, lines_begin, lines_end}
-use Rattle.lines.proofs.Turns.{Turn, turn_begins, turn_unopened, turn_skipped, turn_index_moved, turn_width_fits, turn_from_moved, turn_ready, turn_index_fits, turn_from_fits, turn_more, turn_misread, turn_closable, turn_done, turn_summable, turn_refused}
 use Rattle.lines.proofs.load_lines.Given as goal
 
 abbrev pub invariant-fields : goal.invariant-fields

@@ -1,13 +1,12 @@
 -- `packs::lay` meets its contract. Assumes nothing.
-use mathlib.Core.Path.{◌≡◌, refl, ◌∙◌, ap}
-use Prim.Native.Nat.{◌-◌, ◌≤◌}
+use mathlib.Core.Path.{refl, ◌∙◌, ap}
 use native.Mathlib.Omega.{arith}
-use lib.ListN.{length, set, length-set}
+use lib.ListN.{set, length-set}
 use mir.Facts.{to_z-of_z}
 use mir.Syntax.{w64}
 use mir.Val.{SFits}
 use borrow.Author.Rules.{rules}
-use Rattle.packs.proofs.AreaLaying.{Laying, laying_constant, laying_more, laying_done}
+use Rattle.packs.proofs.AreaLaying.{laying_constant, laying_more, laying_done}
 use Rattle.packs.proofs.lay.Goals as goal
 
 pub loop-i-init : goal.loop-i-init

@@ -1,11 +1,7 @@
-use mathlib.Core.Path.{◌≡◌, refl, ◌∙◌, ap}
+use mathlib.Core.Path.{◌≡◌}
 use Prim.Native.Nat.{◌-◌, ◌≤◌}
-use native.Mathlib.Omega.{arith}
-use lib.ListN.{length, set, length-set}
-use mir.Facts.{to_z-of_z}
-use mir.Syntax.{w64}
-use mir.Val.{SFits}
-use Rattle.packs.proofs.AreaLaying.{Laying, laying_constant, laying_more, laying_done}
+use lib.ListN.{length}
+use Rattle.packs.proofs.AreaLaying.{Laying}
 use Rattle.packs.proofs.lay.Given as goal
 
 abbrev pub invariant-loop-i : goal.invariant-loop-i

@@ -1,12 +1,11 @@
 -- `residuals::form_at` meets its contract. The loop's invariant: the coefficients passed are the row's.
-use mathlib.Core.Path.{◌≡◌, ◌∙◌}
-use Prim.Native.Nat.{◌+◌, ◌-◌, ◌≤◌}
+use mathlib.Core.Path.{◌∙◌}
 use native.Mathlib.Omega.{arith}
 use borrow.Author.Rules.{rules}
 use lib.IntN.{pos}
-use lib.ListN.{length, length-set, get_or-replicate}
-use Rattle.groundwork.proofs.Stretches.{Stored, stored_none, stored_front, stored_more}
-use Rattle.residuals.proofs.Rows.{cells_from, cell_read, form_read}
+use lib.ListN.{length-set, get_or-replicate}
+use Rattle.groundwork.proofs.Stretches.{stored_none, stored_front, stored_more}
+use Rattle.residuals.proofs.Rows.{cell_read, form_read}
 use Rattle.residuals.proofs.form_at.Goals as goal
 
 pub loop-i-init : goal.loop-i-init

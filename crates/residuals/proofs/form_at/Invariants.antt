@@ -1,10 +1,9 @@
-use mathlib.Core.Path.{◌≡◌, ◌∙◌}
+use mathlib.Core.Path.{◌≡◌}
 use Prim.Native.Nat.{◌+◌, ◌-◌, ◌≤◌}
-use native.Mathlib.Omega.{arith}
 use lib.IntN.{pos}
-use lib.ListN.{length, length-set, get_or-replicate}
-use Rattle.groundwork.proofs.Stretches.{Stored, stored_none, stored_front, stored_more}
-use Rattle.residuals.proofs.Rows.{cells_from, cell_read, form_read}
+use lib.ListN.{length}
+use Rattle.groundwork.proofs.Stretches.{Stored}
+use Rattle.residuals.proofs.Rows.{cells_from}
 use Rattle.residuals.proofs.form_at.Given as goal
 
 abbrev pub invariant-loop-i : goal.invariant-loop-i

@@ -1,12 +1,7 @@
 -- `residuals::is_justified` meets its contract. The loop's invariant: no coefficient passed is below 0.
-use mathlib.Core.Path.{◌≡◌}
-use mathlib.Core.Bool.{true}
-use Prim.Native.Nat.{ℕ, ◌-◌, ◌≤◌, ◌<◌}
 use native.Mathlib.Omega.{arith}
 use borrow.Author.Count.{below_none, below_more}
 use borrow.Author.Rules.{rules}
-use lib.ListN.{length}
-use lib.Signed.{non_neg}
 use mir.Syntax.{w64}
 use mir.Val.{SFits}
 use Rattle.forms.proofs.Signs.{not_negative}

@@ -1,13 +1,8 @@
 use mathlib.Core.Path.{◌≡◌}
 use mathlib.Core.Bool.{true}
 use Prim.Native.Nat.{ℕ, ◌-◌, ◌≤◌, ◌<◌}
-use native.Mathlib.Omega.{arith}
 use lib.ListN.{length}
 use lib.Signed.{non_neg}
-use mir.Syntax.{w64}
-use mir.Val.{SFits}
-use Rattle.forms.proofs.Signs.{not_negative}
-use Rattle.residuals.proofs.Signs.{judged_constant, judged_coefficient, judged_yes}
 use Rattle.groundwork.proofs.Stretches.{elements}
 use Rattle.residuals.proofs.is_justified.Given as goal
 

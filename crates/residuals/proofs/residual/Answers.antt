@@ -1,9 +1,8 @@
 -- `residuals::residual` meets its contract. The loop's invariant: the form is the sum of the atoms passed.
 use mathlib.Core.Path.{◌≡◌}
-use Prim.Native.Nat.{◌+◌, ◌-◌, ◌≤◌}
+use Prim.Native.Nat.{◌+◌}
 use native.Mathlib.Omega.{arith}
 use borrow.Author.Rules.{rules}
-use Rattle.residuals.specs.Sums.{width, Partial}
 use Rattle.residuals.proofs.Sums.{no_atoms_lem}
 use Rattle.residuals.proofs.residual.Goals as goal
 

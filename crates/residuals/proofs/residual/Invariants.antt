@@ -1,8 +1,5 @@
-use mathlib.Core.Path.{◌≡◌}
 use Prim.Native.Nat.{◌+◌, ◌-◌, ◌≤◌}
-use native.Mathlib.Omega.{arith}
 use Rattle.residuals.specs.Sums.{width, Partial}
-use Rattle.residuals.proofs.Sums.{no_atoms_lem}
 use Rattle.residuals.proofs.residual.Given as goal
 
 abbrev pub invariant-loop-atom : goal.invariant-loop-atom

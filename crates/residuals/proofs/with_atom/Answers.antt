@@ -1,10 +1,7 @@
 -- `residuals::with_atom` meets its contract. The loop's invariant: the rows passed are added.
-use mathlib.Core.Logic.{⊎_elim}
-use Prim.Native.Nat.{◌-◌, ◌≤◌}
 use native.Mathlib.Omega.{arith}
 use borrow.Author.Rules.{rules}
-use Rattle.residuals.specs.Sums.{width}
-use Rattle.residuals.proofs.Sums.{RowsAdded, constant_requires, rows_none, row_requires, row_weighed, row_skipped, atom_done}
+use Rattle.residuals.proofs.Sums.{constant_requires, rows_none, row_requires, row_weighed, row_skipped, atom_done}
 use Rattle.residuals.proofs.with_atom.Goals as goal
 use Rattle.residuals.proofs.with_atom.Goals.{then-weight-ne0, else-weight-ne0}
 
@@ -27,8 +24,8 @@ loop-k-preserved c =
     let added = c.loop-k.invariant.1 in (
       search rules,
       elim c.if-weight-ne0.branch [
-        then-weight-ne0 way ↦ row_weighed pre.1 pre.0 (omega arith) added way.i32_to_i64-then-weight-ne0.ensures way.row_place-base.ensures way.with_row-form.ensures way.form-is
-      | else-weight-ne0 way ↦ row_skipped pre.1 pre.0 (omega arith) added way.if-weight-ne0.false way.form-is
+        | then-weight-ne0 way ↦ row_weighed pre.1 pre.0 (omega arith) added way.i32_to_i64-then-weight-ne0.ensures way.row_place-base.ensures way.with_row-form.ensures way.form-is
+        | else-weight-ne0 way ↦ row_skipped pre.1 pre.0 (omega arith) added way.if-weight-ne0.false way.form-is
       ],
     )
 

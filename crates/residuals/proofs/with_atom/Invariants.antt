@@ -1,8 +1,6 @@
-use mathlib.Core.Logic.{⊎_elim}
 use Prim.Native.Nat.{◌-◌, ◌≤◌}
-use native.Mathlib.Omega.{arith}
 use Rattle.residuals.specs.Sums.{width}
-use Rattle.residuals.proofs.Sums.{RowsAdded, constant_requires, rows_none, row_requires, row_weighed, row_skipped, atom_done}
+use Rattle.residuals.proofs.Sums.{RowsAdded}
 use Rattle.residuals.proofs.with_atom.Given as goal
 
 abbrev pub invariant-loop-k : goal.invariant-loop-k

@@ -1,7 +1,5 @@
 -- `rules::add_slots` meets its contract. Assumes nothing.
-use Prim.Native.Nat.{◌-◌, ◌≤◌}
 use borrow.Author.Rules.{rules}
-use Rattle.rules.specs.Ends.{SlotsAdded}
 use Rattle.rules.proofs.AddedSlots.{slots_none, slots_more, slots_all}
 use Rattle.rules.proofs.add_slots.Goals as goal
 

@@ -1,6 +1,5 @@
 use Prim.Native.Nat.{◌-◌, ◌≤◌}
 use Rattle.rules.specs.Ends.{SlotsAdded}
-use Rattle.rules.proofs.AddedSlots.{slots_none, slots_more, slots_all}
 use Rattle.rules.proofs.add_slots.Given as goal
 
 abbrev pub invariant-loop-j : goal.invariant-loop-j

@@ -1,7 +1,5 @@
 -- `terms::clear_row` meets its contract: the counts passed are 0, and nothing else has changed. Assumes nothing.
-use Prim.Native.Nat.{◌-◌, ◌≤◌}
 use Rattle.terms.proofs.RowStores.{cleared_none, cleared_more, cleared_all}
-use Rattle.terms.specs.Rows.{Cleared}
 use borrow.Author.Rules.{rules}
 use Rattle.terms.proofs.clear_row.Goals as goal
 

@@ -1,5 +1,4 @@
 use Prim.Native.Nat.{◌-◌, ◌≤◌}
-use Rattle.terms.proofs.RowStores.{cleared_none, cleared_more, cleared_all}
 use Rattle.terms.specs.Rows.{Cleared}
 use Rattle.terms.proofs.clear_row.Given as goal
 

@@ -1,6 +1,5 @@
 -- `terms::count_occurrences` meets its contract: the variables at the places passed are counted. Assumes nothing.
-use Prim.Native.Nat.{◌-◌}
-use Rattle.terms.proofs.PlaceLoop.{Counting, counting_none, counting_small, counting_more, counting_all}
+use Rattle.terms.proofs.PlaceLoop.{counting_none, counting_small, counting_more, counting_all}
 use borrow.Author.Rules.{rules}
 use Rattle.terms.proofs.count_occurrences.Goals as goal
 

@@ -1,5 +1,5 @@
 use Prim.Native.Nat.{◌-◌}
-use Rattle.terms.proofs.PlaceLoop.{Counting, counting_none, counting_small, counting_more, counting_all}
+use Rattle.terms.proofs.PlaceLoop.{Counting}
 use Rattle.terms.proofs.count_occurrences.Given as goal
 
 abbrev pub invariant-loop-counted : goal.invariant-loop-counted

@@ -1,6 +1,5 @@
 -- `terms::sum_of_arities` meets its contract: the arities passed are summed. Assumes nothing.
-use Prim.Native.Nat.{◌-◌}
-use Rattle.terms.proofs.AritySums.{Summing, summing_none, summing_more, summing_all, summing_fits}
+use Rattle.terms.proofs.AritySums.{summing_none, summing_more, summing_all, summing_fits}
 use borrow.Author.Rules.{rules}
 use Rattle.terms.proofs.sum_of_arities.Goals as goal
 

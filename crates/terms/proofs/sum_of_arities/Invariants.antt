@@ -1,5 +1,5 @@
 use Prim.Native.Nat.{◌-◌}
-use Rattle.terms.proofs.AritySums.{Summing, summing_none, summing_more, summing_all, summing_fits}
+use Rattle.terms.proofs.AritySums.{Summing}
 use Rattle.terms.proofs.sum_of_arities.Given as goal
 
 abbrev pub invariant-loop-i : goal.invariant-loop-i

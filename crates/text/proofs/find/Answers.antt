@@ -1,11 +1,5 @@
 -- `text::find` meets its contract: what was passed is free of the byte. Assumes nothing.
-use mathlib.Core.Path.{◌≡◌}
-use mathlib.Core.Bool.{true}
-use Prim.Native.Nat.{◌-◌, ◌≤◌}
-use lib.ListN.{length}
 use borrow.Author.Rules.{rules}
-use Rattle.theory.proofs.Reading.Separators.{is_free}
-use Rattle.text.specs.Scans.{part}
 use Rattle.text.proofs.Parts.{free_none, free_more}
 use Rattle.text.proofs.Blocks.{block_found, block_passed}
 use Rattle.text.proofs.find.Goals as goal

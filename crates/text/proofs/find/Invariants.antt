@@ -4,8 +4,6 @@ use Prim.Native.Nat.{◌-◌, ◌≤◌}
 use lib.ListN.{length}
 use Rattle.theory.proofs.Reading.Separators.{is_free}
 use Rattle.text.specs.Scans.{part}
-use Rattle.text.proofs.Parts.{free_none, free_more}
-use Rattle.text.proofs.Blocks.{block_found, block_passed}
 use Rattle.text.proofs.find.Given as goal
 
 -- `text::find` meets its contract: what was passed is free of the byte. Assumes nothing.

@@ -1,11 +1,5 @@
 -- `text::find_far` meets its contract: what was passed is free of the byte. Assumes nothing.
-use mathlib.Core.Path.{◌≡◌}
-use mathlib.Core.Bool.{true}
-use Prim.Native.Nat.{◌-◌, ◌≤◌}
-use lib.ListN.{length}
 use borrow.Author.Rules.{rules}
-use Rattle.theory.proofs.Reading.Separators.{is_free}
-use Rattle.text.specs.Scans.{part}
 use Rattle.text.proofs.Parts.{free_none}
 use Rattle.text.proofs.Blocks.{block_found, block_passed, found_after}
 use Rattle.text.proofs.find_far.Goals as goal

@@ -1,8 +1,6 @@
 -- `text::is_unfit` meets its contract: the flag and the bytes from the place on tell whether a byte is outside 32 to 126. Assumes nothing.
-use Prim.Native.Nat.{◌-◌}
-use lib.ListN.{length}
 use borrow.Author.Rules.{rules}
-use Rattle.text.proofs.Fitness.{Scanned, unfit_long, scanned_none, scanned_more, scanned_all}
+use Rattle.text.proofs.Fitness.{unfit_long, scanned_none, scanned_more, scanned_all}
 use Rattle.text.proofs.is_unfit.Goals as goal
 
 pub returns-then-line-gt1024 : goal.returns-then-line-gt1024

@@ -1,6 +1,6 @@
 use Prim.Native.Nat.{◌-◌}
 use lib.ListN.{length}
-use Rattle.text.proofs.Fitness.{Scanned, unfit_long, scanned_none, scanned_more, scanned_all}
+use Rattle.text.proofs.Fitness.{Scanned}
 use Rattle.text.proofs.is_unfit.Given as goal
 
 -- `text::is_unfit` meets its contract: the flag and the bytes from the place on tell whether a byte is outside 32 to 126. Assumes nothing.

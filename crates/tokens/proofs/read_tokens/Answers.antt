@@ -1,10 +1,8 @@
 -- `tokens::read_tokens` meets its contract: the rows hold the arities and places of the tokens before the place, and those from it on, with so many terms wanted, decide whether the field is a term. Assumes nothing.
-use Prim.Native.Nat.{◌+◌, ◌-◌}
-use lib.ListN.{length}
 use Rattle.groundwork.proofs.Truth.{not-true, not-false}
 use Rattle.tokens.proofs.TokenEnds.{digit_inside, digit_from}
 use Rattle.tokens.proofs.NextTokens.{long_refused, letter_refused, arity_refused, symbol_found, variable_refused, variable_found}
-use Rattle.tokens.proofs.TokenLoop.{Reading, reading_none, read_unwanted, read_no_token, reading_symbol, reading_variable, read_all}
+use Rattle.tokens.proofs.TokenLoop.{reading_none, read_unwanted, read_no_token, reading_symbol, reading_variable, read_all}
 use borrow.Author.Rules.{rules}
 use Rattle.tokens.proofs.read_tokens.Goals as goal
 

@@ -1,9 +1,6 @@
 -- `words::place` meets its contract: the words stand at none of the places passed. Assumes nothing.
-use mathlib.Core.Logic.{⊎_elim}
-use Prim.Native.Nat.{◌-◌}
 use borrow.Author.Rules.{rules}
-use Rattle.words.specs.Words.{words_at}
-use Rattle.words.proofs.Places.{Missed, missed_none, missed_one, stands_nowhere, stands_here, same_words, other_first, other_second}
+use Rattle.words.proofs.Places.{missed_none, missed_one, stands_nowhere, stands_here, same_words, other_first, other_second}
 use Rattle.words.proofs.place.Goals as goal
 use Rattle.words.proofs.place.Goals.{else-names-i, then-names-i+else-names-i-2}
 

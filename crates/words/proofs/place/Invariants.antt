@@ -1,7 +1,6 @@
-use mathlib.Core.Logic.{⊎_elim}
 use Prim.Native.Nat.{◌-◌}
 use Rattle.words.specs.Words.{words_at}
-use Rattle.words.proofs.Places.{Missed, missed_none, missed_one, stands_nowhere, stands_here, same_words, other_first, other_second}
+use Rattle.words.proofs.Places.{Missed}
 use Rattle.words.proofs.place.Given as goal
 
 abbrev pub invariant-loop-i : goal.invariant-loop-i

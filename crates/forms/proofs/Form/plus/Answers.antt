@@ -1,11 +1,9 @@
 -- `Form::plus` meets its contract. The loop's invariant: each coefficient passed is the sum of the two.
-use mathlib.Core.Path.{◌≡◌}
-use Prim.Native.Nat.{ℕ, ◌-◌, ◌≤◌, ◌<◌}
 use native.Mathlib.Omega.{arith}
 use borrow.Author.Count.{below_none}
 use borrow.Author.Rules.{rules}
-use lib.IntN.{pos, ◌+ℤ◌}
-use lib.ListN.{length, get_or, length-set}
+use lib.IntN.{◌+ℤ◌}
+use lib.ListN.{length-set}
 use Rattle.forms.specs.Sums.{at}
 use Rattle.forms.proofs.Results.{constants_add, coefficients_add, rule_more}
 use Rattle.forms.proofs.Form.plus.Goals as goal

@@ -1,10 +1,8 @@
 use mathlib.Core.Path.{◌≡◌}
 use Prim.Native.Nat.{ℕ, ◌-◌, ◌≤◌, ◌<◌}
-use native.Mathlib.Omega.{arith}
 use lib.IntN.{pos, ◌+ℤ◌}
-use lib.ListN.{length, get_or, length-set}
+use lib.ListN.{length, get_or}
 use Rattle.forms.specs.Sums.{at}
-use Rattle.forms.proofs.Results.{constants_add, coefficients_add, rule_more}
 use Rattle.forms.proofs.Form.plus.Given as goal
 
 abbrev pub invariant-loop-i : goal.invariant-loop-i

@@ -1,13 +1,10 @@
 -- `Form::times` meets its contract. The loop's invariant: each coefficient passed is k times the form's.
-use mathlib.Core.Path.{◌≡◌, ◌∙◌}
-use Prim.Native.Nat.{ℕ, ◌-◌, ◌≤◌, ◌<◌}
+use mathlib.Core.Path.{◌∙◌}
 use native.Mathlib.Omega.{arith}
 use borrow.Author.Count.{below_none}
 use borrow.Author.Rules.{rules}
-use lib.IntN.{pos, ◌*ℤ◌}
-use lib.ListN.{length, get_or, length-set}
-use mir.Syntax.{w64}
-use mir.Val.{to_z}
+use lib.IntN.{◌*ℤ◌}
+use lib.ListN.{length-set}
 use Rattle.forms.specs.Sums.{at}
 use Rattle.forms.proofs.Results.{kept, constant_multiplies, coefficient_multiplies, rule_more}
 use Rattle.forms.proofs.Form.times.Goals as goal

@@ -1,12 +1,8 @@
-use mathlib.Core.Path.{◌≡◌, ◌∙◌}
+use mathlib.Core.Path.{◌≡◌}
 use Prim.Native.Nat.{ℕ, ◌-◌, ◌≤◌, ◌<◌}
-use native.Mathlib.Omega.{arith}
 use lib.IntN.{pos, ◌*ℤ◌}
-use lib.ListN.{length, get_or, length-set}
-use mir.Syntax.{w64}
-use mir.Val.{to_z}
+use lib.ListN.{length, get_or}
 use Rattle.forms.specs.Sums.{at}
-use Rattle.forms.proofs.Results.{kept, constant_multiplies, coefficient_multiplies, rule_more}
 use Rattle.forms.proofs.Form.times.Given as goal
 
 abbrev pub invariant-loop-i : goal.invariant-loop-i

@@ -1,8 +1,6 @@
 -- `tables::keys::place` meets its contract: the name with the arity stands at none of the places passed. Assumes nothing.
-use Prim.Native.Nat.{◌-◌}
 use borrow.Author.Rules.{rules}
-use Rattle.words.proofs.Places.{Missed, missed_none, stands_nowhere}
-use Rattle.tables.specs.Tables.{signature, signature_at}
+use Rattle.words.proofs.Places.{missed_none, stands_nowhere}
 use Rattle.tables.proofs.Signatures.{told_here, told_not_here}
 use Rattle.tables.proofs.keys.place.Goals as goal
 

@@ -1,7 +1,6 @@
 use Prim.Native.Nat.{◌-◌}
-use Rattle.words.proofs.Places.{Missed, missed_none, stands_nowhere}
+use Rattle.words.proofs.Places.{Missed}
 use Rattle.tables.specs.Tables.{signature, signature_at}
-use Rattle.tables.proofs.Signatures.{told_here, told_not_here}
 use Rattle.tables.proofs.keys.place.Given as goal
 
 abbrev pub invariant-loop-i : goal.invariant-loop-i

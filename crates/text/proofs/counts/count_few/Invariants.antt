@@ -1,7 +1,6 @@
-use mathlib.Core.Logic.{⊎_elim}
 use Prim.Native.Nat.{◌-◌}
 use lib.ListN.{length}
-use Rattle.text.proofs.CountLoops.{Counted, counted_none, counted_separator, counted_other, counts_parts}
+use Rattle.text.proofs.CountLoops.{Counted}
 use Rattle.text.proofs.counts.count_few.Given as goal
 
 -- `text::counts::count_few` meets its contract: what was found before the place, with the parts from it on, makes the parts. Assumes nothing.

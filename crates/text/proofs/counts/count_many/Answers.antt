@@ -1,8 +1,6 @@
 -- `text::counts::count_many` meets its contract: what was found before the place, with the parts from it on, makes the parts. Assumes nothing.
-use Prim.Native.Nat.{◌-◌}
-use lib.ListN.{length}
 use borrow.Author.Rules.{rules}
-use Rattle.text.proofs.CountLoops.{Counted, counted_none, counted_block, counted_all}
+use Rattle.text.proofs.CountLoops.{counted_none, counted_block, counted_all}
 use Rattle.text.proofs.counts.count_many.Goals as goal
 
 pub loop-i-init : goal.loop-i-init

@@ -1,6 +1,6 @@
 use Prim.Native.Nat.{◌-◌}
 use lib.ListN.{length}
-use Rattle.text.proofs.CountLoops.{Counted, counted_none, counted_block, counted_all}
+use Rattle.text.proofs.CountLoops.{Counted}
 use Rattle.text.proofs.counts.count_many.Given as goal
 
 -- `text::counts::count_many` meets its contract: what was found before the place, with the parts from it on, makes the parts. Assumes nothing.

@@ -1,8 +1,6 @@
 -- `text::plain::is_plain` meets its contract: the flag and the bytes from the place on tell whether all are plain. Assumes nothing.
-use Prim.Native.Nat.{◌-◌}
-use lib.ListN.{length}
 use borrow.Author.Rules.{rules}
-use Rattle.text.proofs.PlainBytes.{Passed, passed_none, passed_more, passed_all}
+use Rattle.text.proofs.PlainBytes.{passed_none, passed_more, passed_all}
 use Rattle.text.proofs.plain.is_plain.Goals as goal
 
 pub loop-i-init : goal.loop-i-init

@@ -1,6 +1,6 @@
 use Prim.Native.Nat.{◌-◌}
 use lib.ListN.{length}
-use Rattle.text.proofs.PlainBytes.{Passed, passed_none, passed_more, passed_all}
+use Rattle.text.proofs.PlainBytes.{Passed}
 use Rattle.text.proofs.plain.is_plain.Given as goal
 
 -- `text::plain::is_plain` meets its contract: the flag and the bytes from the place on tell whether all are plain. Assumes nothing.

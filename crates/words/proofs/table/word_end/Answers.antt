@@ -1,8 +1,6 @@
 -- `words::table::word_end` meets its contract: the bytes passed are those of a name. Assumes nothing.
-use Prim.Native.Nat.{◌-◌}
-use lib.ListN.{length}
 use borrow.Author.Rules.{rules}
-use Rattle.words.proofs.WordEnds.{Named, named_none, named_more, named_ended, named_all}
+use Rattle.words.proofs.WordEnds.{named_none, named_more, named_ended, named_all}
 use Rattle.words.proofs.table.word_end.Goals as goal
 
 pub loop-i-init : goal.loop-i-init

@@ -1,6 +1,6 @@
 use Prim.Native.Nat.{◌-◌}
 use lib.ListN.{length}
-use Rattle.words.proofs.WordEnds.{Named, named_none, named_more, named_ended, named_all}
+use Rattle.words.proofs.WordEnds.{Named}
 use Rattle.words.proofs.table.word_end.Given as goal
 
 abbrev pub invariant-loop-i : goal.invariant-loop-i
