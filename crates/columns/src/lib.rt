@@ -23,7 +23,7 @@ fn put_name(page: &mut [u8], width: usize, name: &[u8]) -> usize
     ensures { Puts (left_aligned width name.now ++ (32 ∷ [])) page.old page.new result }
 {
     let end = name.len();
-    page[..end].copy_from_slice(name);
+    pages::copy_over(name, &mut page[..end]);
     pages::put_spaces(&mut page[end..width + 1]);
     width + 1
 }

@@ -42,4 +42,4 @@ module _ (input : Bytes) where
       let numbered = is ∙ held.judged in
       let lines = printed_queries text (lines_of (drop end input)) in
       let printed = more.tells text held ∙ ap (λ (bs : Bytes). bs ++ lines) (front_numbers four numbered puts) ∙ append_assoc (printed_numbers (verdict_of text).returned) (10 ∷ []) lines in
-      (printed ∙ rw (le-ltb _ _ short, ends.pack, ends.asked) refl, omega (arith, more.small))
+      (printed ∙ simp (le-ltb _ _ short, ends.pack, ends.asked), omega (arith, more.small))

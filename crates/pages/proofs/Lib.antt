@@ -2,3 +2,4 @@
 pub mod Puts
 pub mod Writing
 pub mod Places
+pub mod Copying

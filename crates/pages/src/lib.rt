@@ -71,13 +71,25 @@ pub fn put_field(number: u64, after: u8, page: &mut [u8], to: usize) -> usize
     put_byte(after, page, end)
 }
 
+/// Copies a source over room that is as long as it. A loop, so that callers of the library need no memmove.
+pub fn copy_over(source: &[u8], room: &mut [u8])
+    requires { length room.old ≡ length source.now }
+    ensures { room.new ≡ source.now }
+{
+    let mut at: usize = 0;
+    while at < source.len() {
+        room[at] = source[at];
+        at += 1;
+    }
+}
+
 /// Copies a part of a text to a place on the page, and gives the place after it.
 pub fn put_part(text: &[u8], start: usize, end: usize, page: &mut [u8], to: usize) -> usize
     requires { (start ≤ end) × (end ≤ length text.now) × (to + (end - start) ≤ length page.old) }
     ensures { PutAt (part text.now start end) (end - start) page.old page.new to result }
 {
     let length = end - start;
-    page[to..to + length].copy_from_slice(&text[start..end]);
+    copy_over(&text[start..end], &mut page[to..to + length]);
     to + length
 }
 

@@ -1,4 +1,6 @@
 // Reserve: a query answered from the tables that a pack is loaded into.
+#![tactic(auto)]
+
 ghost use Rattle.std.specs.Prelude.{◌≡◌, ◌≤◌};
 ghost use Rattle.theory.specs.Check.{refusal_of};
 ghost use Rattle.theory.specs.Reserve.{reserve_of};

@@ -1,4 +1,6 @@
 // The sheet: the pack is loaded as check loads it, and one walk over the accepted text writes a line for each rule.
+#![tactic(auto)]
+
 ghost use Rattle.std.specs.Prelude.{◌≡◌};
 ghost use Rattle.theory.specs.Lists.{over};
 ghost use Rattle.theory.specs.Written.{pack_of};
