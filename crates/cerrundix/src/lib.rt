@@ -1,5 +1,7 @@
 // The calls as the terminal's firmware makes them, in C: document 01's three answer with one 64-bit word, the others with four
 // numbers.
+#![tactic(auto)]
+
 ghost use Rattle.std.specs.Prelude.{◌≡◌};
 ghost use Rattle.theory.specs.Words.{check_word, reserve_word, measure_word};
 ghost use Rattle.theory.specs.Check.{numbers, check_of};

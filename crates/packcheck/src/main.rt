@@ -1,5 +1,7 @@
 // The program: reads a pack and queries from standard input and prints check's numbers, then reserve's fields for each
 // query. The reply is one function of the input's bytes; `main` only reads and writes.
+#![tactic(auto)]
+
 ghost use Rattle.std.specs.Prelude.{◌≡◌, ◌≤◌, length, take};
 ghost use Rattle.theory.specs.Text.{Bytes};
 ghost use Rattle.theory.specs.Program.{reply};

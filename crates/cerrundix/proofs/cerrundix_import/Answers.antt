@@ -1,6 +1,5 @@
 -- `cerrundix::cerrundix_import` meets its contract. Assumes nothing.
 use mathlib.Core.Path.{◌∙◌}
-use borrow.Author.Rules.{rules}
 use Rattle.cerrundix.proofs.cerrundix_import.Goals as goal
 
 pub returns : goal.returns

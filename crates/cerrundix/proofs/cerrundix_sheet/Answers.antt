@@ -1,6 +1,5 @@
 -- `cerrundix::cerrundix_sheet` meets its contract. Assumes nothing.
 use mathlib.Core.Path.{◌∙◌}
-use borrow.Author.Rules.{rules}
 use Rattle.cerrundix.proofs.cerrundix_sheet.Goals as goal
 
 pub returns : goal.returns

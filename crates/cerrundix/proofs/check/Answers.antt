@@ -1,6 +1,5 @@
 -- `cerrundix::check` meets its contract. Assumes nothing.
 use mathlib.Core.Path.{◌∙◌, ap}
-use borrow.Author.Rules.{rules}
 use Rattle.theory.specs.Words.{check_word}
 use Rattle.cerrundix.proofs.check.Goals as goal
 

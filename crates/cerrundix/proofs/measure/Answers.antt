@@ -1,6 +1,5 @@
 -- `cerrundix::measure` meets its contract. Assumes nothing.
 use mathlib.Core.Path.{◌∙◌, ap}
-use borrow.Author.Rules.{rules}
 use Rattle.theory.specs.Words.{measure_word}
 use Rattle.cerrundix.proofs.measure.Goals as goal
 

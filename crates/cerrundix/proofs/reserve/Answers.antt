@@ -1,7 +1,6 @@
 -- `cerrundix::reserve` meets its contract. Assumes nothing.
 use mathlib.Core.Path.{◌∙◌, ap}
 use native.Mathlib.Omega.{arith}
-use borrow.Author.Rules.{rules}
 use Rattle.theory.specs.Words.{reserve_word}
 use Rattle.theory.specs.Reserve.{Fields}
 use Rattle.theory.proofs.Words.{reserved_room}

@@ -1,7 +1,6 @@
 -- `packcheck::put_queries` meets its contract. Assumes nothing.
-use Prim.Native.Nat.{◌+◌, ◌-◌}
 use borrow.Author.Rules.{rules}
-use Rattle.packcheck.proofs.QueryLines.{QueriesPut, queries_begin, queries_more, queries_done}
+use Rattle.packcheck.proofs.QueryLines.{queries_begin, queries_more, queries_done}
 use Rattle.packcheck.proofs.put_queries.Goals as goal
 
 pub loop-at-init : goal.loop-at-init

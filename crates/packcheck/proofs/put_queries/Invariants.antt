@@ -1,5 +1,5 @@
 use Prim.Native.Nat.{◌+◌, ◌-◌}
-use Rattle.packcheck.proofs.QueryLines.{QueriesPut, queries_begin, queries_more, queries_done}
+use Rattle.packcheck.proofs.QueryLines.{QueriesPut}
 use Rattle.packcheck.proofs.put_queries.Given as goal
 
 abbrev pub invariant-loop-at : goal.invariant-loop-at
