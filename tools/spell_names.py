@@ -76,6 +76,7 @@ def main(argv):
     by_port = collections.defaultdict(collections.Counter)  # older name to port.py's, by place
     names = set()  # older names
     goals = collections.defaultdict(set)  # names of goals by file
+    homes = collections.defaultdict(set)  # the crates that declare a name
     for path in antt_files():
         new_texts[path] = text_of(path)
         old_texts[path] = older(path)
@@ -93,6 +94,7 @@ def main(argv):
             else:
                 names.add(x)
                 by_port[x][y] += 1
+                homes[x].add(path.split("/")[1])
     # the new spelling of each older name; what falls together is told apart
     families = collections.defaultdict(set)
     for x in names:
@@ -207,10 +209,9 @@ def main(argv):
     if write:
         os.makedirs("docs/port", exist_ok=True)
         with open("docs/port/names.tsv", "w", encoding="utf-8") as f:
-            f.write("# Each name of the older spelling and what it is now, by port.py and tools/spell_names.py together.\n")
-            for x in sorted(both):
-                if x in names:
-                    f.write(f"{x}\t{both[x]}\n")
+            f.write("# crate, name of the older spelling, and what it is now: by port.py and tools/spell_names.py together\n")
+            for crate, x in sorted((crate, x) for x in names if x in both for crate in homes[x]):
+                f.write(f"{crate}\t{x}\t{both[x]}\n")
     print(f"spell_names: {len(both)} names, {changed} files" + ("" if write else "; nothing written"))
     # names that a file has twice over: imported or declared beside one of another module, or one of the code
     if write:
