@@ -86,6 +86,7 @@ def main(argv):
         for x in aliases(new_texts[path]):
             names.add(x)
             by_port[x][x] += 1
+            homes[x].add(path.split("/")[1])
         if len(a) != len(b):
             sys.exit(f"spell_names: {path}: {len(a)} declarations at HEAD, {len(b)} now")
         for (x, goal), (y, _) in zip(a, b):
