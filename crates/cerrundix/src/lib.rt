@@ -1,5 +1,5 @@
-// The calls as the terminal's firmware makes them, in C: document 01's three answer with one 64-bit word, the others with four
-// numbers.
+// The calls as the terminal's firmware makes them: document 01's three answer with one 64-bit word, the others with four
+// numbers. The crate cerrundix_c exports them to C.
 #![tactic(auto)]
 
 ghost use Rattle.std.specs.Prelude.{◌≡◌};
@@ -14,32 +14,28 @@ use answers::Answer;
 
 /// Checks a pack: the word of check's four numbers. For an unjustified claim the area's first 17 numbers are the
 /// residual; otherwise the area stays.
-#[unsafe(no_mangle)]
-pub extern "C" fn check(text: &[u8], area: &mut [i64]) -> u64
+pub fn check(text: &[u8], area: &mut [i64]) -> u64
     ensures { (result ≡ check_word (check_of text.now area.old).returned) × (area.new ≡ (check_of text.now area.old).area) }
 {
     answers::check_word(answers::numbers_of(packs::check(text, area)))
 }
 
 /// Reserves by a pack and a query: the word of the letter, the claim and the middle field.
-#[unsafe(no_mangle)]
-pub extern "C" fn reserve(text: &[u8], query: &[u8]) -> u64
+pub fn reserve(text: &[u8], query: &[u8]) -> u64
     ensures { result ≡ reserve_word (reserve_of text.now query.now) }
 {
     answers::reserve_word(answers::fields_of(reservation::reserve(text, query)))
 }
 
 /// Measures a ground term: the word of the refusal, or 0, and the size.
-#[unsafe(no_mangle)]
-pub extern "C" fn measure(term: &[u8]) -> u64
+pub fn measure(term: &[u8]) -> u64
     ensures { result ≡ measure_word (measure_of term.now) }
 {
     answers::measure_word(answers::measured_of(terms::measure(term)))
 }
 
 /// Writes the sheet of a pack on a page: 65 bytes for each rule. A refusal leaves the page as it is.
-#[unsafe(no_mangle)]
-pub extern "C" fn cerrundix_sheet(text: &[u8], page: &mut [u8]) -> Answer
+pub fn cerrundix_sheet(text: &[u8], page: &mut [u8]) -> Answer
     ensures { (numbers result.number result.line result.rule result.claim ≡ (sheet_of text.now page.old).returned) × (page.new ≡ (sheet_of text.now page.old).page) }
 {
     answers::four_numbers(answers::filing_numbers(sheets::sheet(text, page)))
@@ -47,8 +43,7 @@ pub extern "C" fn cerrundix_sheet(text: &[u8], page: &mut [u8]) -> Answer
 
 /// Imports a clause text: an `H` line and `B` lines for each clause, at the front of a buffer. A refusal leaves the buffer as
 /// it is.
-#[unsafe(no_mangle)]
-pub extern "C" fn cerrundix_import(text: &[u8], buffer: &mut [u8]) -> Answer
+pub fn cerrundix_import(text: &[u8], buffer: &mut [u8]) -> Answer
     ensures { (numbers result.number result.line result.rule result.claim ≡ (import_of text.now buffer.old).returned) × (buffer.new ≡ (import_of text.now buffer.old).page) }
 {
     answers::import_numbers(imports::import(text, buffer))
