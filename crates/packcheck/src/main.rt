@@ -95,9 +95,15 @@ pub fn reply(input: &[u8]) -> Printed
     Printed { page, length }
 }
 
+// Writes a reply. A function of its own, so that `main` keeps no second copy of the page on the stack.
+fn print(rt: &HostRuntime, printed: Printed) -> io::Result<()>
+    requires { printed.length ≤ length printed.page }
+{
+    io::writer(rt).write_all(&printed.page[..printed.length])
+}
+
 fn main(rt: HostRuntime) -> io::Result<()> {
     let mut input = input_room();
     let n = streams::read_full(&mut rt.reader(), &mut input)?;
-    let r = reply(&input[..n]);
-    io::writer(&rt).write_all(&r.page[..r.length])
+    print(&rt, reply(&input[..n]))
 }
