@@ -14,7 +14,7 @@ use Rattle.theory.specs.Terms.{Term, Terms, symbol, nil, cons}
 use Rattle.theory.specs.Terms as Terms
 use Rattle.clause_theory.specs.ClauseTokens.{name, variable, opens, closes, comma, neck, stop, stray}
 use Rattle.clause_theory.specs.ClauseTokens as T
-use Rattle.clause_theory.specs.Clauses.{Clause, Open, ending_term, Last, due, read, is_due, state, step_due, step_opens, step_atom, step_argument, step_read, step_after, step}
+use Rattle.clause_theory.specs.Clauses.{State, Clause, Open, ending_term, Last, due, read, is_due, state, step_due, step_opens, step_atom, step_argument, step_read, step_after, step}
 use Rattle.clause_tokens.specs.NextTokens.{Seen, seen_name, seen_variable, seen_lone, seen_sign, sign_opens, sign_closes, sign_comma, sign_neck, sign_stop, sign_stray}
 use Rattle.clause_tokens.specs.declared.Mark.{Mark}
 use Rattle.clause_tokens.specs.declared.Mark.TheVariants.{Name, Opens, Closes, Comma, Neck, Stop, Nothing}
@@ -200,6 +200,9 @@ ending_compound t (cons u us) = is_compound
 kind_is : {mark k : Mark} (j : ℕ) (r : Standing) → mark ≡ k → tag_of the_type k ≡ j → (j ≡ 9 → ⊥) → mark ≡ Nothing → r.last ≡ 3
 kind_is j r is tag other empty = absurd (other (sym tag ∙ ap (tag_of the_type) (sym is ∙ empty)))
 
+same : {last depth : ℕ} {body : Bool} (r : Standing) → r.last ≡ last → r.depth ≡ depth → r.body ≡ body → standing last depth body ≡ r
+same r a b c = search (sym a, sym b, sym c)
+
 module _ {last depth : ℕ} {body : Bool} {mark : Mark} where
   -- by the parts of the state
   advance_by : (r : Standing) → r.depth ≤ depth + 1 → (mark ≡ Nothing → r.last ≡ 3)
@@ -248,6 +251,13 @@ module _ {last depth : ℕ} {body : Bool} {mark : Mark} where
         advance_by r (omega arith) (kind_is 3 r is refl (λ e. omega arith)) (λ x m seen before opened l li d b.
         by_opens (λ k. StepIs (step_after before opened l k) r) (subst (λ k. Seen x k m) is seen)
         (opens_goes before r opened li h (λ f. record { last_is = is_due_lem; depth_is = omega (arith, d); body_is = b })))
+
+  -- `(` by a step's own parts, for tactics: they are to find it under whatever name the branch has
+  pub opens_refuses_by : {s : State} {x : Bytes} {m : T.Mark} {r : Standing} → mark ≡ Opens → (last ≡ 1 → ⊥) → Stands s last depth body → Seen x mark m → r.last ≡ 3 → r.depth ≡ 0 → StepIs (step s m) r
+  opens_refuses_by is h stands seen three zero = (opens_not is h three zero).steps stands seen
+
+  pub opens_goes_by : {s : State} {x : Bytes} {m : T.Mark} {r : Standing} → mark ≡ Opens → last ≡ 1 → Stands s last depth body → Seen x mark m → r.last ≡ 0 → r.depth ≡ depth + 1 → r.body ≡ body → StepIs (step s m) r
+  opens_goes_by {s} {x} {m} {r} is h stands seen a b c = subst (λ q. StepIs (step s m) q) (same r a b c) ((opens_read is h).steps stands seen)
 
   module _ (is : mark ≡ Closes) where
     pub closes_not : {r : Standing} → (eqb last 0 || eqb depth 0) ≡ true → r.last ≡ 3 → r.depth ≡ 0 → Advances last depth body mark r

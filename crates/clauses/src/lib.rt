@@ -29,6 +29,7 @@ fn refused() -> Standing
 }
 
 /// Where a token leads.
+#[tactic(auto, using(crate::proofs::Advancing::opens_refuses_by, crate::proofs::Advancing::opens_goes_by))]
 fn advance(last: u8, depth: usize, body: bool, mark: Mark) -> Standing
     requires { depth + 1 < 18446744073709551616 }
     ensures { Advances last depth body mark result }

@@ -36,6 +36,7 @@ pub fn answer(
 }
 
 /// Answers a query by a pack that is loaded: the pack's refusal, or the query's, or what the claims give.
+#[tactic(auto, using(crate::proofs::QueryAnswers::refused_pack))]
 pub fn respond(
     verdict: Verdict,
     query: &[u8],

@@ -44,6 +44,7 @@ pub fn lacks_room(left: usize, used: usize, count: usize) -> bool
 }
 
 /// The letter of a clause's line: the first is the head's.
+#[tactic(auto, using(crate::proofs::Drawing::letter_head, crate::proofs::Drawing::letter_subgoal))]
 fn letter(atoms: usize) -> u8
     ensures { LetterIs atoms result }
 {

@@ -1,5 +1,5 @@
 -- `clauses::advance` meets its contract. Assumes nothing.
-use Rattle.clauses.proofs.Advancing.{name_not, name_read, variable_not, variable_read, opens_not, opens_read, closes_not, closes_deep, closes_read, comma_not, comma_read, neck_not, neck_read, stop_not, stop_read, stray_not}
+use Rattle.clauses.proofs.Advancing.{name_not, name_read, variable_not, variable_read, closes_not, closes_deep, closes_read, comma_not, comma_read, neck_not, neck_read, stop_not, stop_read, stray_not}
 use borrow.Author.Rules.{rules}
 use Rattle.clauses.proofs.advance.Goals as goal
 
@@ -8,9 +8,6 @@ returns-then-last-ne0 c = search (rules, name_not)
 
 pub returns-then-last-depth : goal.returns-then-last-depth
 returns-then-last-depth c = search (rules, variable_not)
-
-pub returns-then-last-ne1 : goal.returns-then-last-ne1
-returns-then-last-ne1 c = search (rules, opens_not)
 
 pub returns-then-last-depth-2 : goal.returns-then-last-depth-2
 returns-then-last-depth-2 c = search (rules, closes_not)
@@ -32,9 +29,6 @@ returns-else-last-ne0 c = search (rules, name_read)
 
 pub returns-else-last-depth : goal.returns-else-last-depth
 returns-else-last-depth c = search (rules, variable_read)
-
-pub returns-else-last-ne1 : goal.returns-else-last-ne1
-returns-else-last-ne1 c = search (rules, opens_read)
 
 pub returns-else-last-depth-2 : goal.returns-else-last-depth-2
 returns-else-last-depth-2 c = search (rules, closes_read)

@@ -1,6 +1,7 @@
 -- `packcheck::reply` meets its contract. Assumes nothing.
 use mathlib.Core.Path.{sym}
 use lib.Seq.{length-take-le}
+use Rattle.std.proofs.Common.{arith}
 use borrow.Author.Rules.{rules}
 use Rattle.packs.proofs.FreshTables.{fresh_made}
 use Rattle.reservation.proofs.QueryAnswers.{pack_ready, pack_held}
@@ -15,7 +16,7 @@ slice_bounds-load-end c = sym (length-take-le _ _ c.pack_end-end.ensures.within)
 
 pub put_queries-length-requires : goal.put_queries-length-requires
 put_queries-length-requires c = (
-  c.if-input-gt65536.false,
+  omega arith,
   c.pack_end-end.ensures.within,
   c.put_numbers-written.ensures.1,
   search rules,
@@ -25,7 +26,7 @@ put_queries-length-requires c = (
 
 pub returns : goal.returns
 returns c =
-    whole_reply _ c.numbers_of.result c.if-input-gt65536.false c.pack_end-end.ensures (pack_held c.load-l.ensures) c.numbers_of.ensures c.put_numbers-written.ensures.0 c.put_queries-length.ensures (search rules)
+    whole_reply _ c.numbers_of.result (omega arith) c.pack_end-end.ensures (pack_held c.load-l.ensures) c.numbers_of.ensures c.put_numbers-written.ensures.0 c.put_queries-length.ensures (search rules)
 
 pub load-l-requires : goal.load-l-requires
 load-l-requires c = search (rules, fresh_made)

@@ -1,5 +1,5 @@
 -- `reservation::respond` meets its contract. Assumes nothing.
-use Rattle.reservation.proofs.QueryAnswers.{refused_pack, ready_accepted, answered_pack}
+use Rattle.reservation.proofs.QueryAnswers.{ready_accepted, answered_pack}
 use borrow.Author.Rules.{rules}
 use Rattle.reservation.proofs.respond.Goals as goal
 
@@ -8,6 +8,3 @@ answer-requires c = ready_accepted c.requires c.in-Accepted.is
 
 pub returns-in-Accepted : goal.returns-in-Accepted
 returns-in-Accepted c = search (rules, answered_pack)
-
-pub returns-in-Refused : goal.returns-in-Refused
-returns-in-Refused c = search (rules, refused_pack)
