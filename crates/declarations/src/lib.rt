@@ -68,6 +68,7 @@ fn lay(claims: &mut Claims, at: usize, row: &[i16; 9], arity: usize)
 }
 
 /// The predicates that owe a rule, with one claim more: its predicate is among them unless its mark says that it is given.
+#[tactic(auto, using(crate::proofs::OwedRules::owing_given))]
 fn owing_with(owing: PredicateSet, place: usize, mark: u8) -> PredicateSet
     requires { place < 32 }
     ensures { result ≡ owing_with owing place mark }
@@ -79,6 +80,7 @@ fn owing_with(owing: PredicateSet, place: usize, mark: u8) -> PredicateSet
 }
 
 /// The end of a `C` line: the claim is put after the others on its predicate.
+#[tactic(auto, using(crate::proofs::Laying::claim_refused))]
 pub fn close_claim(
     o: Opened,
     state: State,

@@ -48,6 +48,7 @@ fn is_met(claims: &Claims, predicate: usize, count: usize, arity: usize, rows: &
 }
 
 /// The end of a `G` line. Of the fact only that its predicate has one is kept.
+#[tactic(auto, using(crate::proofs::Ends::not_ground_lem))]
 pub fn close_fact(
     o: Opened,
     state: State,

@@ -30,6 +30,7 @@ fn digit(b: u8) -> u32
 }
 
 /// A number from 0 to a limit, without leading zeros.
+#[tactic(auto, using(crate::proofs::NaturalReading::natural_of_zeros))]
 pub fn read_natural(field: &[u8], limit: u32) -> Natural
     requires { limit ≤ 99999 }
     ensures { natural_of result ≡ natural limit field.now }

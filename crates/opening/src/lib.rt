@@ -231,6 +231,7 @@ fn barred_fault(letter: Letter) -> Fault
 
 /// A line that declares a predicate, where none is declared under its name and arity: its count of fields, its arity and its
 /// kind. No field is left to be read one by one.
+#[tactic(auto, using(crate::proofs::Declarations::new_miscounted))]
 fn open_declaration(
     line: &[u8],
     known: usize,

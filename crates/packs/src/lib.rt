@@ -112,6 +112,7 @@ fn is_unjustified(fault: Fault) -> bool
 }
 
 /// Judges a text and fills the tables, which are empty at first, with what its lines write.
+#[tactic(auto, using(crate::proofs::LoadAnswers::long_text_lem))]
 pub fn load(
     text: &[u8],
     names: &mut Names,

@@ -110,3 +110,7 @@ module _ {rows : List ℕ} {width base : ℕ} {row : Form} (read : FormAt rows w
 
     pub row_added : {f r : Form} {kept : ℤ} → weight ≡ kept → Sum f product r → WithRow f rows width base kept r
     row_added {f} same sum = rw (← same) (record { number = λ i h. sum_number sum i h ∙ ap (λ (z : ℤ). number_at f i +ℤ z) (product_number i h) })
+
+-- in a rule of at most eight variables
+pub narrow_added : {rows : List ℕ} {variables base : ℕ} {f row product r : Form} {weight : ℤ} → variables ≤ 8 → nat_abs weight ≤ 2 ^ 36 → FormAt rows 8 base row → Multiple row (kept_at w64 weight) product → Sum f product r → WithRow f rows (width variables) base weight r
+narrow_added {variables = variables} {weight = weight} few small read multiple sum = rw (width_narrow variables few) (row_added read multiple (small_kept w64 weight (omega arith)) sum)

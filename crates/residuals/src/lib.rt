@@ -29,6 +29,7 @@ fn form_at(rows: &Rows, base: usize, width: usize) -> Form
 
 /// A form with a row of the table added, times its weight, in a rule of so many variables. Most rules have at most eight, for
 /// which half of a row is looked at.
+#[tactic(auto, using(crate::proofs::Rows::narrow_added))]
 fn with_row(form: Form, rows: &Rows, base: usize, weight: i64, variables: usize) -> Form
     requires { (base + 17 ≤ 1224) × (SafeRows rows.now) × (Within (2 ^ 61) form) × (nat_abs weight ≤ 2 ^ 36) }
     ensures { WithRow form rows.now (width variables) base weight result }

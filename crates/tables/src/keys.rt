@@ -24,6 +24,7 @@ pub fn arity_by(commas: usize, besides: usize) -> usize
 }
 
 /// Whether the predicate of a name and an arity stands at a place.
+#[tactic(auto, using(crate::proofs::Signatures::other_arity))]
 fn is_at(names: &Names, signatures: &Signatures, place: usize, words: Words, arity: usize) -> bool
     requires { place < 32 }
     ensures { Decides result (signature_at names.now signatures.now place ≡ signature words arity) }

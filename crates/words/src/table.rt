@@ -48,6 +48,7 @@ pub fn word_end(bytes: &[u8], from: usize, classes: &[u8; 256]) -> usize
 }
 
 /// A field as a word: a name, a variable or neither.
+#[tactic(auto, using(crate::proofs::FieldWords::field_long))]
 pub fn word_of(field: &[u8], classes: &[u8; 256]) -> Word
     requires { Classes classes.now }
     ensures { WordRead field.now result }

@@ -1,10 +1,7 @@
 -- `declarations::close_claim` meets its contract. Assumes nothing.
 use borrow.Author.Rules.{rules}
-use Rattle.declarations.proofs.Laying.{claim_refused, claim_added}
+use Rattle.declarations.proofs.Laying.{claim_added}
 use Rattle.declarations.proofs.close_claim.Goals as goal
-
-pub returns-then-count-ge-CLAIMS : goal.returns-then-count-ge-CLAIMS
-returns-then-count-ge-CLAIMS c = search (rules, claim_refused)
 
 pub returns : goal.returns
 returns c = search (rules, claim_added)

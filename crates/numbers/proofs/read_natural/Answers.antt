@@ -2,14 +2,11 @@
 use mathlib.Core.Path.{refl}
 use borrow.Author.Rules.{rules}
 use Rattle.std.proofs.Common.{arith}
-use Rattle.numbers.proofs.NaturalReading.{decimal_one, decimal_more, natural_of_none, natural_of_zeros, reading_low, reading_high, reading_over, reading_more, reading_all}
+use Rattle.numbers.proofs.NaturalReading.{decimal_one, decimal_more, natural_of_none, reading_low, reading_high, reading_over, reading_more, reading_all}
 use Rattle.numbers.proofs.read_natural.Goals as goal
 
 pub returns-then-n-eq0 : goal.returns-then-n-eq0
 returns-then-n-eq0 c = search (rules, natural_of_none)
-
-pub returns-then-field-eq48 : goal.returns-then-field-eq48
-returns-then-field-eq48 c = search (rules, natural_of_zeros)
 
 pub loop-i-init : goal.loop-i-init
 loop-i-init c = let b = c.if-n-gt1.branch in record { high = omega arith; small = omega arith; formed = grind (arith, decimal_one c.args.field.now, decimal_more c.args.field.now); worth = refl }

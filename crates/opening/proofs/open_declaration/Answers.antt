@@ -1,10 +1,7 @@
 -- `opening::open_declaration` meets its contract. Assumes nothing.
 use borrow.Author.Rules.{rules}
-use Rattle.opening.proofs.Declarations.{new_miscounted, new_malformed, new_kindless, new_declared}
+use Rattle.opening.proofs.Declarations.{new_malformed, new_kindless, new_declared}
 use Rattle.opening.proofs.open_declaration.Goals as goal
-
-pub returns-then-commas-ne3 : goal.returns-then-commas-ne3
-returns-then-commas-ne3 c = search (rules, new_miscounted)
 
 pub returns-then-arity-ge-NO_ARITY : goal.returns-then-arity-ge-NO_ARITY
 returns-then-arity-ge-NO_ARITY c = search (rules, new_malformed)

@@ -1,13 +1,10 @@
 -- `words::table::word_of` meets its contract. Assumes nothing.
 use borrow.Author.Rules.{rules}
-use Rattle.words.proofs.FieldWords.{field_empty, field_long, field_refused, field_name, field_variable, field_other}
+use Rattle.words.proofs.FieldWords.{field_empty, field_refused, field_name, field_variable, field_other}
 use Rattle.words.proofs.table.word_of.Goals as goal
 
 pub returns-then-count-eq0 : goal.returns-then-count-eq0
 returns-then-count-eq0 c = search (rules, field_empty)
-
-pub returns-then-count-gt16 : goal.returns-then-count-gt16
-returns-then-count-gt16 c = search (rules, field_long)
 
 pub returns-then-word_end-count : goal.returns-then-word_end-count
 returns-then-word_end-count c = search (rules, field_refused)
