@@ -20,7 +20,7 @@ pub returns-then-taken-eq26 : goal.returns-then-taken-eq26
 returns-then-taken-eq26 c = search (rules, judged_past)
 
 pub returns-then-room-bytes : goal.returns-then-room-bytes
-returns-then-room-bytes c = search (rules, judged_full)
+returns-then-room-bytes c = judged_full c.args.text.now c.args.room c.loop-names.invariant.1 c.take_clause-taken.result c.take_clause-taken.ensures.2 c.if-taken-eq25.false c.if-taken-eq26.false c.if-room-bytes.true
 
 pub loop-names-smaller : goal.loop-names-smaller
 loop-names-smaller c = search (rules, judged_less)
