@@ -2,6 +2,7 @@
 use mathlib.Core.Path.{◌≡◌, refl}
 use mathlib.Core.List.{List, [], ◌∷◌, ◌++◌, map}
 use Prim.Native.Nat.{ℕ}
+use Rattle.std.specs.Prelude.{Ok, Err}
 use Prim.Native.Char.{code}
 use Prim.Native.String.{String}
 use lib.ListN.{replicate}
@@ -15,7 +16,7 @@ use Rattle.theory.specs.Pages.{Paged, paged}
 use Rattle.clause_theory.specs.ClauseTokens.{is_layout, run, is_neck, is_stop, bytes_after, sign_of, mark_of, tokens_from}
 use Rattle.clause_theory.specs.Clauses.{ending_term, begin, is_due, is_begin, atom_of, added, step_due, step_opens, step_atom, step_argument, step_read, step_after, step}
 use Rattle.clause_theory.specs.Import.{lones, numbered_variable, lowest_from, fresh_variable, fresh_variables, filled_term, filled_atom, filled_atoms, filled, clause_lines, term_fits, atom_fits, clause_fits, import_from, import_of}
-use Rattle.clause_theory.specs.declared.Importation.TheVariants.{Imported, NoClauses, OverLimit, ShortBuffer}
+use Rattle.clause_theory.specs.declared.ImportRefusal.TheVariants.{NoClauses, OverLimit, ShortBuffer}
 use Rattle.clause_theory.specs.Importations.{import_numbers}
 use Rattle.clause_theory.specs.Imported.{refusal}
 
@@ -102,10 +103,10 @@ imports_are_met = refl
 
 -- the numbers of each case of the answer
 pub record ImportationsMet : Type 0 where
-  pub imported : import_numbers (Imported 3 40) ≡ numbers 0 3 40 0
-  pub no_clauses : import_numbers (NoClauses 40) ≡ numbers 25 40 0 0
-  pub over_limit : import_numbers (OverLimit 3) ≡ numbers 26 3 0 0
-  pub short_buffer : import_numbers (ShortBuffer 3) ≡ numbers 27 3 0 0
+  pub imported : import_numbers (Ok (record { clauses = 3; bytes = 40 })) ≡ numbers 0 3 40 0
+  pub no_clauses : import_numbers (Err (NoClauses 40)) ≡ numbers 25 40 0 0
+  pub over_limit : import_numbers (Err (OverLimit 3)) ≡ numbers 26 3 0 0
+  pub short_buffer : import_numbers (Err (ShortBuffer 3)) ≡ numbers 27 3 0 0
 
 pub importations_are_met : ImportationsMet
 importations_are_met = record { imported = refl; no_clauses = refl; over_limit = refl; short_buffer = refl }

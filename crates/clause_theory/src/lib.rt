@@ -1,11 +1,16 @@
-// The answer of import as a type. What each case means is said once, in specs/Importations.antt.
+// The answer of import as types. What each case means is said once, in specs/Importations.antt.
 #![tactic(auto)]
 
-/// What import answers.
+/// What import has put into the buffer: the lines of how many clauses, and how many bytes these are.
 #[derive(Clone, Copy)]
-pub enum Importation {
-    /// The lines are in the buffer: how many clauses, and how many bytes.
-    Imported(usize, usize),
+pub struct Imported {
+    pub clauses: usize,
+    pub bytes: usize,
+}
+
+/// Why import puts nothing into the buffer.
+#[derive(Clone, Copy)]
+pub enum ImportRefusal {
     /// 25: the text is not in the subset: where the first token begins that no text of it has there, or the length.
     NoClauses(usize),
     /// 26: the clause of this number passes a limit.

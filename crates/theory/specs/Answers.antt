@@ -1,20 +1,19 @@
 -- Document 01, "What check returns" and "Reserving", with 02's 1/14, 2/14 and 3/14: the numbers and values of each case of the
 -- answers of check, reserve, measure and the sheet.
 use Rattle.std.proofs.Math.Option.{Option, some, none}
-use Rattle.std.specs.Prelude.{ℕ}
+use Rattle.std.specs.Prelude.{ℕ, Result, Ok, Err}
 use Prim.Native.Char.{code}
 use Rattle.theory.specs.declared.Refusal.{Refusal}
 use Rattle.theory.specs.declared.Refusal.TheVariants.{ShortArea, LongText, UnfinishedText, UnfitLine, Letter, NoEnd, Name, Declaration, FieldCount, Number, NoTerm, CountLimit, Unjustified, RuledFact, NotGround, UnmetClaim, Headless}
-use Rattle.theory.specs.declared.Verdict.{Verdict}
-use Rattle.theory.specs.declared.Verdict.TheVariants.{Accepted, Refused}
+use Rattle.theory.specs.declared.Counts.{Counts}
 use Rattle.theory.specs.declared.QueryRefusal.{QueryRefusal}
 use Rattle.theory.specs.declared.QueryRefusal.TheVariants.{UnfitQuery, QueryName, AskedArgument, SizeField, AskedIsKnown}
 use Rattle.theory.specs.declared.Reservation.{Reservation}
 use Rattle.theory.specs.declared.Reservation.TheVariants.{Bounded, NoBound, Impossible, PackRefused, QueryRefused}
-use Rattle.theory.specs.declared.Filing.{Filing}
-use Rattle.theory.specs.declared.Filing.TheVariants.{Filed, ShortPage, NotAccepted}
-use Rattle.theory.specs.declared.Measurement.{Measurement}
-use Rattle.theory.specs.declared.Measurement.TheVariants.{Size, UnfitTerm, NotTerm, HasVariable}
+use Rattle.theory.specs.declared.FilingRefusal.{FilingRefusal}
+use Rattle.theory.specs.declared.FilingRefusal.TheVariants.{ShortPage, NotAccepted}
+use Rattle.theory.specs.declared.TermRefusal.{TermRefusal}
+use Rattle.theory.specs.declared.TermRefusal.TheVariants.{UnfitTerm, NotTerm, HasVariable}
 use Rattle.theory.specs.Check.{Numbers, numbers}
 use Rattle.theory.specs.Measure.{Measured, measured}
 use Rattle.theory.specs.Reserve.{Fields, fields}
@@ -39,9 +38,9 @@ refusal_numbers (UnmetClaim l) = numbers 22 l 0 0
 refusal_numbers (Headless l) = numbers 24 l 0 0
 
 -- Check's four numbers.
-abbrev pub numbers_of : Verdict → Numbers
-numbers_of (Accepted c) = numbers 0 c.lines c.rules c.multiplier_lines
-numbers_of (Refused r) = refusal_numbers r
+abbrev pub numbers_of : Result Counts Refusal → Numbers
+numbers_of (Ok c) = numbers 0 c.lines c.rules c.multiplier_lines
+numbers_of (Err r) = refusal_numbers r
 
 abbrev pub query_number : QueryRefusal → ℕ
 query_number UnfitQuery = 4
@@ -67,14 +66,14 @@ passed_on (PackRefused r) = some (refusal_numbers r)
 passed_on (QueryRefused q) = none
 
 -- Sheet's four numbers.
-abbrev pub filing_numbers : Filing → Numbers
-filing_numbers (Filed c) = numbers_of (Accepted c)
-filing_numbers ShortPage = numbers 23 0 0 0
-filing_numbers (NotAccepted r) = refusal_numbers r
+abbrev pub filing_numbers : Result Counts FilingRefusal → Numbers
+filing_numbers (Ok c) = numbers_of (Ok c)
+filing_numbers (Err ShortPage) = numbers 23 0 0 0
+filing_numbers (Err (NotAccepted r)) = refusal_numbers r
 
 -- Measure's refusal, or 0 and the size.
-abbrev pub measured_of : Measurement → Measured
-measured_of (Size s) = measured 0 s
-measured_of UnfitTerm = measured 4 0
-measured_of NotTerm = measured 11 0
-measured_of HasVariable = measured 19 0
+abbrev pub measured_of : Result ℕ TermRefusal → Measured
+measured_of (Ok size) = measured 0 size
+measured_of (Err UnfitTerm) = measured 4 0
+measured_of (Err NotTerm) = measured 11 0
+measured_of (Err HasVariable) = measured 19 0

@@ -1,6 +1,6 @@
 -- The three demands, as statements about what check and reserve return; and what the calls' own answers and words tell. Promised
 -- says of what all this holds, and that is proved as a whole.
-use Rattle.std.specs.Prelude.{◌≡◌, ◌↔◌, List, ℕ, ◌+◌, ◌≤◌, ℤ, pos, length, drop}
+use Rattle.std.specs.Prelude.{◌≡◌, ◌↔◌, List, ℕ, ◌+◌, ◌≤◌, ℤ, pos, length, drop, Result, Ok}
 use Rattle.std.proofs.Math.Option.{some}
 use Prim.Native.Char.{code}
 use Rattle.theory.specs.Lists.{◌∈◌, ending}
@@ -22,8 +22,6 @@ use Rattle.theory.specs.SmallestBound.{BoundGiven, ImpossibleBy, NoneUsable}
 use Rattle.theory.specs.Answers.{refusal_numbers, numbers_of, reserved_fields}
 use Rattle.theory.specs.declared.Counts.{Counts}
 use Rattle.theory.specs.declared.Refusal.{Refusal}
-use Rattle.theory.specs.declared.Verdict.{Verdict}
-use Rattle.theory.specs.declared.Verdict.TheVariants.{Accepted}
 use Rattle.theory.specs.declared.Bound.{Bound}
 use Rattle.theory.specs.declared.QueryRefusal.{QueryRefusal}
 use Rattle.theory.specs.declared.Reservation.{Reservation}
@@ -118,7 +116,7 @@ pub record ClaimsKept (text : Bytes) (Given : Atom → Type 0) : Type 0 where
 
 -- The same of the calls' own answers: the first premise of each part is the equation that the call's contract promises.
 pub record AnswersKept (text : Bytes) (Given : Atom → Type 0) : Type 0 where
-  pub accepted : (area : List ℤ) (answer : Verdict) → numbers_of answer ≡ (check_of text area).returned → (counts : Counts) → answer ≡ Accepted counts
+  pub accepted : (area : List ℤ) (answer : Result Counts Refusal) → numbers_of answer ≡ (check_of text area).returned → (counts : Counts) → answer ≡ Ok counts
       → (f : Atom) → Derivable (pack_of text) Given f → MeetsAll (pack_of text) f
   pub bounded : (query : Bytes) (answer : Reservation) → reserved_fields answer ≡ reserve_of text query → (bound : Bound) → answer ≡ Bounded bound
       → (f : Atom) → Derivable (pack_of text) Given f → HasKnownSizes (measure_in (pack_of text)) (query_of query) f → size_at (measure_in (pack_of text)) (query_of query).asked f ≤ bound.size

@@ -3,7 +3,7 @@
 #![tactic(auto)]
 
 /// What a line is, by its first field.
-#[derive(Clone, Copy)]
+#[derive(Clone, Copy, PartialEq, Eq)]
 pub enum Letter {
     P,
     C,
@@ -15,7 +15,7 @@ pub enum Letter {
     NoLetter,
 }
 
-/// What an accepted pack counts: its lines, its rules, its `M` lines.
+/// What an accepted pack counts: its lines, its rules, its `M` lines. Check answers these, or a refusal.
 #[derive(Clone, Copy)]
 pub struct Counts {
     pub lines: u16,
@@ -62,13 +62,6 @@ pub enum Refusal {
     Headless(u16),
 }
 
-/// What check answers.
-#[derive(Clone, Copy)]
-pub enum Verdict {
-    Accepted(Counts),
-    Refused(Refusal),
-}
-
 /// A bound on the asked size, and the lowest claim that gives it.
 #[derive(Clone, Copy)]
 pub struct Bound {
@@ -102,20 +95,17 @@ pub enum Reservation {
     QueryRefused(QueryRefusal),
 }
 
-/// What sheet answers.
+/// Why sheet files nothing. Where it does, the sheet is on the page, and it answers check's counts of the pack.
 #[derive(Clone, Copy)]
-pub enum Filing {
-    /// The sheet is on the page. The pack's counts are check's.
-    Filed(Counts),
+pub enum FilingRefusal {
     /// 23: the page is shorter than 65 bytes for each rule.
     ShortPage,
     NotAccepted(Refusal),
 }
 
-/// What measure answers: a ground term's size, or why there is none.
+/// Why measure gives no size of a term.
 #[derive(Clone, Copy)]
-pub enum Measurement {
-    Size(u32),
+pub enum TermRefusal {
     /// 4: over 1,024 bytes, or a byte outside 32 to 126.
     UnfitTerm,
     /// 11: no term.

@@ -6,11 +6,11 @@ use Prim.Native.Char.{code}
 use Rattle.theory.specs.declared.Counts.{Counts}
 use Rattle.theory.specs.declared.Bound.{Bound}
 use Rattle.theory.specs.declared.Refusal.TheVariants.{ShortArea, LongText, UnfinishedText, UnfitLine, Letter, NoEnd, Name, Declaration, FieldCount, Number, NoTerm, CountLimit, Unjustified, RuledFact, NotGround, UnmetClaim, Headless}
-use Rattle.theory.specs.declared.Verdict.TheVariants.{Accepted, Refused}
+use Rattle.std.specs.Prelude.{Ok, Err}
 use Rattle.theory.specs.declared.QueryRefusal.TheVariants.{UnfitQuery, QueryName, AskedArgument, SizeField, AskedIsKnown}
 use Rattle.theory.specs.declared.Reservation.TheVariants.{Bounded, NoBound, Impossible, PackRefused, QueryRefused}
-use Rattle.theory.specs.declared.Filing.TheVariants.{Filed, ShortPage, NotAccepted}
-use Rattle.theory.specs.declared.Measurement.TheVariants.{Size, UnfitTerm, NotTerm, HasVariable}
+use Rattle.theory.specs.declared.FilingRefusal.TheVariants.{ShortPage, NotAccepted}
+use Rattle.theory.specs.declared.TermRefusal.TheVariants.{UnfitTerm, NotTerm, HasVariable}
 use Rattle.theory.specs.Check.{numbers}
 use Rattle.theory.specs.Measure.{measured}
 use Rattle.theory.specs.Reserve.{fields}
@@ -65,8 +65,8 @@ refusals_are_met = record {
 }
 
 pub record AnswersMet : Type 0 where
-  pub accepted : numbers_of (Accepted counts) ≡ numbers 0 5 6 7
-  pub refused : numbers_of (Refused (Unjustified 5 6 7)) ≡ numbers 13 5 6 7
+  pub accepted : numbers_of (Ok counts) ≡ numbers 0 5 6 7
+  pub refused : numbers_of (Err (Unjustified 5 6 7)) ≡ numbers 13 5 6 7
   pub bounded : reserved_fields (Bounded bound) ≡ fields (code "B") 8 9
   pub no_bound : reserved_fields NoBound ≡ fields (code "N") 0 0
   pub impossible : reserved_fields (Impossible 9) ≡ fields (code "I") 0 9
@@ -77,13 +77,13 @@ pub record AnswersMet : Type 0 where
   pub size_field : reserved_fields (QueryRefused SizeField) ≡ fields (code "R") 17 0
   pub asked_is_known : reserved_fields (QueryRefused AskedIsKnown) ≡ fields (code "R") 18 0
   pub passed : map passed_on (Bounded bound ∷ NoBound ∷ Impossible 9 ∷ PackRefused (Unjustified 5 6 7) ∷ QueryRefused QueryName ∷ []) ≡ none ∷ none ∷ none ∷ some (numbers 13 5 6 7) ∷ none ∷ []
-  pub filed : filing_numbers (Filed counts) ≡ numbers 0 5 6 7
-  pub short_page : filing_numbers ShortPage ≡ numbers 23 0 0 0
-  pub not_accepted : filing_numbers (NotAccepted (Unjustified 5 6 7)) ≡ numbers 13 5 6 7
-  pub size : measured_of (Size 8) ≡ measured 0 8
-  pub unfit_term : measured_of UnfitTerm ≡ measured 4 0
-  pub not_term : measured_of NotTerm ≡ measured 11 0
-  pub has_variable : measured_of HasVariable ≡ measured 19 0
+  pub filed : filing_numbers (Ok counts) ≡ numbers 0 5 6 7
+  pub short_page : filing_numbers (Err ShortPage) ≡ numbers 23 0 0 0
+  pub not_accepted : filing_numbers (Err (NotAccepted (Unjustified 5 6 7))) ≡ numbers 13 5 6 7
+  pub size : measured_of (Ok 8) ≡ measured 0 8
+  pub unfit_term : measured_of (Err UnfitTerm) ≡ measured 4 0
+  pub not_term : measured_of (Err NotTerm) ≡ measured 11 0
+  pub has_variable : measured_of (Err HasVariable) ≡ measured 19 0
 
 pub answers_are_met : AnswersMet
 answers_are_met = record {
