@@ -1,7 +1,6 @@
 -- The numbers of the faults that a line may have.
-use Rattle.std.specs.Prelude.{ℕ}
-use Rattle.tables.specs.declared.Closing.{Closing}
-use Rattle.tables.specs.declared.Closing.TheVariants.{Done, Misclosed}
+use Rattle.std.specs.Prelude.{ℕ, Result, Ok, Err}
+use Rattle.tables.specs.declared.State.{State}
 use Rattle.tables.specs.declared.Fault.{Fault}
 use Rattle.tables.specs.declared.Fault.TheVariants.{UnfitLine, Letter, Name, Declaration, FieldCount, Number, NoTerm, CountLimit, Unjustified, RuledFact, NotGround, UnmetClaim, Headless}
 
@@ -21,6 +20,6 @@ number_of UnmetClaim = 22
 number_of Headless = 24
 
 -- the number of what a line's end answers, 0 where it is done
-abbrev pub closing_number : Closing → ℕ
-closing_number (Done s) = 0
-closing_number (Misclosed f) = number_of f
+abbrev pub closing_number : Result State Fault → ℕ
+closing_number (Ok s) = 0
+closing_number (Err f) = number_of f

@@ -1,5 +1,5 @@
 -- A line by its steps: opened, when its tests before its fields are done; its fields read; closed.
-use Rattle.std.specs.Prelude.{◌≡◌, true, false, List, [], ℕ, ◌+◌, ◌≤◌, ◌<◌, length, get_or, drop}
+use Rattle.std.specs.Prelude.{◌≡◌, true, false, List, [], ℕ, ◌+◌, ◌≤◌, ◌<◌, length, get_or, drop, Result, Ok}
 use Rattle.std.proofs.Math.Option.{some, none}
 use Rattle.theory.specs.declared.Letter.{Letter}
 use Rattle.theory.specs.declared.Letter.TheVariants.{P, C, G, H, B, M, E, NoLetter}
@@ -11,8 +11,7 @@ use Rattle.text.specs.Scans.{parts_from}
 use Rattle.words.specs.Words.{words_of}
 use Rattle.tables.specs.declared.State.{State}
 use Rattle.tables.specs.declared.Opened.{Opened}
-use Rattle.tables.specs.declared.Closing.{Closing}
-use Rattle.tables.specs.declared.Closing.TheVariants.{Done}
+use Rattle.tables.specs.declared.Fault.{Fault}
 use Rattle.tables.specs.Faults.{closing_number}
 use Rattle.tables.specs.Sorts.{Sort, declaring, numbering, stating, following, multiplying, ending, none as no_sort, sort_of}
 use Rattle.tables.specs.Tables.{Tables, flag, predicate_at, Holds}
@@ -102,6 +101,6 @@ at fs i = get_or fs i []
 -- ## Closed
 
 -- a line that is read whole, after lines that write w: its fault, and the tables after it
-pub record ClosedFor (manner : Manner) (line : Bytes) (w : Written) (r : Closing) (t : Tables) : Type 0 where
+pub record ClosedFor (manner : Manner) (line : Bytes) (w : Written) (r : Result State Fault) (t : Tables) : Type 0 where
   pub answer : fault manner w line ≡ closing_number r
-  pub holds : (next : State) → r ≡ Done next → Holds t next (write w line)
+  pub holds : (next : State) → r ≡ Ok next → Holds t next (write w line)

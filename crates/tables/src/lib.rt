@@ -64,6 +64,28 @@ pub fn no_claims() -> Claims
     [0i16; 4608]
 }
 
+/// The tables that outlive the lines of a pack: what queries and the sheet ask after its last line.
+pub struct Tables {
+    pub names: Names,
+    pub signatures: Signatures,
+    pub claims: Claims,
+}
+
+impl Tables {
+    /// The tables before any line: zeros.
+    pub fn empty() -> Tables
+        ensures names { result.names ≡ replicate 64 0 }
+        ensures signatures { result.signatures ≡ replicate 96 0 }
+        ensures claims { result.claims ≡ replicate 4608 (pos 0) }
+    {
+        Tables {
+            names: [0u64; 64],
+            signatures: [0u8; 96],
+            claims: [0i16; 4608],
+        }
+    }
+}
+
 /// Where the numbers of a claim on a predicate begin.
 pub fn claim_place(predicate: usize, claim: usize) -> usize
     requires { (predicate < 32) × (claim < 16) }
@@ -130,8 +152,9 @@ pub enum Manner {
     ButForHeads,
 }
 
-/// What is wrong with a line: one case for each number that a line may have, of document 01's table and of later requests.
-#[derive(Clone, Copy)]
+/// What is wrong with a line: one case for each number that a line may have, of document 01's table and of later requests. A step
+/// of a line that refuses it answers `Err` with one of them.
+#[derive(Clone, Copy, PartialEq, Eq)]
 pub enum Fault {
     UnfitLine,
     Letter,
@@ -160,24 +183,4 @@ pub struct Opened {
     pub words: Words,
     /// Where the fields that are still to be read begin.
     pub from: usize,
-}
-
-#[derive(Clone, Copy)]
-pub enum Opening {
-    Line(Opened),
-    Misopened(Fault),
-}
-
-/// A field that is read, with the number of the rule's variables then.
-#[derive(Clone, Copy)]
-pub enum Fielding {
-    Read(usize),
-    Misread(Fault),
-}
-
-/// A line that is done, with the state after it.
-#[derive(Clone, Copy)]
-pub enum Closing {
-    Done(State),
-    Misclosed(Fault),
 }
