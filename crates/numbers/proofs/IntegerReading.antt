@@ -1,24 +1,19 @@
 -- What `read_integer` answers: a sign, and what `read_natural` says of the digits. A signed number stands as its bits.
 use mathlib.Core.Path.{◌≡◌, refl, sym, ◌∙◌, ap}
-use mathlib.Core.Bool.{cond}
 use mathlib.Core.List.{[], ◌∷◌}
-use mathlib.Core.Option.{some, none, map}
+use mathlib.Core.Option.{Option, some, none, map}
 use Prim.Native.Nat.{ℕ, zero, suc, ◌-◌, ◌≤◌, ◌<◌}
 use native.Mathlib.Omega.{arith}
-use lib.Dec.{eqb}
 use lib.IntN.{ℤ, pos, negsuc, ◌-ℤ◌, +ℤ_idl}
 use lib.ListN.{length, get_or, drop}
 use mir.Facts.{to_z_pos, to_z-of_z}
 use mir.Syntax.{w32, w64}
 use mir.Val.{Fits, SFits, to_z, of_z}
 use Rattle.groundwork.proofs.Truth.{equal-eqb, eqb-different}
-use Rattle.theory.specs.Text.{Bytes, natural, negated, integer}
+use Rattle.theory.specs.Text.{Bytes, is_decimal, natural, negated, integer}
 use Rattle.theory.proofs.Reading.Spelling.{natural_within}
 use Rattle.text.specs.Scans.{part}
-use Rattle.text.proofs.Parts.{empty_is, part_rest}
-use Rattle.numbers.specs.declared.Natural.{Natural}
-use Rattle.numbers.specs.declared.Natural.TheVariants.{Whole, NoNatural}
-use Rattle.numbers.specs.Numbers.{natural_of}
+use Rattle.text.proofs.Parts.{part_rest}
 
 -- ---- signs
 
@@ -38,14 +33,20 @@ module _ (n : ℕ) (h : 0 < n) (f : Fits w32 n) where
 
 -- ---- answers
 
-pub integer_of_none : (limit : ℕ) (s : Bytes) → length s ≡ 0 → none ≡ integer limit s
-unfolding integer
-integer_of_none limit s h = sym (ap (integer limit) (empty_is s h))
+-- where no byte stands, no minus sign does
+pub no_first : (s : Bytes) → length s < 1 → get_or s 0 0 ≡ 0
+no_first [] h = refl
+no_first (b ∷ bs) h = absurd (omega arith)
 
-integer_is : (limit : ℕ) (s : Bytes) → (length s ≡ 0 → ⊥) → integer limit s ≡ cond (eqb (get_or s 0 0) 45) (negated (natural limit (drop 1 s))) (map pos (natural limit s))
+integer_signed : (limit : ℕ) (s : Bytes) → 1 ≤ length s → get_or s 0 0 ≡ 45 → integer limit s ≡ negated (natural limit (drop 1 s))
 unfolding integer
-integer_is limit [] h = absurd (h refl)
-integer_is limit (b ∷ bs) h = refl
+integer_signed limit [] any h = absurd (omega arith)
+integer_signed limit (b ∷ bs) any h = rw (equal-eqb b 45 h)
+
+integer_plain : (limit : ℕ) (s : Bytes) → (get_or s 0 0 ≡ 45 → ⊥) → integer limit s ≡ map pos (natural limit s)
+unfolding integer natural is_decimal
+integer_plain limit [] other = refl
+integer_plain limit (b ∷ bs) other = rw (eqb-different b 45 other)
 
 negated_some : (n : ℕ) → 0 < n → negated (some n) ≡ some (negsuc (n - 1))
 unfolding negated
@@ -56,33 +57,31 @@ negated_some (suc n) h = let back : suc n - 1 ≡ n = omega arith in rw back
 through_bits : (z y : ℤ) → z ≡ y → SFits w64 y → some (to_z w64 (of_z w64 z)) ≡ some y
 through_bits z y e f = ap some (rw e (to_z-of_z f))
 
-module _ (limit : ℕ) (small : limit ≤ 99999) (s : Bytes) (any : length s ≡ 0 → ⊥) (r : Natural) where
+module _ (limit : ℕ) (small : limit ≤ 99999) (s : Bytes) where
   -- a minus sign, and a number read after it
-  module _ (sign : get_or s 0 0 ≡ 45) (read : natural_of r ≡ natural limit (part s 1 (length s))) where
-    after_sign : integer limit s ≡ negated (natural_of r)
-    after_sign = integer_is limit s any ∙ rw (equal-eqb (get_or s 0 0) 45 sign, ← part_rest s 1, ← read)
+  module _ (any : 1 ≤ length s) (sign : get_or s 0 0 ≡ 45) where
+    after_sign : (o : Option ℕ) → o ≡ natural limit (part s 1 (length s)) → integer limit s ≡ negated o
+    after_sign o read = integer_signed limit s any sign ∙ rw (← part_rest s 1, ← read)
 
-    pub integer_minus_zero : (n : ℕ) → r ≡ Whole n → n ≡ 0 → none ≡ integer limit s
+    pub integer_minus_none : none ≡ natural limit (part s 1 (length s)) → none ≡ integer limit s
     unfolding negated
-    integer_minus_zero n e z = sym (after_sign ∙ rw (e, z))
+    integer_minus_none read = sym (after_sign none read)
 
-    pub integer_minus : (n : ℕ) (z : ℤ) → r ≡ Whole n → (n ≡ 0 → ⊥) → z ≡ negsuc (n - 1) → some (to_z w64 (of_z w64 z)) ≡ integer limit s
-    integer_minus n z e k q =
-        let known : n ≤ limit = natural_within limit (part s 1 (length s)) n (sym read ∙ ap natural_of e) in
-        through_bits z (negsuc (n - 1)) q (record { sfits = omega arith }) ∙ sym (after_sign ∙ rw e (negated_some n (omega arith)))
+    module _ (n : ℕ) (read : some n ≡ natural limit (part s 1 (length s))) where
+      pub integer_minus_zero : n ≡ 0 → none ≡ integer limit s
+      unfolding negated
+      integer_minus_zero z = sym (after_sign (some n) read ∙ rw z)
 
-    pub integer_minus_none : r ≡ NoNatural → none ≡ integer limit s
-    unfolding negated
-    integer_minus_none e = sym (after_sign ∙ rw e)
+      pub integer_minus : (n ≡ 0 → ⊥) → (z : ℤ) → z ≡ negsuc (n - 1) → some (to_z w64 (of_z w64 z)) ≡ integer limit s
+      integer_minus k z q =
+          let known : n ≤ limit = natural_within limit (part s 1 (length s)) n (sym read) in
+          through_bits z (negsuc (n - 1)) q (record { sfits = omega arith }) ∙ sym (after_sign (some n) read ∙ negated_some n (omega arith))
 
-  module _ (sign : get_or s 0 0 ≡ 45 → ⊥) (read : natural_of r ≡ natural limit s) where
-    no_sign : integer limit s ≡ map pos (natural_of r)
-    no_sign = integer_is limit s any ∙ rw (eqb-different (get_or s 0 0) 45 sign, ← read)
+  module _ (sign : get_or s 0 0 ≡ 45 → ⊥) where
+    pub integer_plus_none : none ≡ natural limit s → none ≡ integer limit s
+    integer_plus_none read = sym (integer_plain limit s sign ∙ rw (← read))
 
-    pub integer_plus : (n : ℕ) (z : ℤ) → r ≡ Whole n → z ≡ pos n → some (to_z w64 (of_z w64 z)) ≡ integer limit s
-    integer_plus n z e q =
-        let known : n ≤ limit = natural_within limit s n (sym read ∙ ap natural_of e) in
-        through_bits z (pos n) q (record { sfits = omega arith }) ∙ sym (no_sign ∙ rw e)
-
-    pub integer_plus_none : r ≡ NoNatural → none ≡ integer limit s
-    integer_plus_none e = sym (no_sign ∙ rw e)
+    pub integer_plus : (n : ℕ) → some n ≡ natural limit s → some (to_z w64 n) ≡ integer limit s
+    integer_plus n read =
+        let known : n ≤ limit = natural_within limit s n (sym read) in
+        ap some (to_z_pos w64 {n = n} (omega arith)) ∙ sym (integer_plain limit s sign ∙ rw (← read))

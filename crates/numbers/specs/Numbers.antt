@@ -1,15 +1,7 @@
--- What the number readers' answers stand for.
-use Rattle.std.proofs.Math.Option.{Option, some, none}
-use Rattle.std.specs.Prelude.{ℕ, ℤ}
-use Rattle.numbers.specs.declared.Natural.{Natural}
-use Rattle.numbers.specs.declared.Natural.TheVariants.{Whole, NoNatural}
-use Rattle.numbers.specs.declared.Integer.{Integer}
-use Rattle.numbers.specs.declared.Integer.TheVariants.{Signed, NoInteger}
+-- An `Option` of the code as one of the definitions.
+use Rattle.std.proofs.Math.Option as M
+use Rattle.std.specs.Prelude.{Option, Some, None}
 
-abbrev pub natural_of : Natural → Option ℕ
-natural_of (Whole n) = some n
-natural_of NoNatural = none
-
-abbrev pub integer_of : Integer → Option ℤ
-integer_of (Signed z) = some z
-integer_of NoInteger = none
+abbrev pub option_of : {A : Type 0} → Option A → M.Option A
+option_of (Some x) = M.some x
+option_of None = M.none

@@ -10,7 +10,7 @@ fn zeros_of_eight(bytes: &[u8], at: usize) -> usize
     requires { at + 8 ≤ length bytes.now }
     ensures { (result ≤ 4) × Zeros bytes.now at result }
 {
-    widths::u32_to_usize(u64::trailing_zeros(text::eight_bytes(bytes, at) ^ ZEROS)) / 16
+    u64::trailing_zeros(text::eight_bytes(bytes, at) ^ ZEROS) as usize / 16
 }
 
 /// How many fields `0`, each with the comma after it, stand from a place on. It stops where fewer than eight bytes are left,

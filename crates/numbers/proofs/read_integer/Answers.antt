@@ -1,22 +1,28 @@
 -- `numbers::read_integer` meets its contract. Assumes nothing.
+use mathlib.Core.Path.{◌≡◌}
 use borrow.Author.Rules.{rules}
-use Rattle.numbers.proofs.IntegerReading.{integer_of_none, integer_minus_zero, integer_minus, integer_minus_none, integer_plus, integer_plus_none}
+use lib.ListN.{get_or}
+use Rattle.std.proofs.Common.{arith}
+use Rattle.numbers.proofs.IntegerReading.{no_first, integer_minus_zero, integer_minus, integer_minus_none, integer_plus, integer_plus_none}
 use Rattle.numbers.proofs.read_integer.Goals as goal
 
-pub returns-then-field-eq0 : goal.returns-then-field-eq0
-returns-then-field-eq0 c = search (rules, integer_of_none)
+pub returns-in_err-n-in-45 : goal.returns-in_err-n-in-45
+returns-in_err-n-in-45 c = rw c.from_residual.ensures (let read = c.in_err-n-in-45.ensures in search (rules, integer_minus_none))
 
 pub returns-then-n-eq0 : goal.returns-then-n-eq0
-returns-then-n-eq0 c = search (rules, integer_minus_zero)
+returns-then-n-eq0 c = let read = c.in_ok-n-in-45.ensures in search (rules, integer_minus_zero)
+
+pub returns-in_err-n-in_default : goal.returns-in_err-n-in_default
+returns-in_err-n-in_default c =
+    let b = c.in_default.branch in
+    let other : get_or c.args.field.now 0 0 ≡ 45 → ⊥ = grind (arith, no_first c.args.field.now) in
+    rw c.from_residual-in_err-n-in_default.ensures (integer_plus_none _ c.requires _ other (c.in_err-n-in_default.ensures))
 
 pub returns-else-n-eq0 : goal.returns-else-n-eq0
-returns-else-n-eq0 c = search (rules, integer_minus)
+returns-else-n-eq0 c = let read = c.in_ok-n-in-45.ensures in search (rules, integer_minus)
 
-pub returns-in-NoNatural : goal.returns-in-NoNatural
-returns-in-NoNatural c = search (rules, integer_minus_none)
-
-pub returns-in-Whole-value : goal.returns-in-Whole-value
-returns-in-Whole-value c = search (rules, integer_plus)
-
-pub returns-in-NoNatural-value : goal.returns-in-NoNatural-value
-returns-in-NoNatural-value c = search (rules, integer_plus_none)
+pub returns-in_ok-n-in_default : goal.returns-in_ok-n-in_default
+returns-in_ok-n-in_default c =
+    let b = c.in_default.branch in
+    let other : get_or c.args.field.now 0 0 ≡ 45 → ⊥ = grind (arith, no_first c.args.field.now) in
+    integer_plus _ c.requires _ other _ (c.in_ok-n-in_default.ensures)
