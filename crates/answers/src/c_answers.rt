@@ -2,16 +2,14 @@
 ghost use Rattle.std.specs.Prelude.{◌≡◌, ◌^◌, ◌<◌};
 ghost use Rattle.theory.specs.Words.{check_word, reserve_word, measure_word};
 ghost use Rattle.theory.specs.Check.{numbers};
-ghost use Rattle.theory.specs.Measure.{measured};
-ghost use Rattle.theory.specs.Reserve.{fields};
 ghost use Rattle.clause_theory.specs.Importations.{import_numbers};
 
 use super::{Four, Three, Two};
-use clause_theory::Importation;
+use clause_theory::{ImportRefusal, Imported};
 
 /// The word of check's four numbers.
 pub fn check_word(four: Four) -> u64
-    ensures { result ≡ check_word (numbers four.number four.line four.rule four.claim) }
+    ensures { result ≡ check_word four }
 {
     four.number as u64
         + four.line as u64 * 256
@@ -22,14 +20,14 @@ pub fn check_word(four: Four) -> u64
 /// The word of reserve's three fields, of which the middle one is below 2^48.
 pub fn reserve_word(three: Three) -> u64
     requires { three.middle < 2 ^ 48 }
-    ensures { result ≡ reserve_word (fields three.letter three.middle three.claim) }
+    ensures { result ≡ reserve_word three }
 {
     three.letter as u64 + three.claim as u64 * 256 + three.middle * 65536
 }
 
 /// The word of measure's refusal and size.
 pub fn measure_word(two: Two) -> u64
-    ensures { result ≡ measure_word (measured two.refusal two.size) }
+    ensures { result ≡ measure_word two }
 {
     two.refusal as u64 + two.size as u64 * 256
 }
@@ -45,36 +43,35 @@ pub struct Answer {
 }
 
 /// Four numbers at the width at which C gets them.
-pub fn four_numbers(four: Four) -> Answer
-    ensures { numbers result.number result.line result.rule result.claim ≡ numbers four.number four.line four.rule four.claim }
-{
-    Answer {
-        number: four.number as u64,
-        line: four.line as u64,
-        rule: four.rule as u64,
-        claim: four.claim as u64,
+impl From<Four> for Answer {
+    ghost from_gives = { λ four answer. numbers answer.number answer.line answer.rule answer.claim ≡ four };
+
+    fn from(four: Four) -> Answer {
+        Answer {
+            number: u64::from(four.number),
+            line: u64::from(four.line),
+            rule: u64::from(four.rule),
+            claim: u64::from(four.claim),
+        }
     }
 }
 
-fn import_answer(number: u64, second: usize, third: usize) -> Answer
-    ensures { numbers result.number result.line result.rule result.claim ≡ numbers number second third 0 }
-{
-    Answer {
-        number,
-        line: second as u64,
-        rule: third as u64,
-        claim: 0,
-    }
-}
+/// The numbers of what import answers.
+impl From<Result<Imported, ImportRefusal>> for Answer {
+    ghost from_gives = { λ imported answer. numbers answer.number answer.line answer.rule answer.claim ≡ import_numbers imported };
 
-/// The numbers of an importation.
-pub fn import_numbers(importation: Importation) -> Answer
-    ensures { numbers result.number result.line result.rule result.claim ≡ import_numbers importation }
-{
-    match importation {
-        Importation::Imported(clauses, bytes) => import_answer(0, clauses, bytes),
-        Importation::NoClauses(place) => import_answer(25, place, 0),
-        Importation::OverLimit(clause) => import_answer(26, clause, 0),
-        Importation::ShortBuffer(clause) => import_answer(27, clause, 0),
+    fn from(imported: Result<Imported, ImportRefusal>) -> Answer {
+        let (number, line, rule) = match imported {
+            Ok(imported) => (0, imported.clauses, imported.bytes),
+            Err(ImportRefusal::NoClauses(place)) => (25, place, 0),
+            Err(ImportRefusal::OverLimit(clause)) => (26, clause, 0),
+            Err(ImportRefusal::ShortBuffer(clause)) => (27, clause, 0),
+        };
+        Answer {
+            number,
+            line: line as u64,
+            rule: rule as u64,
+            claim: 0,
+        }
     }
 }

@@ -1,8 +1,8 @@
--- The word's definition, opened.
-use Rattle.std.proofs.Common.{refl}
+-- The word's definition, opened, at the fields' view.
+use Rattle.std.proofs.Common.{ap}
 use Rattle.theory.specs.Words.{measure_word}
 use Rattle.answers.proofs.c_answers.measure_word.Goals as goal
 
 pub returns : goal.returns
 unfolding measure_word
-returns c = refl
+returns c = ap measure_word c.two.view_is
