@@ -1,11 +1,12 @@
 // The answers as C gets them: document 01's three calls answer with one 64-bit word, the others with four numbers.
 ghost use Rattle.std.specs.Prelude.{◌≡◌, ◌^◌, ◌<◌};
 ghost use Rattle.theory.specs.Words.{check_word, reserve_word, measure_word};
-ghost use Rattle.theory.specs.Check.{numbers};
+ghost use Rattle.theory.specs.Check.{Numbers, numbers};
 ghost use Rattle.clause_theory.specs.Importations.{import_numbers};
 
 use super::{Four, Three, Two};
 use clause_theory::{ImportRefusal, Imported};
+use std::marker::Model;
 
 /// The word of check's four numbers.
 pub fn check_word(four: Four) -> u64
@@ -42,9 +43,17 @@ pub struct Answer {
     pub claim: u64,
 }
 
+impl Model for Answer {
+    ghost Value = { Numbers };
+
+    ghost view = { λ answer. numbers answer.number answer.line answer.rule answer.claim };
+
+    ghost inverse = { λ n. record { number = n.number; line = n.line; rule = n.rule; claim = n.claim } };
+}
+
 /// Four numbers at the width at which C gets them.
 impl From<Four> for Answer {
-    ghost from_gives = { λ four answer. numbers answer.number answer.line answer.rule answer.claim ≡ four };
+    ghost from_gives = { λ four answer. answer ≡ four };
 
     fn from(four: Four) -> Answer {
         Answer {
@@ -58,7 +67,7 @@ impl From<Four> for Answer {
 
 /// The numbers of what import answers.
 impl From<Result<Imported, ImportRefusal>> for Answer {
-    ghost from_gives = { λ imported answer. numbers answer.number answer.line answer.rule answer.claim ≡ import_numbers imported };
+    ghost from_gives = { λ imported answer. answer ≡ import_numbers imported };
 
     fn from(imported: Result<Imported, ImportRefusal>) -> Answer {
         let (number, line, rule) = match imported {

@@ -4,7 +4,7 @@
 
 ghost use Rattle.std.specs.Prelude.{◌≡◌};
 ghost use Rattle.theory.specs.Words.{check_word, reserve_word, measure_word};
-ghost use Rattle.theory.specs.Check.{numbers, check_of};
+ghost use Rattle.theory.specs.Check.{check_of};
 ghost use Rattle.theory.specs.Measure.{measure_of};
 ghost use Rattle.theory.specs.Reserve.{reserve_of};
 ghost use Rattle.theory.specs.Sheet.{sheet_of};
@@ -36,7 +36,7 @@ pub fn measure(term: &[u8]) -> u64
 
 /// Writes the sheet of a pack on a page: 65 bytes for each rule. A refusal leaves the page as it is.
 pub fn cerrundix_sheet(text: &[u8], page: &mut [u8]) -> Answer
-    ensures { (numbers result.number result.line result.rule result.claim ≡ (sheet_of text.now page.old).returned) × (page.new ≡ (sheet_of text.now page.old).page) }
+    ensures { (result ≡ (sheet_of text.now page.old).returned) × (page.new ≡ (sheet_of text.now page.old).page) }
 {
     Answer::from(Four::from(sheets::sheet(text, page)))
 }
@@ -44,7 +44,7 @@ pub fn cerrundix_sheet(text: &[u8], page: &mut [u8]) -> Answer
 /// Imports a clause text: an `H` line and `B` lines for each clause, at the front of a buffer. A refusal leaves the buffer as
 /// it is.
 pub fn cerrundix_import(text: &[u8], buffer: &mut [u8]) -> Answer
-    ensures { (numbers result.number result.line result.rule result.claim ≡ (import_of text.now buffer.old).returned) × (buffer.new ≡ (import_of text.now buffer.old).page) }
+    ensures { (result ≡ (import_of text.now buffer.old).returned) × (buffer.new ≡ (import_of text.now buffer.old).page) }
 {
     Answer::from(imports::import(text, buffer))
 }

@@ -3,7 +3,7 @@
 
 ghost use Rattle.std.specs.Prelude.{◌≡◌};
 ghost use Rattle.theory.specs.Words.{check_word, reserve_word, measure_word};
-ghost use Rattle.theory.specs.Check.{numbers, check_of};
+ghost use Rattle.theory.specs.Check.{check_of};
 ghost use Rattle.theory.specs.Measure.{measure_of};
 ghost use Rattle.theory.specs.Reserve.{reserve_of};
 ghost use Rattle.theory.specs.Sheet.{sheet_of};
@@ -39,7 +39,7 @@ pub extern "C" fn measure(term: &[u8]) -> u64
 /// Writes the sheet of a pack on a page: 65 bytes for each rule. A refusal leaves the page as it is.
 #[unsafe(no_mangle)]
 pub extern "C" fn cerrundix_sheet(text: &[u8], page: &mut [u8]) -> Answer
-    ensures { (numbers result.number result.line result.rule result.claim ≡ (sheet_of text.now page.old).returned) × (page.new ≡ (sheet_of text.now page.old).page) }
+    ensures { (result ≡ (sheet_of text.now page.old).returned) × (page.new ≡ (sheet_of text.now page.old).page) }
 {
     cerrundix::cerrundix_sheet(text, page)
 }
@@ -48,7 +48,7 @@ pub extern "C" fn cerrundix_sheet(text: &[u8], page: &mut [u8]) -> Answer
 /// it is.
 #[unsafe(no_mangle)]
 pub extern "C" fn cerrundix_import(text: &[u8], buffer: &mut [u8]) -> Answer
-    ensures { (numbers result.number result.line result.rule result.claim ≡ (import_of text.now buffer.old).returned) × (buffer.new ≡ (import_of text.now buffer.old).page) }
+    ensures { (result ≡ (import_of text.now buffer.old).returned) × (buffer.new ≡ (import_of text.now buffer.old).page) }
 {
     cerrundix::cerrundix_import(text, buffer)
 }
