@@ -1,13 +1,15 @@
 -- The loop of `put_clause`: the lines of the filled clause are written up to a state, and the other tokens of the clause come.
 use mathlib.Core.Path.{◌≡◌, refl, sym, ◌∙◌, ap, subst}
-use mathlib.Core.Bool.{Bool, true, false, not}
+use mathlib.Core.Bool.{Bool, true, false}
 use mathlib.Core.List.Memᴰ
 use mathlib.Core.List.{List, [], ◌∷◌, ◌++◌, head-eq_of_cons-eq, tail-eq_of_cons-eq}
 use mathlib.Core.Option.{some}
 use Prim.Native.Nat.{ℕ, suc, ◌+◌, ◌-◌, ◌≤◌, ◌<◌}
 use native.Mathlib.Omega.{arith}
 use lib.ListN.{length}
-use Rattle.groundwork.proofs.Truth.{never_both, not-true, not-false}
+use Rattle.std.specs.Prelude.{Some, None}
+use Rattle.std.specs.Prelude as Rust
+use Rattle.groundwork.proofs.Truth.{never_both}
 use Rattle.theory.specs.Text.{Bytes, bytes, same}
 use Rattle.theory.specs.Packs.{text_of}
 use Rattle.clause_theory.specs.ClauseTokens.{variable}
@@ -31,7 +33,6 @@ use Rattle.clause_variables.specs.Variables.{Gathered}
 use Rattle.clause_variables.proofs.Gathering.{gathered_few, gathered_tabled}
 use Rattle.clause_variables.proofs.Stopping.{is_stop_token, EndsByStop, step_by}
 use Rattle.term_lines.specs.declared.Drawn.{Drawn}
-use Rattle.clause_lines.specs.declared.Lines.{Lines}
 use Rattle.term_lines.specs.Texts.{done_text, open_text, last_text, drawn_text, Moves, atoms_of, lines_of, current, StateFits}
 use Rattle.term_lines.specs.Drawings.{Drawing, DrawnNext, drawn_on, passes, Shows, shows_name, shows_variable, shows_lone, shows_sign, Drawable, Draws}
 use Rattle.clause_lines.specs.WholeClauses.{NumberAfter, ClausePut, clause_put, not_put, ClauseReady, LinesPut}
@@ -146,7 +147,7 @@ pub record LeftOf (text page₀ page : Bytes) (digits : List ℕ) (d : Drawn) (n
   pub drawing : Drawing reached d page₀ page digits
 
 -- nothing is written
-nothing_drawn : (page : Bytes) (digits : List ℕ) → Drawing begin (record { to = 0; line = 0; depth = 0; atoms = 0; arguments = 0; fine = true }) page page digits
+nothing_drawn : (page : Bytes) (digits : List ℕ) → Drawing begin (record { to = 0; line = 0; depth = 0; atoms = 0; arguments = 0 }) page page digits
 unfolding begin drawn_text done_text open_text last_text atoms_of lines_of current
 nothing_drawn page digits =
     record {
@@ -169,7 +170,7 @@ module _ (text : Bytes) (from : ℕ) (names : List ℕ) (known : ℕ) (page₀ :
     pub rest : (r : ClauseReady text from names known) → LeftOf text page₀ page digits d number at r.clause
 
   pub progress_none : {digits : List ℕ} → from ≤ length text → length digits ≡ 256 → ClauseReady text from names known
-      → Progress page₀ digits (record { to = 0; line = 0; depth = 0; atoms = 0; arguments = 0; fine = true }) 0 from
+      → Progress page₀ digits (record { to = 0; line = 0; depth = 0; atoms = 0; arguments = 0 }) 0 from
   progress_none {digits} high table ready =
       record {
         ready = ready;
@@ -198,7 +199,7 @@ module _ (text : Bytes) (from : ℕ) (names : List ℕ) (known : ℕ) (page₀ :
         let rest = g.rest r in
         some_left (fresh_of r.clause) rest.passed rest.left rest.after rest.runs (sym (ap marks none) ∙ rest.there)
 
-    pub progress_all : {r : Lines} → length text ≤ at → LinesPut text from names known page₀ r page
+    pub progress_all : length text ≤ at → LinesPut text from names known page₀ None page
     progress_all end = record { size = g.size; put = λ r. absurd (no_clause (none_at_end text false at at end) r) }
 
     pub progress_tabled : Tabled names known
@@ -276,11 +277,11 @@ module _ (text : Bytes) (from : ℕ) (names : List ℕ) (known : ℕ) (page₀ :
       pub progress_less : length text - t.end < length text - at
       progress_less = omega (arith, (coming g.ready).inside.0, (coming g.ready).inside.1, (coming g.ready).inside.2)
 
-      module _ (e : Drawn) {after : Bytes} {digits₁ : List ℕ} (draws : Draws text t.mark t.start t.end r d page digits e after digits₁) where
+      module _ {e : Rust.Option Drawn} {after : Bytes} {digits₁ : List ℕ} (draws : Draws text t.mark t.start t.end r d page digits e after digits₁) where
         -- what the token leaves: the whole clause, or one of which some tokens are left
         data Left (c : Clause) (k : Coming c) : Type 0 where
-          none_more : is_stop_mark t.mark ≡ true → DrawnNext (state (some (filled c)) [] due) e page₀ after digits₁ → Left c k
-          some_more : {to : State} → is_stop_mark t.mark ≡ false → Runs to (filled_marks (fresh_of c) k.passed k.others) (filled c) → DrawnNext to e page₀ after digits₁ → Left c k
+          none_more : is_stop_mark t.mark ≡ true → DrawnNext (state (some (filled c)) [] due) page₀ after digits₁ e → Left c k
+          some_more : {to : State} → is_stop_mark t.mark ≡ false → Runs to (filled_marks (fresh_of c) k.passed k.others) (filled c) → DrawnNext to page₀ after digits₁ e → Left c k
 
         left_after : {c : Clause} (k : Coming c) → Left c k
         unfolding drawable
@@ -294,39 +295,43 @@ module _ (text : Bytes) (from : ℕ) (names : List ℕ) (known : ℕ) (page₀ :
         progress_size = draws.size ∙ g.size
 
         -- a limit is passed, or the page is too short
-        pub progress_over : {l : Lines} → not e.fine ≡ true → l.fine ≡ false → LinesPut text from names known page₀ l after
-        progress_over {l} refused stopped = record { size = progress_size; put = λ ready. not_put stopped (λ fits. over (coming ready) fits (left_after (coming ready))) }
+        pub progress_over : {a : Rust.Option ℕ} → e ≡ None → a ≡ None → LinesPut text from names known page₀ a after
+        progress_over {a} refused none = record { size = progress_size; put = λ ready. subst (ClausePut ready.clause page₀ after) (sym none) (not_put (λ fits. over (coming ready) fits (left_after (coming ready)))) }
           where
-            short : {to : State} → DrawnNext to e page₀ after digits₁ → StateFits to → length page₀ < length (drawn_text to)
-            short (drawn_on fine drawing) = never_both fine (not-true e.fine refused)
-            short (passes not_fine lacks) = lacks
+            short : {to : State} → DrawnNext to page₀ after digits₁ None → StateFits to → length page₀ < length (drawn_text to)
+            short (passes lacks) = lacks
+
+            by_none : {to : State} → DrawnNext to page₀ after digits₁ e → StateFits to → length page₀ < length (drawn_text to)
+            by_none {to} drawn = short (subst (DrawnNext to page₀ after digits₁) refused drawn)
 
             over : {c : Clause} (k : Coming c) → clause_fits (filled c) ≡ true → Left c k → length page₀ < length (text_of (clause_lines (filled c)))
-            over {c} k fits (none_more is drawn) = omega (arith, short drawn (whole_fits (filled c) fits), ap length (whole_text (filled c)))
-            over {c} k fits (some_more is runs drawn) = omega (arith, short drawn (run_fits runs fits), run_grows runs fits)
+            over {c} k fits (none_more is drawn) = omega (arith, by_none drawn (whole_fits (filled c) fits), ap length (whole_text (filled c)))
+            over {c} k fits (some_more is runs drawn) = omega (arith, by_none drawn (run_fits runs fits), run_grows runs fits)
 
-        module _ (stops : Bool) (told : stops ≡ is_stop_mark t.mark) (accepted : not e.fine ≡ false) where
-          drawn_up_to : {to : State} → DrawnNext to e page₀ after digits₁ → Drawing to e page₀ after digits₁
-          drawn_up_to (drawn_on fine drawing) = drawing
-          drawn_up_to (passes not_fine lacks) = never_both (not-false e.fine accepted) not_fine
+        module _ (stops : Bool) (told : stops ≡ is_stop_mark t.mark) {f : Drawn} (accepted : e ≡ Some f) where
+          written : {to : State} → DrawnNext to page₀ after digits₁ (Some f) → Drawing to f page₀ after digits₁
+          written (drawn_on drawing) = drawing
+
+          drawn_up_to : {to : State} → DrawnNext to page₀ after digits₁ e → Drawing to f page₀ after digits₁
+          drawn_up_to {to} drawn = written (subst (DrawnNext to page₀ after digits₁) accepted drawn)
 
           -- the clause is at its end
-          pub progress_whole : stops ≡ true → LinesPut text from names known page₀ (record { fine = true; bytes = e.to }) after
+          pub progress_whole : stops ≡ true → LinesPut text from names known page₀ (Some f.to) after
           progress_whole is = record { size = progress_size; put = λ ready. whole ready (left_after (coming ready)) }
             where
-              whole : (ready : ClauseReady text from names known) → Left ready.clause (coming ready) → ClausePut ready.clause page₀ (record { fine = true; bytes = e.to }) after
+              whole : (ready : ClauseReady text from names known) → Left ready.clause (coming ready) → ClausePut ready.clause page₀ after (Some f.to)
               whole ready (some_more goes_on runs drawn) = never_both (sym told ∙ is) goes_on
               whole ready (none_more ended drawn) =
                   let drawing = drawn_up_to drawn in
                   let c = ready.clause in
-                  clause_put refl (fits_whole (filled c) drawing.fits (gathered_few c ready.gathered)) drawing.room (subst (λ (bs : Bytes). Puts bs page₀ after e.to) (whole_text (filled c)) drawing.puts)
+                  clause_put (fits_whole (filled c) drawing.fits (gathered_few c ready.gathered)) drawing.room (subst (λ (bs : Bytes). Puts bs page₀ after f.to) (whole_text (filled c)) drawing.puts)
 
           -- it goes on
-          pub progress_more : stops ≡ false → Progress after digits₁ e r t.end
+          pub progress_more : stops ≡ false → Progress after digits₁ f r t.end
           progress_more is =
               record { ready = g.ready; size = progress_size; table = draws.kept ∙ g.table; high = progress_inside; rest = λ ready. onwards (coming ready) (left_after (coming ready)) }
             where
-              onwards : {c : Clause} (k : Coming c) → Left c k → LeftOf text page₀ after digits₁ e r t.end c
+              onwards : {c : Clause} (k : Coming c) → Left c k → LeftOf text page₀ after digits₁ f r t.end c
               onwards k (none_more ended drawn) = never_both ended (sym told ∙ is)
               onwards k (some_more {to = to} goes_on runs drawn) =
                   record {

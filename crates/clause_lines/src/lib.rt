@@ -1,7 +1,7 @@
 // The lines of a clause, written on a page token by token.
 #![tactic(auto)]
 
-ghost use Rattle.std.specs.Prelude.{◌≡◌, false, ◌+◌, ◌≤◌, ◌<◌, length};
+ghost use Rattle.std.specs.Prelude.{◌≡◌, ◌+◌, ◌≤◌, ◌<◌, length};
 ghost use Rattle.words.specs.Classes.{Classes};
 ghost use Rattle.clause_variables.specs.FreshNumbers.{Tabled};
 ghost use Rattle.clause_lines.specs.WholeClauses.{NumberAfter, ClauseReady, LinesPut};
@@ -29,25 +29,9 @@ fn number_after(mark: Mark, names: &WordTable, named: usize, number: usize) -> u
     }
 }
 
-/// Whether the lines of a clause are written, and how many bytes they take.
-#[derive(Clone, Copy)]
-pub struct Lines {
-    pub fine: bool,
-    pub bytes: usize,
-}
-
-fn not_written() -> Lines
-    ensures { result.fine ≡ false }
-{
-    Lines {
-        fine: false,
-        bytes: 0,
-    }
-}
-
-/// Writes the lines of the clause that starts at a place and whose variables are gathered. Where it passes a limit, or the page
-/// has no room for them, they are not written, and what the page holds then does not matter. `digits` is room for the places of
-/// the arities.
+/// Writes the lines of the clause that starts at a place and whose variables are gathered, and gives how many bytes they take.
+/// Where it passes a limit, or the page has no room for them, there are none, and what the page holds then does not matter.
+/// `digits` is room for the places of the arities.
 pub fn put_clause(
     text: &[u8],
     from: usize,
@@ -56,7 +40,7 @@ pub fn put_clause(
     named: usize,
     digits: &mut [usize; 256],
     page: &mut [u8],
-) -> Lines
+) -> Option<usize>
     requires { (from ≤ length text.now) × Classes classes.now × (length digits.old ≡ 256) × ClauseReady text.now from names.now named }
     ensures { (length digits.new ≡ 256) × LinesPut text.now from names.now named page.old result page.new }
 {
@@ -66,7 +50,6 @@ pub fn put_clause(
         depth: 0,
         atoms: 0,
         arguments: 0,
-        fine: true,
     };
     let mut number: usize = 0;
     let mut at = from;
@@ -83,17 +66,11 @@ pub fn put_clause(
             drawn,
             page,
             digits,
-        );
-        if !drawn.fine {
-            return not_written();
-        }
+        )?;
         if clause_tokens::is_end(mark) {
-            return Lines {
-                fine: true,
-                bytes: drawn.to,
-            };
+            return Some(drawn.to);
         }
         at = token.end;
     }
-    not_written()
+    None
 }

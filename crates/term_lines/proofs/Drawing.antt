@@ -7,6 +7,7 @@ use Prim.Native.Nat.{ℕ, ◌+◌, ◌-◌, ◌≤◌, ◌<◌}
 use native.Mathlib.Omega.{arith}
 use lib.Dec.{leb, ltb}
 use lib.ListN.{length, length-append}
+use Rattle.std.specs.Prelude.{Some, None}
 use Rattle.groundwork.proofs.Truth.{by_truth, or_not_left, or_not_right, ltb-lt, ltb-ge, ge-ltb, gt-leb, le-leb, leb-le, leb-gt, never_both}
 use Rattle.theory.specs.Text.{Bytes, bytes, is_name, is_variable, decimal}
 use Rattle.theory.specs.Terms.{Term, Terms, symbol, nil}
@@ -86,10 +87,10 @@ module _ {text : Bytes} {mark : Mark} {start end number : ℕ} {d : Drawn} {page
   pub room_on_page : (used count : ℕ) (lacks : Bool) → RoomTold (length page - d.to) used count lacks → lacks ≡ false → d.to + count ≤ length page
   room_on_page used count lacks told is = omega (arith, (told.enough is).0, to_within)
 
--- a limit is passed, whatever was written: nothing changes
+-- a limit is passed: nothing changes
 module _ {text : Bytes} {mark : Mark} {start end number : ℕ} {d : Drawn} {page : Bytes} {digits : List ℕ} where
-  pub draws_none : {r : Drawn} → r.fine ≡ false → ((w : Drawable text mark start end number d page digits) → StateFits w.next → length w.page₀ < length (drawn_text w.next)) → Draws text mark start end number d page digits r page digits
-  draws_none stopped over = record { size = refl; kept = refl; drawn = λ w. passes stopped (over w) }
+  pub draws_none : ((w : Drawable text mark start end number d page digits) → StateFits w.next → length w.page₀ < length (drawn_text w.next)) → Draws text mark start end number d page digits None page digits
+  draws_none over = record { size = refl; kept = refl; drawn = λ w. passes (over w) }
 
 -- ---- names
 
@@ -130,17 +131,17 @@ part_size : (text : Bytes) (start end : ℕ) → end ≤ length text → length 
 part_size text start end within = part_length text start (end - start) end refl within
 
 module _ {text : Bytes} {start end : ℕ} {d : Drawn} {page : Bytes} {digits : List ℕ} (within : end ≤ length text) where
-  pub name_long : {r : Drawn} → 16 < end - start → r.fine ≡ false → Draws text Name start end 0 d page digits r page digits
-  name_long long stopped = draws_none stopped (λ w fits. absurd (long_name (part text start end) w.shows w.moves (omega (arith, part_size text start end within)) fits))
+  pub name_long : 16 < end - start → Draws text Name start end 0 d page digits None page digits
+  name_long long = draws_none (λ w fits. absurd (long_name (part text start end) w.shows w.moves (omega (arith, part_size text start end within)) fits))
 
   module _ (shut : d.depth ≡ 0) where
-    pub atoms_many : {r : Drawn} → 8 < d.atoms → r.fine ≡ false → Draws text Name start end 0 d page digits r page digits
+    pub atoms_many : 8 < d.atoms → Draws text Name start end 0 d page digits None page digits
     unfolding current
-    atoms_many many stopped = draws_none stopped (λ w. by_atom (λ s next. Drawing s d w.page₀ page digits → StateFits next → length w.page₀ < length (drawn_text next)) (part text start end) w.shows w.moves
+    atoms_many many = draws_none (λ w. by_atom (λ s next. Drawing s d w.page₀ page digits → StateFits next → length w.page₀ < length (drawn_text next)) (part text start end) w.shows w.moves
         (omega (arith, w.drawing.depth, shut)) (λ before told g fits. absurd (omega (arith, g.atoms, fits.count))) w.drawing)
 
-    pub atom_no_room : {r : Drawn} (lacks : Bool) → RoomTold (length page - d.to) 0 (end - start + 2) lacks → lacks ≡ true → r.fine ≡ false → Draws text Name start end 0 d page digits r page digits
-    atom_no_room lacks told is stopped = draws_none stopped (λ w. by_atom (λ s next. Drawing s d w.page₀ page digits → StateFits next → length w.page₀ < length (drawn_text next)) (part text start end) w.shows w.moves
+    pub atom_no_room : (lacks : Bool) → RoomTold (length page - d.to) 0 (end - start + 2) lacks → lacks ≡ true → Draws text Name start end 0 d page digits None page digits
+    atom_no_room lacks told is = draws_none (λ w. by_atom (λ s next. Drawing s d w.page₀ page digits → StateFits next → length w.page₀ < length (drawn_text next)) (part text start end) w.shows w.moves
         (omega (arith, w.drawing.depth, shut))
         (λ before word g. no_room w 0 (end - start + 2) (state before [] (read (symbol (part text start end) nil))) lacks told is
         (omega (arith, ap length (drawn_atom_name before (part text start end)), length-append (drawn_text (state before [] due)) (line_front before ++ part text start end), length-append (line_front before) (part text start end), front_length before, part_size text start end within, g.puts.many))
@@ -149,14 +150,14 @@ module _ {text : Bytes} {start end : ℕ} {d : Drawn} {page : Bytes} {digits : L
 
     pub atom_put : {after : Bytes} {q l : ℕ} (lacks : Bool) → end - start ≤ 16 → d.atoms ≤ 8 → RoomTold (length page - d.to) 0 (end - start + 2) lacks → lacks ≡ false → LetterIs d.atoms l
         → PutAt (l ∷ 44 ∷ part text start end) (end - start + 2) page after d.to q
-        → Draws text Name start end 0 d page digits (record { to = q; line = d.to; depth = 0; atoms = d.atoms; arguments = 0; fine = true }) after digits
+        → Draws text Name start end 0 d page digits (Some (record { to = q; line = d.to; depth = 0; atoms = d.atoms; arguments = 0 })) after digits
     unfolding current atom_of
     atom_put {after} {q} {l} lacks short few told is front copied =
         record {
           size = copied.size;
           kept = refl;
-          drawn = λ w. by_atom (λ s next. Drawing s d w.page₀ page digits → DrawnNext next (record { to = q; line = d.to; depth = 0; atoms = d.atoms; arguments = 0; fine = true }) w.page₀ after digits) (part text start end) w.shows w.moves
-              (omega (arith, w.drawing.depth, shut)) (λ before word g. drawn_on refl (drawing before word g)) w.drawing;
+          drawn = λ w. by_atom (λ s next. Drawing s d w.page₀ page digits → DrawnNext next w.page₀ after digits (Some (record { to = q; line = d.to; depth = 0; atoms = d.atoms; arguments = 0 }))) (part text start end) w.shows w.moves
+              (omega (arith, w.drawing.depth, shut)) (λ before word g. drawn_on (drawing before word g)) w.drawing;
         }
       where
         x : Bytes
@@ -166,7 +167,7 @@ module _ {text : Bytes} {start end : ℕ} {d : Drawn} {page : Bytes} {digits : L
         text_is before e = sym (drawn_atom_name before x ∙ rw (front.front before e) refl)
 
         drawing : {page₀ : Bytes} (before : Option Clause) → is_name x ≡ leb (length x) 16 → Drawing (state before [] due) d page₀ page digits
-            → Drawing (state before [] (read (symbol x nil))) (record { to = q; line = d.to; depth = 0; atoms = d.atoms; arguments = 0; fine = true }) page₀ after digits
+            → Drawing (state before [] (read (symbol x nil))) (record { to = q; line = d.to; depth = 0; atoms = d.atoms; arguments = 0 }) page₀ after digits
         drawing {page₀} before word g =
             let put : Puts (drawn_text (state before [] (read (symbol x nil)))) page₀ after q = subst (λ bs. Puts bs page₀ after q) (text_is before g.atoms) (puts_more g.puts (l ∷ 44 ∷ x) copied.puts) in
             record {
@@ -215,15 +216,13 @@ module _ {d : Drawn} {page after : Bytes} {digits : List ℕ} {used count q : �
 
 -- the same compounds are open, and a term is read
 in_compound : {d : Drawn} {page after page₀ : Bytes} {digits : List ℕ} {count q : ℕ} {before : Option Clause} {o : Open} {opened : List Open} (more : Bytes) (t : Term) (lacks : Bool) → RoomTold (length page - d.to) (d.to - d.line) count lacks → lacks ≡ false
-    → PutAt more count page after d.to q → (r : Drawn) → r ≡ record { to = q; line = d.line; depth = d.depth; atoms = d.atoms; arguments = d.arguments; fine = true }
-    → drawn_text (state before (o ∷ opened) (read t)) ≡ drawn_text (state before (o ∷ opened) due) ++ more → length more ≡ count → term_fits t ≡ true → Drawing (state before (o ∷ opened) due) d page₀ page digits → DrawnNext (state before (o ∷ opened) (read t)) r page₀ after digits
+    → PutAt more count page after d.to q
+    → drawn_text (state before (o ∷ opened) (read t)) ≡ drawn_text (state before (o ∷ opened) due) ++ more → length more ≡ count → term_fits t ≡ true → Drawing (state before (o ∷ opened) due) d page₀ page digits → DrawnNext (state before (o ∷ opened) (read t)) page₀ after digits (Some (record { to = q; line = d.line; depth = d.depth; atoms = d.atoms; arguments = d.arguments }))
 unfolding current
-in_compound {d} {page} {after} {page₀} {digits} {count} {q} {before} {o} {opened} more t lacks told is copied r e text_is size fits g =
+in_compound {d} {page} {after} {page₀} {digits} {count} {q} {before} {o} {opened} more t lacks told is copied text_is size fits g =
     let grown : length (line_text before (o ∷ opened) (read t)) ≡ length (line_text before (o ∷ opened) due) + count =
     omega (arith, ap length text_is, length-append (drawn_text (state before (o ∷ opened) due)) more, drawn_length before (o ∷ opened) (read t), drawn_length before (o ∷ opened) due) in
-    drawn_on (ap (λ s. s.fine) e)
-    (in_line more lacks told is copied refl (o ∷ opened) (o ∷ opened) due (read t) g r (ap (λ s. s.to) e) (ap (λ s. s.line) e) (ap (λ s. s.depth) e ∙ g.depth) (ap (λ s. s.atoms) e)
-    (subst (ArgumentsBegun (o ∷ opened)) (sym (ap (λ s. s.arguments) e)) g.arguments) g.stand text_is grown refl g.fits.opens_fit fits)
+    drawn_on (in_line more lacks told is copied refl (o ∷ opened) (o ∷ opened) due (read t) g _ refl refl g.depth refl g.arguments g.stand text_is grown refl g.fits.opens_fit fits)
 
 no_room_in_compound : {text : Bytes} {mark : Mark} {start end number : ℕ} {d : Drawn} {page : Bytes} {digits : List ℕ} (w : Drawable text mark start end number d page digits) {before : Option Clause} {o : Open} {opened : List Open} {count : ℕ} (more : Bytes) (t : Term) (lacks : Bool)
     → RoomTold (length page - d.to) (d.to - d.line) count lacks → lacks ≡ true → drawn_text (state before (o ∷ opened) (read t)) ≡ drawn_text (state before (o ∷ opened) due) ++ more → length more ≡ count → Drawing (state before (o ∷ opened) due) d w.page₀ page digits
@@ -239,19 +238,19 @@ bare_length : (x : Bytes) (n : ℕ) → length x ≡ n → length (x ++ (47 ∷ 
 bare_length x n e = omega (arith, length-append x (47 ∷ 48 ∷ []))
 
 module _ {text : Bytes} {start end : ℕ} {d : Drawn} {page : Bytes} {digits : List ℕ} (within : end ≤ length text) (inside : d.depth ≡ 0 → ⊥) where
-  pub symbol_no_room : {r : Drawn} (lacks : Bool) → RoomTold (length page - d.to) (d.to - d.line) (end - start + 2) lacks → lacks ≡ true → r.fine ≡ false → Draws text Name start end 0 d page digits r page digits
-  symbol_no_room lacks told is stopped = draws_none stopped (λ w. by_symbol (λ s next. Drawing s d w.page₀ page digits → StateFits next → length w.page₀ < length (drawn_text next)) (part text start end) w.shows w.moves
+  pub symbol_no_room : (lacks : Bool) → RoomTold (length page - d.to) (d.to - d.line) (end - start + 2) lacks → lacks ≡ true → Draws text Name start end 0 d page digits None page digits
+  symbol_no_room lacks told is = draws_none (λ w. by_symbol (λ s next. Drawing s d w.page₀ page digits → StateFits next → length w.page₀ < length (drawn_text next)) (part text start end) w.shows w.moves
       (λ e. inside (w.drawing.depth ∙ e))
       (λ before o opened word. no_room_in_compound w (part text start end ++ (47 ∷ 48 ∷ [])) (symbol (part text start end) nil) lacks told is (drawn_symbol before o opened (part text start end)) (bare_length (part text start end) (end - start) (part_size text start end within)))
       w.drawing)
 
   pub symbol_put : {after : Bytes} {q : ℕ} (lacks : Bool) → end - start ≤ 16 → RoomTold (length page - d.to) (d.to - d.line) (end - start + 2) lacks → lacks ≡ false → PutAt (part text start end ++ (47 ∷ 48 ∷ [])) (end - start + 2) page after d.to q
-      → (r : Drawn) → r ≡ record { to = q; line = d.line; depth = d.depth; atoms = d.atoms; arguments = d.arguments; fine = true } → Draws text Name start end 0 d page digits r after digits
-  symbol_put {after} lacks short told is copied r e = record {
+      → Draws text Name start end 0 d page digits (Some (record { to = q; line = d.line; depth = d.depth; atoms = d.atoms; arguments = d.arguments })) after digits
+  symbol_put {after} {q} lacks short told is copied = record {
     size = copied.size;
     kept = refl;
-    drawn = λ w. by_symbol (λ s next. Drawing s d w.page₀ page digits → DrawnNext next r w.page₀ after digits) (part text start end) w.shows w.moves (λ e. inside (w.drawing.depth ∙ e))
-        (λ before o opened word. in_compound (part text start end ++ (47 ∷ 48 ∷ [])) (symbol (part text start end) nil) lacks told is copied r e (drawn_symbol before o opened (part text start end)) (bare_length (part text start end) (end - start) (part_size text start end within))
+    drawn = λ w. by_symbol (λ s next. Drawing s d w.page₀ page digits → DrawnNext next w.page₀ after digits (Some (record { to = q; line = d.line; depth = d.depth; atoms = d.atoms; arguments = d.arguments }))) (part text start end) w.shows w.moves (λ e. inside (w.drawing.depth ∙ e))
+        (λ before o opened word. in_compound (part text start end ++ (47 ∷ 48 ∷ [])) (symbol (part text start end) nil) lacks told is copied (drawn_symbol before o opened (part text start end)) (bare_length (part text start end) (end - start) (part_size text start end within))
         (bare_symbol_fits (part text start end) (short_enough is_name (part text start end) word (omega (arith, part_size text start end within)))))
         w.drawing;
   }
@@ -283,36 +282,36 @@ unfolding term_fits
 fits_variable x h = h
 
 module _ {text : Bytes} {start end : ℕ} {d : Drawn} {page : Bytes} {digits : List ℕ} (within : end ≤ length text) where
-  pub variable_long : {r : Drawn} → 16 < end - start → r.fine ≡ false → Draws text Variable start end 0 d page digits r page digits
-  variable_long long stopped = draws_none stopped (λ w. by_variable (λ s next. StateFits next → length w.page₀ < length (drawn_text next)) (part text start end) w.shows w.moves
+  pub variable_long : 16 < end - start → Draws text Variable start end 0 d page digits None page digits
+  variable_long long = draws_none (λ w. by_variable (λ s next. StateFits next → length w.page₀ < length (drawn_text next)) (part text start end) w.shows w.moves
       (λ before o opened told fits. absurd (too_long is_variable (part text start end) told (omega (arith, part_size text start end within)) (fits_variable (part text start end) fits.last_fits))))
 
-  pub variable_no_room : {r : Drawn} (lacks : Bool) → RoomTold (length page - d.to) (d.to - d.line) (end - start) lacks → lacks ≡ true → r.fine ≡ false → Draws text Variable start end 0 d page digits r page digits
-  variable_no_room lacks told is stopped = draws_none stopped (λ w. by_variable (λ s next. Drawing s d w.page₀ page digits → StateFits next → length w.page₀ < length (drawn_text next)) (part text start end) w.shows w.moves
+  pub variable_no_room : (lacks : Bool) → RoomTold (length page - d.to) (d.to - d.line) (end - start) lacks → lacks ≡ true → Draws text Variable start end 0 d page digits None page digits
+  variable_no_room lacks told is = draws_none (λ w. by_variable (λ s next. Drawing s d w.page₀ page digits → StateFits next → length w.page₀ < length (drawn_text next)) (part text start end) w.shows w.moves
       (λ before o opened word. no_room_in_compound w (part text start end) (Terms.variable (part text start end)) lacks told is (drawn_variable before o opened (part text start end)) (part_size text start end within)) w.drawing)
 
   pub variable_put : {after : Bytes} {q : ℕ} (lacks : Bool) → end - start ≤ 16 → RoomTold (length page - d.to) (d.to - d.line) (end - start) lacks → lacks ≡ false → PutAt (part text start end) (end - start) page after d.to q
-      → (r : Drawn) → r ≡ record { to = q; line = d.line; depth = d.depth; atoms = d.atoms; arguments = d.arguments; fine = true } → Draws text Variable start end 0 d page digits r after digits
-  variable_put {after} lacks short told is copied r e = record {
+      → Draws text Variable start end 0 d page digits (Some (record { to = q; line = d.line; depth = d.depth; atoms = d.atoms; arguments = d.arguments })) after digits
+  variable_put {after} {q} lacks short told is copied = record {
     size = copied.size;
     kept = refl;
-    drawn = λ w. by_variable (λ s next. Drawing s d w.page₀ page digits → DrawnNext next r w.page₀ after digits) (part text start end) w.shows w.moves
-        (λ before o opened word. in_compound (part text start end) (Terms.variable (part text start end)) lacks told is copied r e (drawn_variable before o opened (part text start end)) (part_size text start end within)
+    drawn = λ w. by_variable (λ s next. Drawing s d w.page₀ page digits → DrawnNext next w.page₀ after digits (Some (record { to = q; line = d.line; depth = d.depth; atoms = d.atoms; arguments = d.arguments }))) (part text start end) w.shows w.moves
+        (λ before o opened word. in_compound (part text start end) (Terms.variable (part text start end)) lacks told is copied (drawn_variable before o opened (part text start end)) (part_size text start end within)
         (variable_fits (part text start end) (short_enough is_variable (part text start end) word (omega (arith, part_size text start end within))))) w.drawing;
   }
 
 module _ {text : Bytes} {start end number : ℕ} {d : Drawn} {page : Bytes} {digits : List ℕ} {many : ℕ} (size : many ≡ length (decimal number)) where
-  pub lone_no_room : {r : Drawn} (lacks : Bool) → RoomTold (length page - d.to) (d.to - d.line) (many + 1) lacks → lacks ≡ true → r.fine ≡ false → Draws text Lone start end number d page digits r page digits
-  lone_no_room lacks told is stopped = draws_none stopped (λ w. by_lone (λ s next. Drawing s d w.page₀ page digits → StateFits next → length w.page₀ < length (drawn_text next)) (part text start end) number w.shows w.moves
+  pub lone_no_room : (lacks : Bool) → RoomTold (length page - d.to) (d.to - d.line) (many + 1) lacks → lacks ≡ true → Draws text Lone start end number d page digits None page digits
+  lone_no_room lacks told is = draws_none (λ w. by_lone (λ s next. Drawing s d w.page₀ page digits → StateFits next → length w.page₀ < length (drawn_text next)) (part text start end) number w.shows w.moves
       (λ before o opened small. no_room_in_compound w (numbered_variable number) (Terms.variable (numbered_variable number)) lacks told is (drawn_variable before o opened (numbered_variable number)) (numbered_length number many size)) w.drawing)
 
   pub lone_put : {after : Bytes} {q : ℕ} (lacks : Bool) → RoomTold (length page - d.to) (d.to - d.line) (many + 1) lacks → lacks ≡ false → PutAt (numbered_variable number) (length (decimal number) + 1) page after d.to q
-      → (r : Drawn) → r ≡ record { to = q; line = d.line; depth = d.depth; atoms = d.atoms; arguments = d.arguments; fine = true } → Draws text Lone start end number d page digits r after digits
-  lone_put {after} {q} lacks told is copied r e = record {
+      → Draws text Lone start end number d page digits (Some (record { to = q; line = d.line; depth = d.depth; atoms = d.atoms; arguments = d.arguments })) after digits
+  lone_put {after} {q} lacks told is copied = record {
     size = copied.size;
     kept = refl;
-    drawn = λ w. by_lone (λ s next. Drawing s d w.page₀ page digits → DrawnNext next r w.page₀ after digits) (part text start end) number w.shows w.moves
-        (λ before o opened small. in_compound (numbered_variable number) (Terms.variable (numbered_variable number)) lacks told is (subst (λ k. PutAt (numbered_variable number) (k + 1) page after d.to q) (sym size) copied) r e
+    drawn = λ w. by_lone (λ s next. Drawing s d w.page₀ page digits → DrawnNext next w.page₀ after digits (Some (record { to = q; line = d.line; depth = d.depth; atoms = d.atoms; arguments = d.arguments }))) (part text start end) number w.shows w.moves
+        (λ before o opened small. in_compound (numbered_variable number) (Terms.variable (numbered_variable number)) lacks told is (subst (λ k. PutAt (numbered_variable number) (k + 1) page after d.to q) (sym size) copied)
         (drawn_variable before o opened (numbered_variable number)) (numbered_length number many size) (variable_fits (numbered_variable number) (numbered_variable_lem number small))) w.drawing;
   }
 

@@ -1,5 +1,6 @@
 -- How far the lines of a clause are written on a page.
-use Rattle.std.specs.Prelude.{◌≡◌, Bool, true, false, List, [], ◌∷◌, ℕ, suc, ◌+◌, ◌≤◌, ◌<◌, leb, length, get_or}
+use Rattle.std.specs.Prelude.{◌≡◌, Bool, true, false, List, [], ◌∷◌, ℕ, suc, ◌+◌, ◌≤◌, ◌<◌, leb, length, get_or, Some, None}
+use Rattle.std.specs.Prelude as Rust
 use Rattle.std.proofs.Math.Option.{Option}
 use Prim.Native.Char.{code}
 use Rattle.theory.specs.Text.{Bytes, is_name, is_variable}
@@ -39,9 +40,9 @@ pub record Drawing (s : State) (d : Drawn) (page₀ page : Bytes) (digits : List
   pub fits : StateFits s
 
 -- after one more token; or a limit is passed, or the page is too short
-pub data DrawnNext (next : State) (r : Drawn) (page₀ page : Bytes) (digits : List ℕ) : Type 0 where
-  drawn_on : r.fine ≡ true → Drawing next r page₀ page digits → DrawnNext next r page₀ page digits
-  passes : r.fine ≡ false → (StateFits next → length page₀ < length (drawn_text next)) → DrawnNext next r page₀ page digits
+pub data DrawnNext (next : State) (page₀ page : Bytes) (digits : List ℕ) : Rust.Option Drawn → Type 0 where
+  drawn_on : {d : Drawn} → Drawing next d page₀ page digits → DrawnNext next page₀ page digits (Some d)
+  passes : (StateFits next → length page₀ < length (drawn_text next)) → DrawnNext next page₀ page digits None
 
 -- ## One token more
 
@@ -63,10 +64,10 @@ pub record Drawable (text : Bytes) (mark : Mark) (start end number : ℕ) (d : D
   pub moves : Moves state token next
 
 -- what the token leaves of the page and the table
-pub record Draws (text : Bytes) (mark : Mark) (start end number : ℕ) (d : Drawn) (page : Bytes) (digits : List ℕ) (r : Drawn) (after : Bytes) (digitsAfter : List ℕ) : Type 0 where
+pub record Draws (text : Bytes) (mark : Mark) (start end number : ℕ) (d : Drawn) (page : Bytes) (digits : List ℕ) (r : Rust.Option Drawn) (after : Bytes) (digitsAfter : List ℕ) : Type 0 where
   pub size : length after ≡ length page
   pub kept : length digitsAfter ≡ length digits
-  pub drawn : (w : Drawable text mark start end number d page digits) → DrawnNext w.next r w.page₀ after digitsAfter
+  pub drawn : (w : Drawable text mark start end number d page digits) → DrawnNext w.next w.page₀ after digitsAfter r
 
 -- so many bytes more have room, or where they have it on the page, not in the line
 pub record RoomTold (left used count : ℕ) (r : Bool) : Type 0 where

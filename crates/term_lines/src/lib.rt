@@ -10,7 +10,7 @@ ghost use Rattle.clause_tokens.specs.declared.Mark.TheVariants.{Name, Variable, 
 ghost use Rattle.term_lines.specs.Drawings.{RoomTold, LetterIs, Drawable, Draws};
 
 /// How far the lines of a clause are written: the place on the page after what is written, where this line begins, how many
-/// compounds are open, how many lines are complete, how many arguments of the atom have begun; and whether no limit is passed.
+/// compounds are open, how many lines are complete, and how many arguments of the atom have begun.
 #[derive(Clone, Copy)]
 pub struct Drawn {
     pub to: usize,
@@ -18,21 +18,6 @@ pub struct Drawn {
     pub depth: usize,
     pub atoms: usize,
     pub arguments: usize,
-    pub fine: bool,
-}
-
-/// A limit is passed.
-pub fn passed() -> Drawn
-    ensures { result.fine ≡ false }
-{
-    Drawn {
-        to: 0,
-        line: 0,
-        depth: 0,
-        atoms: 0,
-        arguments: 0,
-        fine: false,
-    }
 }
 
 /// Whether so many bytes more have no room on the rest of the page, or in their line, of which so many are used.
@@ -49,20 +34,6 @@ fn letter(atoms: usize) -> u8
     ensures { LetterIs atoms result }
 {
     if atoms == 0 { b'H' } else { b'B' }
-}
-
-/// The same line up to another place.
-fn moved(d: Drawn, to: usize) -> Drawn
-    ensures { result ≡ record { to = to; line = d.line; depth = d.depth; atoms = d.atoms; arguments = d.arguments; fine = true } }
-{
-    Drawn {
-        to,
-        line: d.line,
-        depth: d.depth,
-        atoms: d.atoms,
-        arguments: d.arguments,
-        fine: true,
-    }
 }
 
 /// Writes a letter, a comma and a part of a text.
@@ -99,32 +70,31 @@ fn put_atom(
     text: &[u8],
     start: usize,
     end: usize,
-    d: Drawn,
+    drawn: Drawn,
     page: &mut [u8],
     digits: &[usize; 256],
-) -> Drawn
-    requires { (start ≤ end) × (end ≤ length text.now) × (d.depth ≡ 0) × Drawable text.now Name start end 0 d page.old digits.now }
-    ensures { Draws text.now Name start end 0 d page.old digits.now result page.new digits.now }
+) -> Option<Drawn>
+    requires { (start ≤ end) × (end ≤ length text.now) × (drawn.depth ≡ 0) × Drawable text.now Name start end 0 drawn page.old digits.now }
+    ensures { Draws text.now Name start end 0 drawn page.old digits.now result page.new digits.now }
 {
-    let to = d.to;
+    let to = drawn.to;
     if 16 < end - start {
-        return passed();
+        return None;
     }
-    if 8 < d.atoms {
-        return passed();
+    if 8 < drawn.atoms {
+        return None;
     }
     if lacks_room(page.len() - to, 0, end - start + 2) {
-        return passed();
+        return None;
     }
-    let after = put_front(text, start, end, letter(d.atoms), page, to);
-    Drawn {
+    let after = put_front(text, start, end, letter(drawn.atoms), page, to);
+    Some(Drawn {
         to: after,
         line: to,
         depth: 0,
-        atoms: d.atoms,
         arguments: 0,
-        fine: true,
-    }
+        ..drawn
+    })
 }
 
 /// The name of a symbol, as if it had no arguments.
@@ -132,22 +102,22 @@ fn put_symbol(
     text: &[u8],
     start: usize,
     end: usize,
-    d: Drawn,
+    drawn: Drawn,
     page: &mut [u8],
     digits: &[usize; 256],
-) -> Drawn
-    requires { (start ≤ end) × (end ≤ length text.now) × (d.depth ≡ 0 → ⊥) × Drawable text.now Name start end 0 d page.old digits.now }
-    ensures { Draws text.now Name start end 0 d page.old digits.now result page.new digits.now }
+) -> Option<Drawn>
+    requires { (start ≤ end) × (end ≤ length text.now) × (drawn.depth ≡ 0 → ⊥) × Drawable text.now Name start end 0 drawn page.old digits.now }
+    ensures { Draws text.now Name start end 0 drawn page.old digits.now result page.new digits.now }
 {
-    let to = d.to;
+    let to = drawn.to;
     if 16 < end - start {
-        return passed();
+        return None;
     }
-    if lacks_room(page.len() - to, to - d.line, end - start + 2) {
-        return passed();
+    if lacks_room(page.len() - to, to - drawn.line, end - start + 2) {
+        return None;
     }
     let after = put_bare(text, start, end, page, to);
-    moved(d, after)
+    Some(Drawn { to: after, ..drawn })
 }
 
 /// A name: of a head or a subgoal where nothing is open.
@@ -155,17 +125,17 @@ pub fn put_name(
     text: &[u8],
     start: usize,
     end: usize,
-    d: Drawn,
+    drawn: Drawn,
     page: &mut [u8],
     digits: &[usize; 256],
-) -> Drawn
-    requires { (start ≤ end) × (end ≤ length text.now) × Drawable text.now Name start end 0 d page.old digits.now }
-    ensures { Draws text.now Name start end 0 d page.old digits.now result page.new digits.now }
+) -> Option<Drawn>
+    requires { (start ≤ end) × (end ≤ length text.now) × Drawable text.now Name start end 0 drawn page.old digits.now }
+    ensures { Draws text.now Name start end 0 drawn page.old digits.now result page.new digits.now }
 {
-    if d.depth == 0 {
-        put_atom(text, start, end, d, page, digits)
+    if drawn.depth == 0 {
+        put_atom(text, start, end, drawn, page, digits)
     } else {
-        put_symbol(text, start, end, d, page, digits)
+        put_symbol(text, start, end, drawn, page, digits)
     }
 }
 
@@ -174,22 +144,22 @@ pub fn put_variable(
     text: &[u8],
     start: usize,
     end: usize,
-    d: Drawn,
+    drawn: Drawn,
     page: &mut [u8],
     digits: &[usize; 256],
-) -> Drawn
-    requires { (start ≤ end) × (end ≤ length text.now) × Drawable text.now Variable start end 0 d page.old digits.now }
-    ensures { Draws text.now Variable start end 0 d page.old digits.now result page.new digits.now }
+) -> Option<Drawn>
+    requires { (start ≤ end) × (end ≤ length text.now) × Drawable text.now Variable start end 0 drawn page.old digits.now }
+    ensures { Draws text.now Variable start end 0 drawn page.old digits.now result page.new digits.now }
 {
-    let to = d.to;
+    let to = drawn.to;
     if 16 < end - start {
-        return passed();
+        return None;
     }
-    if lacks_room(page.len() - to, to - d.line, end - start) {
-        return passed();
+    if lacks_room(page.len() - to, to - drawn.line, end - start) {
+        return None;
     }
     let after = pages::put_part(text, start, end, page, to);
-    moved(d, after)
+    Some(Drawn { to: after, ..drawn })
 }
 
 /// A fresh variable, for a lone `_`.
@@ -198,18 +168,18 @@ pub fn put_lone(
     start: usize,
     end: usize,
     number: usize,
-    d: Drawn,
+    drawn: Drawn,
     page: &mut [u8],
     digits: &[usize; 256],
-) -> Drawn
-    requires { Drawable text.now Lone start end number d page.old digits.now }
-    ensures { Draws text.now Lone start end number d page.old digits.now result page.new digits.now }
+) -> Option<Drawn>
+    requires { Drawable text.now Lone start end number drawn page.old digits.now }
+    ensures { Draws text.now Lone start end number drawn page.old digits.now result page.new digits.now }
 {
-    let to = d.to;
+    let to = drawn.to;
     let many = pages::digits(number as u64);
-    if lacks_room(page.len() - to, to - d.line, many + 1) {
-        return passed();
+    if lacks_room(page.len() - to, to - drawn.line, many + 1) {
+        return None;
     }
     let after = put_numbered(number, page, to);
-    moved(d, after)
+    Some(Drawn { to: after, ..drawn })
 }

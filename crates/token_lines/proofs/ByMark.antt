@@ -1,8 +1,9 @@
 -- The writers by the kind of token, as their dispatchers cite them.
 use mathlib.Core.Path.{◌≡◌, refl, sym, ◌∙◌, subst}
-use mathlib.Core.Bool.{false}
 use mathlib.Core.List.{List, [], ◌∷◌}
 use Prim.Native.Nat.{ℕ}
+use Rattle.std.specs.Prelude.{None}
+use Rattle.std.specs.Prelude as Rust
 use types.Run.{OneOf, miss}
 use denote.Enum.Declared.{tag_of}
 use lib.ListN.{length}
@@ -62,18 +63,18 @@ module _ {text : Bytes} {mark : Mark} {start end number : ℕ} {d : Drawn} {page
     moves = w.moves;
   }
 
-  pub draws_as : {k : Mark} {r : Drawn} {after : Bytes} {digitsAfter : List ℕ} → Plain k → mark ≡ k → Draws text k start end 0 d page digits r after digitsAfter → Draws text mark start end number d page digits r after digitsAfter
+  pub draws_as : {k : Mark} {r : Rust.Option Drawn} {after : Bytes} {digitsAfter : List ℕ} → Plain k → mark ≡ k → Draws text k start end 0 d page digits r after digitsAfter → Draws text mark start end number d page digits r after digitsAfter
   draws_as plain is draws = record { size = draws.size; kept = draws.kept; drawn = λ w. draws.drawn (drawable_as plain is w) }
 
   pub drawable_lone : mark ≡ Lone → Drawable text mark start end number d page digits → Drawable text Lone start end number d page digits
   drawable_lone is w = subst (λ k. Drawable text k start end number d page digits) is w
 
-  pub draws_lone : {r : Drawn} {after : Bytes} → mark ≡ Lone → Draws text Lone start end number d page digits r after digits → Draws text mark start end number d page digits r after digits
+  pub draws_lone : {r : Rust.Option Drawn} {after : Bytes} → mark ≡ Lone → Draws text Lone start end number d page digits r after digits → Draws text mark start end number d page digits r after digits
   draws_lone {r} {after} is draws = subst (λ k. Draws text k start end number d page digits r after digits) (sym is) draws
 
   -- no move is by another token
-  pub draws_other : {r : Drawn} → OneOf (8 ∷ 9 ∷ []) (tag_of the_type mark) → r.fine ≡ false → Draws text mark start end number d page digits r page digits
-  draws_other way stopped = record { size = refl; kept = refl; drawn = λ w. passes stopped (λ fits. absurd (never_shown w.shows w.moves way)) }
+  pub draws_other : OneOf (8 ∷ 9 ∷ []) (tag_of the_type mark) → Draws text mark start end number d page digits None page digits
+  draws_other way = record { size = refl; kept = refl; drawn = λ w. passes (λ fits. absurd (never_shown w.shows w.moves way)) }
 
 -- ---- the ends of lines
 
@@ -113,5 +114,5 @@ module _ {text : Bytes} {mark : Mark} {start end number : ℕ} {d : Drawn} {page
   pub drawable_ends : Drawable text mark start end number d page digits → Drawable text mark start end 0 d page digits
   drawable_ends w = drawable_as (ends_plain (ends_by_tag mark way)) refl w
 
-  pub draws_ends : {r : Drawn} {after : Bytes} → Draws text mark start end 0 d page digits r after digits → Draws text mark start end number d page digits r after digits
+  pub draws_ends : {r : Rust.Option Drawn} {after : Bytes} → Draws text mark start end 0 d page digits r after digits → Draws text mark start end number d page digits r after digits
   draws_ends draws = draws_as (ends_plain (ends_by_tag mark way)) refl draws

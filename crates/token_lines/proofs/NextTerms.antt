@@ -7,6 +7,7 @@ use Prim.Native.Nat.{ℕ, suc, ◌+◌, ◌-◌, ◌≤◌, ◌<◌}
 use native.Mathlib.Omega.{arith}
 use lib.ListN.{length, get_or, set, drop, length-append, length-set}
 use lib.Seq.{get_or-append_seam}
+use Rattle.std.specs.Prelude.{Some, None}
 use Rattle.groundwork.proofs.Lists.{length_end}
 use Rattle.theory.specs.Text.{Bytes}
 use Rattle.theory.specs.Terms.{Term, arity, written_term}
@@ -74,12 +75,12 @@ module _ {text : Bytes} {start end : ℕ} {d : Drawn} {page : Bytes} {digits : L
   digit_inside w = by_term (λ s next. Drawing s d w.page₀ page digits → digit < length page) w.shows w.moves (deep_state w)
       (λ before o p opened t g. omega (arith, place, digit_place g, digit_before g, page_size g, g.room)) w.drawing
 
-  pub arity_full : {r : Drawn} → 56 < get_or page digit 0 → r.fine ≡ false → Draws text Comma start end 0 d page digits r page digits
-  arity_full full stopped = draws_none stopped (λ w. by_term (λ s next. Drawing s d w.page₀ page digits → StateFits next → length w.page₀ < length (drawn_text next)) w.shows w.moves (deep_state w)
+  pub arity_full : 56 < get_or page digit 0 → Draws text Comma start end 0 d page digits None page digits
+  arity_full full = draws_none (λ w. by_term (λ s next. Drawing s d w.page₀ page digits → StateFits next → length w.page₀ < length (drawn_text next)) w.shows w.moves (deep_state w)
       (λ before o p opened t g fits. absurd (omega (arith, ap (λ i. get_or page i 0) place, digit_is g, fits.opens_fit.0.few, arity_more t o.before))) w.drawing)
 
-  pub term_no_room : {r : Drawn} (lacks : Bool) → get_or page digit 0 ≤ 56 → RoomTold (length page - d.to) (d.to - d.line) 1 lacks → lacks ≡ true → r.fine ≡ false → Draws text Comma start end 0 d page digits r page digits
-  term_no_room lacks low told is stopped = draws_none stopped (λ w. by_term (λ s next. Drawing s d w.page₀ page digits → StateFits next → length w.page₀ < length (drawn_text next)) w.shows w.moves (deep_state w)
+  pub term_no_room : (lacks : Bool) → get_or page digit 0 ≤ 56 → RoomTold (length page - d.to) (d.to - d.line) 1 lacks → lacks ≡ true → Draws text Comma start end 0 d page digits None page digits
+  term_no_room lacks low told is = draws_none (λ w. by_term (λ s next. Drawing s d w.page₀ page digits → StateFits next → length w.page₀ < length (drawn_text next)) w.shows w.moves (deep_state w)
       (λ before o p opened t g.
       let next = state before (record { name = o.name; before = ending_term t o.before } ∷ p ∷ opened) due in
       let grown = line_next before o p opened t (omega (arith, ap (λ i. get_or page i 0) place, digit_is g)) in
@@ -87,17 +88,17 @@ module _ {text : Bytes} {start end : ℕ} {d : Drawn} {page : Bytes} {digits : L
       (omega (arith, grown, drawn_length before (o ∷ p ∷ opened) (read t), drawn_length before (record { name = o.name; before = ending_term t o.before } ∷ p ∷ opened) due, g.puts.many)) (omega (arith, grown, to_is g))) w.drawing)
 
   pub term_put : {after : Bytes} {q : ℕ} (lacks : Bool) → get_or page digit 0 ≤ 56 → RoomTold (length page - d.to) (d.to - d.line) 1 lacks → lacks ≡ false → Raised page digit (get_or page digit 0) d.to q after
-      → Draws text Comma start end 0 d page digits (record { to = q; line = d.line; depth = d.depth; atoms = d.atoms; arguments = d.arguments; fine = true }) after digits
+      → Draws text Comma start end 0 d page digits (Some (record { to = q; line = d.line; depth = d.depth; atoms = d.atoms; arguments = d.arguments })) after digits
   unfolding current
   term_put {after} {q} lacks low told is raised = record {
     size = ap length raised.is ∙ length-set raised.between digit (get_or page digit 0 + 1) ∙ raised.put.size;
     kept = refl;
-    drawn = λ w. by_term (λ s next. Drawing s d w.page₀ page digits → DrawnNext next (record { to = q; line = d.line; depth = d.depth; atoms = d.atoms; arguments = d.arguments; fine = true }) w.page₀ after digits)
-        w.shows w.moves (deep_state w) (λ before o p opened t g. drawn_on refl (drawing before o p opened t g)) w.drawing;
+    drawn = λ w. by_term (λ s next. Drawing s d w.page₀ page digits → DrawnNext next w.page₀ after digits (Some (record { to = q; line = d.line; depth = d.depth; atoms = d.atoms; arguments = d.arguments })))
+        w.shows w.moves (deep_state w) (λ before o p opened t g. drawn_on (drawing before o p opened t g)) w.drawing;
   }
     where
       drawing : {page₀ : Bytes} (before : Option Clause) (o p : Open) (opened : List Open) (t : Term) → Drawing (state before (o ∷ p ∷ opened) (read t)) d page₀ page digits
-          → Drawing (state before (record { name = o.name; before = ending_term t o.before } ∷ p ∷ opened) due) (record { to = q; line = d.line; depth = d.depth; atoms = d.atoms; arguments = d.arguments; fine = true }) page₀ after digits
+          → Drawing (state before (record { name = o.name; before = ending_term t o.before } ∷ p ∷ opened) due) (record { to = q; line = d.line; depth = d.depth; atoms = d.atoms; arguments = d.arguments }) page₀ after digits
       drawing {page₀} before o p opened t g =
           let k = arity o.before in
           let now-is : get_or page digit 0 ≡ 48 + suc k = ap (λ i. get_or page i 0) place ∙ digit_is g in

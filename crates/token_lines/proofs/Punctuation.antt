@@ -7,6 +7,7 @@ use Prim.Native.Nat.{ℕ, ◌+◌, ◌-◌, ◌*◌, ◌≤◌, ◌<◌}
 use native.Mathlib.Omega.{arith}
 use lib.ListN.{length, get_or, set, length-append, length-set}
 use lib.Seq.{get_or-set_same, get_or-set_other}
+use Rattle.std.specs.Prelude.{Some, None}
 use Rattle.groundwork.proofs.Lists.{length_end}
 use Rattle.theory.specs.Text.{Bytes, is_name}
 use Rattle.theory.specs.Terms.{Term, symbol, nil, arity}
@@ -40,20 +41,20 @@ unfolding arity term_fits
 bare_opens limit f h named = record { named = named; few = omega arith; formed = refl }
 
 module _ {text : Bytes} {start end : ℕ} {d : Drawn} {page : Bytes} {digits : List ℕ} (shut : d.depth ≡ 0) where
-  pub opens_no_room : {r : Drawn} (lacks : Bool) → RoomTold (length page - d.to) (d.to - d.line) 1 lacks → lacks ≡ true → r.fine ≡ false → Draws text Opens start end 0 d page digits r page digits
-  opens_no_room lacks told is stopped = draws_none stopped (λ w. by_opens_atom (λ s next. Drawing s d w.page₀ page digits → StateFits next → length w.page₀ < length (drawn_text next)) w.shows w.moves (omega (arith, w.drawing.depth, shut))
+  pub opens_no_room : (lacks : Bool) → RoomTold (length page - d.to) (d.to - d.line) 1 lacks → lacks ≡ true → Draws text Opens start end 0 d page digits None page digits
+  opens_no_room lacks told is = draws_none (λ w. by_opens_atom (λ s next. Drawing s d w.page₀ page digits → StateFits next → length w.page₀ < length (drawn_text next)) w.shows w.moves (omega (arith, w.drawing.depth, shut))
       (λ before f g. no_room w (d.to - d.line) 1 (state before (record { name = f; before = nil } ∷ []) due) lacks told is
       (omega (arith, ap length (drawn_atom_opens before f), length_end (drawn_text (state before [] (read (symbol f nil)))) 44, g.puts.many)) (omega (arith, line_atom_opens before f, to_is g))) w.drawing)
 
   pub opens_put : {after : Bytes} {q : ℕ} (lacks : Bool) → RoomTold (length page - d.to) (d.to - d.line) 1 lacks → lacks ≡ false → PutAt (44 ∷ []) 1 page after d.to q
-      → Draws text Opens start end 0 d page digits (record { to = q; line = d.line; depth = 1; atoms = d.atoms; arguments = 1; fine = true }) after digits
+      → Draws text Opens start end 0 d page digits (Some (record { to = q; line = d.line; depth = 1; atoms = d.atoms; arguments = 1 })) after digits
   unfolding current arity atom_of
   opens_put {after} {q} lacks told is copied = record {
     size = copied.size;
     kept = refl;
-    drawn = λ w. by_opens_atom (λ s next. Drawing s d w.page₀ page digits → DrawnNext next (record { to = q; line = d.line; depth = 1; atoms = d.atoms; arguments = 1; fine = true }) w.page₀ after digits) w.shows w.moves
+    drawn = λ w. by_opens_atom (λ s next. Drawing s d w.page₀ page digits → DrawnNext next w.page₀ after digits (Some (record { to = q; line = d.line; depth = 1; atoms = d.atoms; arguments = 1 }))) w.shows w.moves
         (omega (arith, w.drawing.depth, shut))
-        (λ before f g. drawn_on refl (in_line (44 ∷ []) lacks told is copied refl [] (record { name = f; before = nil } ∷ []) (read (symbol f nil)) due g _ refl refl refl refl refl tt
+        (λ before f g. drawn_on (in_line (44 ∷ []) lacks told is copied refl [] (record { name = f; before = nil } ∷ []) (read (symbol f nil)) due g _ refl refl refl refl refl tt
         (drawn_atom_opens before f) (line_atom_opens before f) refl (bare_opens 8 f (omega arith) (atom_named f nil g.fits.last_fits)) tt)) w.drawing;
   }
 
@@ -66,24 +67,24 @@ by_argument P (shows_sign sign_comma) (next_argument {before = before} {o = o} {
 by_argument P (shows_sign sign_comma) next_term one p = absurd (omega arith)
 
 module _ {text : Bytes} {start end : ℕ} {d : Drawn} {page : Bytes} {digits : List ℕ} (single : d.depth ≡ 1) where
-  pub arguments_many : {r : Drawn} → 7 < d.arguments → r.fine ≡ false → Draws text Comma start end 0 d page digits r page digits
-  arguments_many many stopped = draws_none stopped (λ w. by_argument (λ s next. Drawing s d w.page₀ page digits → StateFits next → length w.page₀ < length (drawn_text next)) w.shows w.moves (omega (arith, w.drawing.depth, single))
+  pub arguments_many : 7 < d.arguments → Draws text Comma start end 0 d page digits None page digits
+  arguments_many many = draws_none (λ w. by_argument (λ s next. Drawing s d w.page₀ page digits → StateFits next → length w.page₀ < length (drawn_text next)) w.shows w.moves (omega (arith, w.drawing.depth, single))
       (λ before o t g fits. absurd (omega (arith, g.arguments, fits.opens_fit.few, arity_more t o.before))) w.drawing)
 
-  pub argument_no_room : {r : Drawn} (lacks : Bool) → RoomTold (length page - d.to) (d.to - d.line) 1 lacks → lacks ≡ true → r.fine ≡ false → Draws text Comma start end 0 d page digits r page digits
-  argument_no_room lacks told is stopped = draws_none stopped (λ w. by_argument (λ s next. Drawing s d w.page₀ page digits → StateFits next → length w.page₀ < length (drawn_text next)) w.shows w.moves (omega (arith, w.drawing.depth, single))
+  pub argument_no_room : (lacks : Bool) → RoomTold (length page - d.to) (d.to - d.line) 1 lacks → lacks ≡ true → Draws text Comma start end 0 d page digits None page digits
+  argument_no_room lacks told is = draws_none (λ w. by_argument (λ s next. Drawing s d w.page₀ page digits → StateFits next → length w.page₀ < length (drawn_text next)) w.shows w.moves (omega (arith, w.drawing.depth, single))
       (λ before o t g. no_room w (d.to - d.line) 1 (state before (record { name = o.name; before = ending_term t o.before } ∷ []) due) lacks told is
       (omega (arith, ap length (drawn_argument before o t), length_end (drawn_text (state before (o ∷ []) (read t))) 44, g.puts.many)) (omega (arith, line_argument before o t, to_is g))) w.drawing)
 
   pub argument_put : {after : Bytes} {q : ℕ} (lacks : Bool) → d.arguments ≤ 7 → RoomTold (length page - d.to) (d.to - d.line) 1 lacks → lacks ≡ false → PutAt (44 ∷ []) 1 page after d.to q
-      → Draws text Comma start end 0 d page digits (record { to = q; line = d.line; depth = d.depth; atoms = d.atoms; arguments = d.arguments + 1; fine = true }) after digits
+      → Draws text Comma start end 0 d page digits (Some (record { to = q; line = d.line; depth = d.depth; atoms = d.atoms; arguments = d.arguments + 1 })) after digits
   unfolding current
   argument_put {after} {q} lacks few told is copied = record {
     size = copied.size;
     kept = refl;
-    drawn = λ w. by_argument (λ s next. Drawing s d w.page₀ page digits → DrawnNext next (record { to = q; line = d.line; depth = d.depth; atoms = d.atoms; arguments = d.arguments + 1; fine = true }) w.page₀ after digits) w.shows w.moves
+    drawn = λ w. by_argument (λ s next. Drawing s d w.page₀ page digits → DrawnNext next w.page₀ after digits (Some (record { to = q; line = d.line; depth = d.depth; atoms = d.atoms; arguments = d.arguments + 1 }))) w.shows w.moves
         (omega (arith, w.drawing.depth, single))
-        (λ before o t g. drawn_on refl (in_line (44 ∷ []) lacks told is copied refl (o ∷ []) (record { name = o.name; before = ending_term t o.before } ∷ []) (read t) due g _ refl refl g.depth refl
+        (λ before o t g. drawn_on (in_line (44 ∷ []) lacks told is copied refl (o ∷ []) (record { name = o.name; before = ending_term t o.before } ∷ []) (read t) due g _ refl refl g.depth refl
         (omega (arith, g.arguments, arity_more t o.before)) tt (drawn_argument before o t) (line_argument before o t) refl
         (record { named = g.fits.opens_fit.named; few = omega (arith, g.arguments, arity_more t o.before); formed = terms_fit_more t o.before g.fits.opens_fit.formed g.fits.last_fits }) tt)) w.drawing;
   }
@@ -123,12 +124,12 @@ module _ {text : Bytes} {start end : ℕ} {d : Drawn} {page : Bytes} {digits : L
   pub closes_deep : Drawable text Closes start end 0 d page digits → 1 ≤ d.depth
   closes_deep w = by_closes (λ s next. d.depth ≡ length s.opened → 1 ≤ d.depth) w.shows w.moves (λ before o opened t e. omega arith) w.drawing.depth
 
-  pub closes_put : Draws text Closes start end 0 d page digits (record { to = d.to; line = d.line; depth = d.depth - 1; atoms = d.atoms; arguments = d.arguments; fine = true }) page digits
+  pub closes_put : Draws text Closes start end 0 d page digits (Some (record { to = d.to; line = d.line; depth = d.depth - 1; atoms = d.atoms; arguments = d.arguments })) page digits
   closes_put = record {
     size = refl;
     kept = refl;
-    drawn = λ w. by_closes (λ s next. Drawing s d w.page₀ page digits → DrawnNext next (record { to = d.to; line = d.line; depth = d.depth - 1; atoms = d.atoms; arguments = d.arguments; fine = true }) w.page₀ page digits) w.shows w.moves
-        (λ before o opened t g. drawn_on refl (record {
+    drawn = λ w. by_closes (λ s next. Drawing s d w.page₀ page digits → DrawnNext next w.page₀ page digits (Some (record { to = d.to; line = d.line; depth = d.depth - 1; atoms = d.atoms; arguments = d.arguments }))) w.shows w.moves
+        (λ before o opened t g. drawn_on (record {
           puts = subst (λ bs. Puts bs w.page₀ page d.to) (sym (drawn_closes before o opened t)) g.puts;
           room = g.room;
           line = g.line;
@@ -158,20 +159,20 @@ by_ends P neck_ends (shows_sign sign_neck) (ends_line {before = before} {t = t} 
 by_ends P stop_ends (shows_sign sign_stop) (ends_line {before = before} {t = t} e) zero p = p before t
 
 module _ {text : Bytes} {mark : Mark} {start end : ℕ} {d : Drawn} {page : Bytes} {digits : List ℕ} (shut : d.depth ≡ 0) (ends : EndsLine mark) where
-  pub end_no_room : {r : Drawn} → length page ≤ d.to → r.fine ≡ false → Draws text mark start end 0 d page digits r page digits
-  end_no_room full stopped = draws_none stopped (λ w. by_ends (λ s next. Drawing s d w.page₀ page digits → StateFits next → length w.page₀ < length (drawn_text next)) ends w.shows w.moves (omega (arith, w.drawing.depth, shut))
+  pub end_no_room : length page ≤ d.to → Draws text mark start end 0 d page digits None page digits
+  end_no_room full = draws_none (λ w. by_ends (λ s next. Drawing s d w.page₀ page digits → StateFits next → length w.page₀ < length (drawn_text next)) ends w.shows w.moves (omega (arith, w.drawing.depth, shut))
       (λ before t g fits. omega (arith, ap length (drawn_line before t), length_end (drawn_text (state before [] (read t))) 10, g.puts.many, page_size g)) w.drawing)
 
   pub end_put : {after : Bytes} {q : ℕ} → d.to < length page → PutAt (10 ∷ []) 1 page after d.to q
-      → Draws text mark start end 0 d page digits (record { to = q; line = q; depth = 0; atoms = d.atoms + 1; arguments = 0; fine = true }) after digits
+      → Draws text mark start end 0 d page digits (Some (record { to = q; line = q; depth = 0; atoms = d.atoms + 1; arguments = 0 })) after digits
   end_put {after} {q} room copied = record {
     size = copied.size;
     kept = refl;
-    drawn = λ w. by_ends (λ s next. Drawing s d w.page₀ page digits → DrawnNext next (record { to = q; line = q; depth = 0; atoms = d.atoms + 1; arguments = 0; fine = true }) w.page₀ after digits) ends w.shows w.moves
+    drawn = λ w. by_ends (λ s next. Drawing s d w.page₀ page digits → DrawnNext next w.page₀ after digits (Some (record { to = q; line = q; depth = 0; atoms = d.atoms + 1; arguments = 0 }))) ends w.shows w.moves
         (omega (arith, w.drawing.depth, shut))
         (λ before t g.
         let put : Puts (drawn_text (state (some (added before (atom_of t))) [] due)) w.page₀ after q = subst (λ bs. Puts bs w.page₀ after q) (sym (drawn_line before t)) (puts_more g.puts (10 ∷ []) copied.puts) in
-        drawn_on refl (record {
+        drawn_on (record {
           puts = put;
           room = omega (arith, copied.after, page_size g);
           line = omega (arith, put.many, drawn_length (some (added before (atom_of t))) [] due, no_line (some (added before (atom_of t))));
@@ -205,12 +206,12 @@ pub depth_small : {text : Bytes} {mark : Mark} {start end number : ℕ} {d : Dra
 depth_small w = omega (arith, line_deep w.state.before w.state.opened w.state.last w.drawing.fits, w.drawing.depth)
 
 module _ {text : Bytes} {start end : ℕ} {d : Drawn} {page : Bytes} {digits : List ℕ} (inside : d.depth ≡ 0 → ⊥) where
-  pub too_deep : {r : Drawn} → 255 < d.depth → r.fine ≡ false → Draws text Opens start end 0 d page digits r page digits
-  too_deep deep stopped = draws_none stopped (λ w. by_opens_symbol (λ s next. Drawing s d w.page₀ page digits → StateFits next → length w.page₀ < length (drawn_text next)) w.shows w.moves (λ e. inside (w.drawing.depth ∙ e))
+  pub too_deep : 255 < d.depth → Draws text Opens start end 0 d page digits None page digits
+  too_deep deep = draws_none (λ w. by_opens_symbol (λ s next. Drawing s d w.page₀ page digits → StateFits next → length w.page₀ < length (drawn_text next)) w.shows w.moves (λ e. inside (w.drawing.depth ∙ e))
       (λ before o opened f g fits. absurd (omega (arith, line_deep before (record { name = f; before = nil } ∷ o ∷ opened) due fits, g.depth))) w.drawing)
 
-  pub symbol_opens_no_room : {r : Drawn} (lacks : Bool) → RoomTold (length page - d.to) (d.to - d.line) 1 lacks → lacks ≡ true → r.fine ≡ false → Draws text Opens start end 0 d page digits r page digits
-  symbol_opens_no_room lacks told is stopped = draws_none stopped (λ w. by_opens_symbol (λ s next. Drawing s d w.page₀ page digits → StateFits next → length w.page₀ < length (drawn_text next)) w.shows w.moves (λ e. inside (w.drawing.depth ∙ e))
+  pub symbol_opens_no_room : (lacks : Bool) → RoomTold (length page - d.to) (d.to - d.line) 1 lacks → lacks ≡ true → Draws text Opens start end 0 d page digits None page digits
+  symbol_opens_no_room lacks told is = draws_none (λ w. by_opens_symbol (λ s next. Drawing s d w.page₀ page digits → StateFits next → length w.page₀ < length (drawn_text next)) w.shows w.moves (λ e. inside (w.drawing.depth ∙ e))
       (λ before o opened f g. no_room w (d.to - d.line) 1 (state before (record { name = f; before = nil } ∷ o ∷ opened) due) lacks told is
       (omega (arith, line_symbol_opens before o opened f, drawn_length before (o ∷ opened) (read (symbol f nil)), drawn_length before (record { name = f; before = nil } ∷ o ∷ opened) due, g.puts.many)) (omega (arith, line_symbol_opens before o opened f, to_is g))) w.drawing)
 
@@ -223,17 +224,17 @@ module _ {text : Bytes} {start end : ℕ} {d : Drawn} {page : Bytes} {digits : L
   digit_in_page w copied = omega (arith, digit_written w, to_within w, copied.size)
 
   pub symbol_opens_put : {after : Bytes} {q : ℕ} (lacks : Bool) → d.depth ≤ 255 → length digits ≡ 256 → RoomTold (length page - d.to) (d.to - d.line) 1 lacks → lacks ≡ false → PutAt (32 ∷ []) 1 page after d.to q
-      → Draws text Opens start end 0 d page digits (record { to = q; line = d.line; depth = d.depth + 1; atoms = d.atoms; arguments = d.arguments; fine = true }) (set after (d.to - 1) 49) (set digits d.depth (d.to - 1))
+      → Draws text Opens start end 0 d page digits (Some (record { to = q; line = d.line; depth = d.depth + 1; atoms = d.atoms; arguments = d.arguments })) (set after (d.to - 1) 49) (set digits d.depth (d.to - 1))
   unfolding current atom_of arity
   symbol_opens_put {after} {q} lacks shallow full told is copied = record {
     size = length-set after (d.to - 1) 49 ∙ copied.size;
     kept = length-set digits d.depth (d.to - 1);
-    drawn = λ w. by_opens_symbol (λ s next. Drawing s d w.page₀ page digits → DrawnNext next (record { to = q; line = d.line; depth = d.depth + 1; atoms = d.atoms; arguments = d.arguments; fine = true }) w.page₀ (set after (d.to - 1) 49) (set digits d.depth (d.to - 1)))
-        w.shows w.moves (λ e. inside (w.drawing.depth ∙ e)) (λ before o opened f g. drawn_on refl (drawing before o opened f g)) w.drawing;
+    drawn = λ w. by_opens_symbol (λ s next. Drawing s d w.page₀ page digits → DrawnNext next w.page₀ (set after (d.to - 1) 49) (set digits d.depth (d.to - 1)) (Some (record { to = q; line = d.line; depth = d.depth + 1; atoms = d.atoms; arguments = d.arguments })))
+        w.shows w.moves (λ e. inside (w.drawing.depth ∙ e)) (λ before o opened f g. drawn_on (drawing before o opened f g)) w.drawing;
   }
     where
       drawing : {page₀ : Bytes} (before : Option Clause) (o : Open) (opened : List Open) (f : Bytes) → Drawing (state before (o ∷ opened) (read (symbol f nil))) d page₀ page digits
-          → Drawing (state before (record { name = f; before = nil } ∷ o ∷ opened) due) (record { to = q; line = d.line; depth = d.depth + 1; atoms = d.atoms; arguments = d.arguments; fine = true }) page₀ (set after (d.to - 1) 49) (set digits d.depth (d.to - 1))
+          → Drawing (state before (record { name = f; before = nil } ∷ o ∷ opened) due) (record { to = q; line = d.line; depth = d.depth + 1; atoms = d.atoms; arguments = d.arguments }) page₀ (set after (d.to - 1) 49) (set digits d.depth (d.to - 1))
       drawing {page₀} before o opened f g =
           let front = drawn_text (state before (o ∷ opened) due) ++ (f ++ (47 ∷ [])) in
           let place : d.to - 1 ≡ length front = omega (arith, g.puts.many, ap length (drawn_symbol_digit before o opened f), length_end front 48) in

@@ -1,7 +1,7 @@
 // What each token makes of the lines of a clause.
 #![tactic(auto)]
 
-ghost use Rattle.std.specs.Prelude.{◌≡◌, ◌+◌, ◌-◌, ◌≤◌, ◌<◌, length, get_or};
+ghost use Rattle.std.specs.Prelude.{◌≡◌, ◌+◌, ◌-◌, ◌≤◌, ◌<◌, length, get_or, Some};
 ghost use Rattle.clause_tokens.specs.declared.Mark.TheVariants.{Opens, Closes, Comma};
 ghost use Rattle.term_lines.specs.Drawings.{Drawable, Draws};
 ghost use Rattle.token_lines.specs.LineEnds.{EndsLine};
@@ -15,26 +15,24 @@ fn open_atom(
     text: &[u8],
     start: usize,
     end: usize,
-    d: Drawn,
+    drawn: Drawn,
     page: &mut [u8],
     digits: &[usize; 256],
-) -> Drawn
-    requires { (d.depth ≡ 0) × Drawable text.now Opens start end 0 d page.old digits.now }
-    ensures { Draws text.now Opens start end 0 d page.old digits.now result page.new digits.now }
+) -> Option<Drawn>
+    requires { (drawn.depth ≡ 0) × Drawable text.now Opens start end 0 drawn page.old digits.now }
+    ensures { Draws text.now Opens start end 0 drawn page.old digits.now result page.new digits.now }
 {
-    let to = d.to;
-    if term_lines::lacks_room(page.len() - to, to - d.line, 1) {
-        return term_lines::passed();
+    let to = drawn.to;
+    if term_lines::lacks_room(page.len() - to, to - drawn.line, 1) {
+        return None;
     }
     let after = pages::put_byte(b',', page, to);
-    Drawn {
+    Some(Drawn {
         to: after,
-        line: d.line,
         depth: 1,
-        atoms: d.atoms,
         arguments: 1,
-        fine: true,
-    }
+        ..drawn
+    })
 }
 
 /// The next argument of a head or a subgoal is due.
@@ -42,29 +40,26 @@ fn next_argument(
     text: &[u8],
     start: usize,
     end: usize,
-    d: Drawn,
+    drawn: Drawn,
     page: &mut [u8],
     digits: &[usize; 256],
-) -> Drawn
-    requires { (d.depth ≡ 1) × Drawable text.now Comma start end 0 d page.old digits.now }
-    ensures { Draws text.now Comma start end 0 d page.old digits.now result page.new digits.now }
+) -> Option<Drawn>
+    requires { (drawn.depth ≡ 1) × Drawable text.now Comma start end 0 drawn page.old digits.now }
+    ensures { Draws text.now Comma start end 0 drawn page.old digits.now result page.new digits.now }
 {
-    let to = d.to;
-    if 7 < d.arguments {
-        return term_lines::passed();
+    let to = drawn.to;
+    if 7 < drawn.arguments {
+        return None;
     }
-    if term_lines::lacks_room(page.len() - to, to - d.line, 1) {
-        return term_lines::passed();
+    if term_lines::lacks_room(page.len() - to, to - drawn.line, 1) {
+        return None;
     }
     let after = pages::put_byte(b',', page, to);
-    Drawn {
+    Some(Drawn {
         to: after,
-        line: d.line,
-        depth: d.depth,
-        atoms: d.atoms,
-        arguments: d.arguments + 1,
-        fine: true,
-    }
+        arguments: drawn.arguments + 1,
+        ..drawn
+    })
 }
 
 /// The innermost open compound is complete.
@@ -72,20 +67,16 @@ fn close(
     text: &[u8],
     start: usize,
     end: usize,
-    d: Drawn,
+    drawn: Drawn,
     page: &[u8],
     digits: &[usize; 256],
 ) -> Drawn
-    requires { Drawable text.now Closes start end 0 d page.now digits.now }
-    ensures { Draws text.now Closes start end 0 d page.now digits.now result page.now digits.now }
+    requires { Drawable text.now Closes start end 0 drawn page.now digits.now }
+    ensures { Draws text.now Closes start end 0 drawn page.now digits.now (Some result) page.now digits.now }
 {
     Drawn {
-        to: d.to,
-        line: d.line,
-        depth: d.depth - 1,
-        atoms: d.atoms,
-        arguments: d.arguments,
-        fine: true,
+        depth: drawn.depth - 1,
+        ..drawn
     }
 }
 
@@ -95,26 +86,25 @@ fn end_line(
     mark: Mark,
     start: usize,
     end: usize,
-    d: Drawn,
+    drawn: Drawn,
     page: &mut [u8],
     digits: &[usize; 256],
-) -> Drawn
-    requires { (d.depth ≡ 0) × EndsLine mark × Drawable text.now mark start end 0 d page.old digits.now }
-    ensures { Draws text.now mark start end 0 d page.old digits.now result page.new digits.now }
+) -> Option<Drawn>
+    requires { (drawn.depth ≡ 0) × EndsLine mark × Drawable text.now mark start end 0 drawn page.old digits.now }
+    ensures { Draws text.now mark start end 0 drawn page.old digits.now result page.new digits.now }
 {
-    let to = d.to;
+    let to = drawn.to;
     if page.len() <= to {
-        return term_lines::passed();
+        return None;
     }
     let after = pages::put_byte(b'\n', page, to);
-    Drawn {
+    Some(Drawn {
         to: after,
         line: after,
         depth: 0,
-        atoms: d.atoms + 1,
+        atoms: drawn.atoms + 1,
         arguments: 0,
-        fine: true,
-    }
+    })
 }
 
 /// The first argument of a symbol is due: its arity, the last byte written, becomes 1, and the place of it is kept.
@@ -122,32 +112,29 @@ fn open_symbol(
     text: &[u8],
     start: usize,
     end: usize,
-    d: Drawn,
+    drawn: Drawn,
     page: &mut [u8],
     digits: &mut [usize; 256],
-) -> Drawn
-    requires { (d.depth ≡ 0 → ⊥) × (length digits.old ≡ 256) × Drawable text.now Opens start end 0 d page.old digits.old }
-    ensures { Draws text.now Opens start end 0 d page.old digits.old result page.new digits.new }
+) -> Option<Drawn>
+    requires { (drawn.depth ≡ 0 → ⊥) × (length digits.old ≡ 256) × Drawable text.now Opens start end 0 drawn page.old digits.old }
+    ensures { Draws text.now Opens start end 0 drawn page.old digits.old result page.new digits.new }
 {
-    let to = d.to;
-    let depth = d.depth;
+    let to = drawn.to;
+    let depth = drawn.depth;
     if 255 < depth {
-        return term_lines::passed();
+        return None;
     }
-    if term_lines::lacks_room(page.len() - to, to - d.line, 1) {
-        return term_lines::passed();
+    if term_lines::lacks_room(page.len() - to, to - drawn.line, 1) {
+        return None;
     }
     digits[depth] = to - 1;
     let after = pages::put_byte(b' ', page, to);
     page[to - 1] = b'1';
-    Drawn {
+    Some(Drawn {
         to: after,
-        line: d.line,
         depth: depth + 1,
-        atoms: d.atoms,
-        arguments: d.arguments,
-        fine: true,
-    }
+        ..drawn
+    })
 }
 
 /// The place of the digit of the innermost of so many open compounds.
@@ -173,31 +160,24 @@ fn next_term(
     text: &[u8],
     start: usize,
     end: usize,
-    d: Drawn,
+    drawn: Drawn,
     page: &mut [u8],
     digits: &[usize; 256],
-) -> Drawn
-    requires { (1 < d.depth) × (length digits.now ≡ 256) × Drawable text.now Comma start end 0 d page.old digits.now }
-    ensures { Draws text.now Comma start end 0 d page.old digits.now result page.new digits.now }
+) -> Option<Drawn>
+    requires { (1 < drawn.depth) × (length digits.now ≡ 256) × Drawable text.now Comma start end 0 drawn page.old digits.now }
+    ensures { Draws text.now Comma start end 0 drawn page.old digits.now result page.new digits.now }
 {
-    let to = d.to;
-    let digit = kept_place(d.depth, digits);
+    let to = drawn.to;
+    let digit = kept_place(drawn.depth, digits);
     let arity = page[digit];
     if b'8' < arity {
-        return term_lines::passed();
+        return None;
     }
-    if term_lines::lacks_room(page.len() - to, to - d.line, 1) {
-        return term_lines::passed();
+    if term_lines::lacks_room(page.len() - to, to - drawn.line, 1) {
+        return None;
     }
     let after = raise(page, digit, arity, to);
-    Drawn {
-        to: after,
-        line: d.line,
-        depth: d.depth,
-        atoms: d.atoms,
-        arguments: d.arguments,
-        fine: true,
-    }
+    Some(Drawn { to: after, ..drawn })
 }
 
 /// An opening parenthesis.
@@ -205,17 +185,17 @@ fn put_opening(
     text: &[u8],
     start: usize,
     end: usize,
-    d: Drawn,
+    drawn: Drawn,
     page: &mut [u8],
     digits: &mut [usize; 256],
-) -> Drawn
-    requires { (length digits.old ≡ 256) × Drawable text.now Opens start end 0 d page.old digits.old }
-    ensures { Draws text.now Opens start end 0 d page.old digits.old result page.new digits.new }
+) -> Option<Drawn>
+    requires { (length digits.old ≡ 256) × Drawable text.now Opens start end 0 drawn page.old digits.old }
+    ensures { Draws text.now Opens start end 0 drawn page.old digits.old result page.new digits.new }
 {
-    if d.depth == 0 {
-        open_atom(text, start, end, d, page, digits)
+    if drawn.depth == 0 {
+        open_atom(text, start, end, drawn, page, digits)
     } else {
-        open_symbol(text, start, end, d, page, digits)
+        open_symbol(text, start, end, drawn, page, digits)
     }
 }
 
@@ -224,20 +204,20 @@ fn put_comma(
     text: &[u8],
     start: usize,
     end: usize,
-    d: Drawn,
+    drawn: Drawn,
     page: &mut [u8],
     digits: &[usize; 256],
-) -> Drawn
-    requires { (length digits.now ≡ 256) × Drawable text.now Comma start end 0 d page.old digits.now }
-    ensures { Draws text.now Comma start end 0 d page.old digits.now result page.new digits.now }
+) -> Option<Drawn>
+    requires { (length digits.now ≡ 256) × Drawable text.now Comma start end 0 drawn page.old digits.now }
+    ensures { Draws text.now Comma start end 0 drawn page.old digits.now result page.new digits.now }
 {
-    if d.depth == 0 {
-        return end_line(text, Mark::Comma, start, end, d, page, digits);
+    if drawn.depth == 0 {
+        return end_line(text, Mark::Comma, start, end, drawn, page, digits);
     }
-    if d.depth == 1 {
-        next_argument(text, start, end, d, page, digits)
+    if drawn.depth == 1 {
+        next_argument(text, start, end, drawn, page, digits)
     } else {
-        next_term(text, start, end, d, page, digits)
+        next_term(text, start, end, drawn, page, digits)
     }
 }
 
@@ -248,21 +228,21 @@ pub fn put_token(
     start: usize,
     end: usize,
     number: usize,
-    d: Drawn,
+    drawn: Drawn,
     page: &mut [u8],
     digits: &mut [usize; 256],
-) -> Drawn
-    requires { (start ≤ end) × (end ≤ length text.now) × (length digits.old ≡ 256) × Drawable text.now mark start end number d page.old digits.old }
-    ensures { Draws text.now mark start end number d page.old digits.old result page.new digits.new }
+) -> Option<Drawn>
+    requires { (start ≤ end) × (end ≤ length text.now) × (length digits.old ≡ 256) × Drawable text.now mark start end number drawn page.old digits.old }
+    ensures { Draws text.now mark start end number drawn page.old digits.old result page.new digits.new }
 {
     match mark {
-        Mark::Name => term_lines::put_name(text, start, end, d, page, digits),
-        Mark::Variable => term_lines::put_variable(text, start, end, d, page, digits),
-        Mark::Lone => term_lines::put_lone(text, start, end, number, d, page, digits),
-        Mark::Opens => put_opening(text, start, end, d, page, digits),
-        Mark::Closes => close(text, start, end, d, page, digits),
-        Mark::Comma => put_comma(text, start, end, d, page, digits),
-        Mark::Neck | Mark::Stop => end_line(text, mark, start, end, d, page, digits),
-        Mark::Stray | Mark::Nothing => term_lines::passed(),
+        Mark::Name => term_lines::put_name(text, start, end, drawn, page, digits),
+        Mark::Variable => term_lines::put_variable(text, start, end, drawn, page, digits),
+        Mark::Lone => term_lines::put_lone(text, start, end, number, drawn, page, digits),
+        Mark::Opens => put_opening(text, start, end, drawn, page, digits),
+        Mark::Closes => Some(close(text, start, end, drawn, page, digits)),
+        Mark::Comma => put_comma(text, start, end, drawn, page, digits),
+        Mark::Neck | Mark::Stop => end_line(text, mark, start, end, drawn, page, digits),
+        Mark::Stray | Mark::Nothing => None,
     }
 }

@@ -9,26 +9,26 @@ loop-at-init c = search (rules, progress_none)
 pub number_after-number-requires : goal.number_after-number-requires
 number_after-number-requires c = search (rules, progress_tabled, progress_low)
 
-pub put_token-drawn-requires : goal.put_token-drawn-requires
-put_token-drawn-requires c = search (rules, progress_ordered, progress_inside, progress_drawable)
+pub put_token-requires : goal.put_token-requires
+put_token-requires c = search (rules, progress_ordered, progress_inside, progress_drawable)
 
-pub shape_of-page-then-not-drawn : goal.shape_of-page-then-not-drawn
-shape_of-page-then-not-drawn c = search (rules, progress_size)
+pub shape_of-page-in_err-drawn : goal.shape_of-page-in_err-drawn
+shape_of-page-in_err-drawn c = search (rules, progress_size)
 
-pub returns-then-not-drawn : goal.returns-then-not-drawn
-returns-then-not-drawn c = search (rules, progress_over)
+pub returns-in_err-drawn : goal.returns-in_err-drawn
+returns-in_err-drawn c = search (rules, progress_over, c.in_err-drawn.was)
 
 pub shape_of-page-then-is_end : goal.shape_of-page-then-is_end
 shape_of-page-then-is_end c = search (rules, progress_size)
 
 pub returns-then-is_end : goal.returns-then-is_end
-returns-then-is_end c = search (rules, progress_whole)
+returns-then-is_end c = search (rules, progress_whole, c.in_ok-drawn.was)
 
 pub loop-at-smaller : goal.loop-at-smaller
 loop-at-smaller c = search (rules, progress_less)
 
 pub loop-at-preserved : goal.loop-at-preserved
-loop-at-preserved c = search (rules, progress_more)
+loop-at-preserved c = search (rules, progress_more, c.in_ok-drawn.was)
 
 pub returns : goal.returns
 returns c = search (rules, progress_all)

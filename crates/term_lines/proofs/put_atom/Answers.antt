@@ -6,8 +6,8 @@ use Rattle.term_lines.proofs.put_atom.Goals as goal
 pub returns-then-end-start-gt16 : goal.returns-then-end-start-gt16
 returns-then-end-start-gt16 c = search (rules, name_long)
 
-pub returns-then-d-gt8 : goal.returns-then-d-gt8
-returns-then-d-gt8 c = search (rules, atoms_many)
+pub returns-then-drawn-gt8 : goal.returns-then-drawn-gt8
+returns-then-drawn-gt8 c = search (rules, atoms_many)
 
 pub overflow_sub-page : goal.overflow_sub-page
 overflow_sub-page c = search (rules, to_within)

@@ -4,8 +4,8 @@ use Rattle.token_lines.proofs.Punctuation.{arguments_many, argument_no_room, arg
 use borrow.Author.Rules.{rules}
 use Rattle.token_lines.proofs.next_argument.Goals as goal
 
-pub returns-then-d-gt7 : goal.returns-then-d-gt7
-returns-then-d-gt7 c = search (rules, arguments_many)
+pub returns-then-drawn-gt7 : goal.returns-then-drawn-gt7
+returns-then-drawn-gt7 c = search (rules, arguments_many)
 
 pub overflow_sub-page : goal.overflow_sub-page
 overflow_sub-page c = search (rules, to_within)
