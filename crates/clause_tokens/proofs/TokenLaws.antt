@@ -18,10 +18,7 @@ use Rattle.text.proofs.Parts.{drop_more, part_length}
 use Rattle.words.specs.Classes.{Class, EndsWord}
 use Rattle.words.proofs.WordReading.{word_is}
 use Rattle.words.proofs.Letters.{lower_in_name, upper_in_name}
-use Rattle.clause_tokens.specs.NextTokens.{tokens_at, LayoutEnds, Sign, sign_opens, sign_closes, sign_comma, sign_neck, sign_stop, sign_stray, sign_more, is_stop_mark, Seen, seen_name, seen_variable, seen_lone, seen_sign, RunFound, NextToken, none_left, one_found}
-use types.Run.{OneOf, miss}
-use denote.Enum.Declared.{tag_of}
-use Rattle.clause_tokens.specs.contracts.Mark.{the_type}
+use Rattle.clause_tokens.specs.NextTokens.{tokens_at, LayoutEnds, Sign, sign_opens, sign_closes, sign_comma, sign_neck, sign_stop, sign_stray, sign_more, Seen, seen_name, seen_variable, seen_lone, seen_sign, RunFound, NextToken, none_left, one_found}
 use Rattle.clause_tokens.specs.declared.Mark.{Mark}
 use Rattle.clause_tokens.specs.declared.Mark.TheVariants.{Name, Variable, Lone, Opens, Closes, Comma, Neck, Stop, Stray, Nothing}
 use Rattle.clause_tokens.specs.declared.Token.{Token as Found}
@@ -58,12 +55,6 @@ module _ (text : Bytes) (from : ℕ) where
               ∙ layout_more (cond (eqb at from) false true) h (sym told ∙ is)
               ∙ rw (eqb-different (at + 1) from (λ e. omega (arith, passed.low))) refl;
         }
-
-    pub passed_end : (r : Bool) → r ≡ is_layout (get_or text at 0) → r ≡ false → LayoutEnds text from at
-    passed_end r told is = record { low = passed.low; high = passed.high; passed = passed.tokens; ended = λ _. sym told ∙ is }
-
-    pub passed_all : length text ≤ at → LayoutEnds text from at
-    passed_all h = record { low = passed.low; high = passed.high; passed = passed.tokens; ended = λ k. absurd (omega arith) }
 
 -- ---- signs
 
@@ -336,22 +327,3 @@ module _ {text : Bytes} {from start : ℕ} (layout : LayoutEnds text from start)
           let bs = drop (start + 1) text in
           one_token k end (is_end_lem ∙ ap (λ n. start + 1 + n) (sym sign_bytes)) (omega (arith, is_end_lem, more_inside b bs, length-drop (start + 1) text))
           (rw (sign_mark apart b bs unnamed, apart_is) (seen_sign sign))
-
--- ---- whether a mark ends a clause
-
-pub is_stop_mark_lem : {k : Mark} → k ≡ Stop → true ≡ is_stop_mark k
-unfolding is_stop_mark
-is_stop_mark_lem is = sym (ap is_stop_mark is)
-
-pub no_stop_mark : (k : Mark) → OneOf (0 ∷ 1 ∷ 2 ∷ 3 ∷ 4 ∷ 5 ∷ 6 ∷ 8 ∷ 9 ∷ []) (tag_of the_type k) → false ≡ is_stop_mark k
-unfolding is_stop_mark
-no_stop_mark Name tag = refl
-no_stop_mark Variable tag = refl
-no_stop_mark Lone tag = refl
-no_stop_mark Opens tag = refl
-no_stop_mark Closes tag = refl
-no_stop_mark Comma tag = refl
-no_stop_mark Neck tag = refl
-no_stop_mark Stop tag = absurd (miss (0 ∷ 1 ∷ 2 ∷ 3 ∷ 4 ∷ 5 ∷ 6 ∷ 8 ∷ 9 ∷ []) 7 tt tag)
-no_stop_mark Stray tag = refl
-no_stop_mark Nothing tag = refl

@@ -7,7 +7,7 @@ ghost use Rattle.words.specs.Classes.{Class, Classes};
 ghost use Rattle.clause_tokens.specs.NextTokens.{LayoutEnds, Sign, sign_more, RunFound, NextToken, is_stop_mark};
 
 /// What a token is. `Nothing`: only layout stands up to the end.
-#[derive(Clone, Copy)]
+#[derive(Clone, Copy, PartialEq, Eq)]
 pub enum Mark {
     Name,
     Variable,
@@ -40,15 +40,12 @@ pub fn layout_end(text: &[u8], from: usize) -> usize
     requires { from ≤ length text.now }
     ensures { LayoutEnds text.now from result }
 {
-    let mut at = from;
-    while at < text.len() {
-        if is_layout(text[at]) {
-            at += 1;
-        } else {
+    for at in from..text.len() {
+        if !is_layout(text[at]) {
             return at;
         }
     }
-    at
+    text.len()
 }
 
 /// A run of the bytes that a name has, by the class of its first byte.
@@ -168,23 +165,5 @@ pub fn next(text: &[u8], from: usize, classes: &[u8; 256]) -> Token
         mark: sign(text, start, start == from),
         start,
         end: sign_end(text, start),
-    }
-}
-
-/// Whether a token ends a clause.
-pub fn is_end(mark: Mark) -> bool
-    ensures { result ≡ is_stop_mark mark }
-{
-    match mark {
-        Mark::Stop => true,
-        Mark::Name
-        | Mark::Variable
-        | Mark::Lone
-        | Mark::Opens
-        | Mark::Closes
-        | Mark::Comma
-        | Mark::Neck
-        | Mark::Stray
-        | Mark::Nothing => false,
     }
 }
