@@ -9,145 +9,128 @@ ghost use Rattle.clauses.specs.Endings.{EndFound};
 
 use clause_tokens::Mark;
 
-/// Where the reader stands in a clause: what was read last (0: an atom or a term is due, 1: a name, 2: another term), how many
-/// compounds are open, and whether the head is complete; or the token can't stand there (3), or the clause is at its end (4).
+/// What was read last in a clause. `Due`: an atom or a term is due; `Name`: a name, which may get arguments; `Term`: another term.
+#[derive(Clone, Copy, PartialEq, Eq)]
+enum Last {
+    Due,
+    Name,
+    Term,
+}
+
+/// Where the reader stands in a clause: what was read last, how many compounds are open, and whether the head is complete.
 #[derive(Clone, Copy)]
 struct Standing {
-    last: u8,
+    last: Last,
     depth: usize,
     body: bool,
 }
 
-fn refused() -> Standing
-    ensures { (result.last ≡ 3) × (result.depth ≡ 0) }
-{
-    Standing {
-        last: 3,
-        depth: 0,
-        body: false,
-    }
+/// What a token is there: it can't stand there, the clause goes on after it, or it ends the clause.
+#[derive(Clone, Copy)]
+enum Step {
+    Refuses,
+    Goes(Standing),
+    Ends,
 }
 
 /// Where a token leads.
-#[tactic(auto, using(crate::proofs::Advancing::opens_refuses_by, crate::proofs::Advancing::opens_goes_by))]
-fn advance(last: u8, depth: usize, body: bool, mark: Mark) -> Standing
-    requires { depth + 1 < 18446744073709551616 }
-    ensures { Advances last depth body mark result }
+fn advance(from: Standing, mark: Mark) -> Step
+    requires { from.depth + 1 < 18446744073709551616 }
+    ensures { Advances from mark result }
 {
+    let Standing { last, depth, body } = from;
+    let due = last == Last::Due;
+    let named = last == Last::Name;
     match mark {
         Mark::Name => {
-            if last != 0 {
-                return refused();
+            if !due {
+                return Step::Refuses;
             }
-            Standing {
-                last: 1,
-                depth: depth,
-                body: body,
-            }
+            Step::Goes(Standing {
+                last: Last::Name,
+                depth,
+                body,
+            })
         }
         Mark::Variable | Mark::Lone => {
-            if (last != 0) | (depth == 0) {
-                return refused();
+            if !due | (depth == 0) {
+                return Step::Refuses;
             }
-            Standing {
-                last: 2,
-                depth: depth,
-                body: body,
-            }
+            Step::Goes(Standing {
+                last: Last::Term,
+                depth,
+                body,
+            })
         }
         Mark::Opens => {
-            if last != 1 {
-                return refused();
+            if !named {
+                return Step::Refuses;
             }
-            Standing {
-                last: 0,
+            Step::Goes(Standing {
+                last: Last::Due,
                 depth: depth + 1,
-                body: body,
-            }
+                body,
+            })
         }
         Mark::Closes => {
-            if (last == 0) | (depth == 0) {
-                return refused();
+            if due | (depth == 0) {
+                return Step::Refuses;
             }
-            Standing {
-                last: 2,
+            Step::Goes(Standing {
+                last: Last::Term,
                 depth: depth - 1,
-                body: body,
-            }
+                body,
+            })
         }
         Mark::Comma => {
-            if (last == 0) | ((depth == 0) & !body) {
-                return refused();
+            if due | ((depth == 0) & !body) {
+                return Step::Refuses;
             }
-            Standing {
-                last: 0,
-                depth: depth,
-                body: body,
-            }
+            Step::Goes(Standing {
+                last: Last::Due,
+                depth,
+                body,
+            })
         }
         Mark::Neck => {
-            if (last == 0) | (depth != 0) | body {
-                return refused();
+            if due | (depth != 0) | body {
+                return Step::Refuses;
             }
-            Standing {
-                last: 0,
-                depth: depth,
+            Step::Goes(Standing {
+                last: Last::Due,
+                depth,
                 body: true,
-            }
+            })
         }
         Mark::Stop => {
-            if (last == 0) | (depth != 0) {
-                return refused();
+            if due | (depth != 0) {
+                return Step::Refuses;
             }
-            Standing {
-                last: 4,
-                depth: depth,
-                body: body,
-            }
+            Step::Ends
         }
-        Mark::Stray | Mark::Nothing => refused(),
+        Mark::Stray | Mark::Nothing => Step::Refuses,
     }
 }
 
-/// Where a clause ends, or the place of the first token that can't continue it.
-#[derive(Clone, Copy)]
-pub struct Ending {
-    pub fine: bool,
-    pub place: usize,
-}
-
-/// Reads a clause from a place on: the place after its `.`, or where it can't go on.
-pub fn clause_end(text: &[u8], from: usize, classes: &[u8; 256]) -> Ending
+/// Reads a clause from a place on: the place after its `.`, or that of the first token that can't continue it.
+pub fn clause_end(text: &[u8], from: usize, classes: &[u8; 256]) -> Result<usize, usize>
     requires { (from ≤ length text.now) × Classes classes.now × (tokens_at text.now from ≡ [] → ⊥) }
     ensures { EndFound text.now from result }
 {
-    let mut last: u8 = 0;
-    let mut depth: usize = 0;
-    let mut body = false;
+    let mut standing = Standing {
+        last: Last::Due,
+        depth: 0,
+        body: false,
+    };
     let mut at = from;
     while at < text.len() {
         let token = clause_tokens::next(text, at, classes);
-        let mark = token.mark;
-        let reached = advance(last, depth, body, mark);
-        if reached.last == 3 {
-            return Ending {
-                fine: false,
-                place: token.start,
-            };
+        match advance(standing, token.mark) {
+            Step::Refuses => return Err(token.start),
+            Step::Ends => return Ok(token.end),
+            Step::Goes(next) => standing = next,
         }
-        if reached.last == 4 {
-            return Ending {
-                fine: true,
-                place: token.end,
-            };
-        }
-        last = reached.last;
-        depth = reached.depth;
-        body = reached.body;
         at = token.end;
     }
-    Ending {
-        fine: false,
-        place: text.len(),
-    }
+    Err(text.len())
 }

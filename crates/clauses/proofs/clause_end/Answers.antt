@@ -6,11 +6,11 @@ use Rattle.clauses.proofs.clause_end.Goals as goal
 pub loop-at-init : goal.loop-at-init
 loop-at-init c = search (rules, reading_none)
 
-pub returns-then-reached-eq3 : goal.returns-then-reached-eq3
-returns-then-reached-eq3 c = search (rules, reading_refused)
+pub returns-in-Refuses : goal.returns-in-Refuses
+returns-in-Refuses c = search (rules, reading_refused)
 
-pub returns-then-reached-eq4 : goal.returns-then-reached-eq4
-returns-then-reached-eq4 c = search (rules, reading_ended)
+pub returns-in-Ends : goal.returns-in-Ends
+returns-in-Ends c = search (rules, reading_ended)
 
 pub loop-at-smaller : goal.loop-at-smaller
 loop-at-smaller c = search (rules, reading_less)
