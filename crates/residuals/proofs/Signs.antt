@@ -3,28 +3,30 @@ use mathlib.Core.Path.{◌≡◌, refl}
 use mathlib.Core.Bool.{Bool, true, false}
 use Prim.Native.Nat.{ℕ, suc, ◌<◌}
 use native.Mathlib.Omega.{arith}
-use lib.IntN.{pos}
-use lib.Signed.{lt_z, non_neg}
-use mir.Syntax.{w64}
-use mir.Val.{SFits}
-use Rattle.groundwork.proofs.Truth.{never_both}
-use Rattle.forms.specs.Sums.{at}
+use lib.IntN.{ℤ, pos, negsuc}
+use lib.ListN.{length}
+use lib.Signed.{non_neg, yes_non_neg, ◌≤ℤ◌, ◌<ℤ◌}
+use Rattle.std.specs.Bool.{MatchBool}
+use Rattle.std.specs.List.{AllWithin, HoldsAt}
+use Rattle.groundwork.proofs.Truth.{never_both, true_from, ge-ltb}
 use Rattle.forms.specs.declared.Form.{Form}
-use Rattle.forms.proofs.Results.{kept}
-use Rattle.forms.proofs.Signs.{negative}
-use Rattle.residuals.specs.Sums.{number_at, Judged}
+use Rattle.residuals.specs.Sums.{Judged}
 use Rattle.residuals.proofs.Rows.{each_number}
 
-module _ (f : Form) where
-  judged_no : (i : ℕ) → i < 17 → non_neg (number_at f i) ≡ false → Judged f false
-  judged_no i less e = record { yes = λ h. never_both h refl; no = λ h. (i, less, e) }
+at_least : (z : ℤ) → pos 0 ≤ℤ z → non_neg z ≡ true
+at_least z h = true_from (non_neg z) (yes_non_neg {z = z} h)
 
-  pub judged_constant : (flag : Bool) → SFits w64 f.constant → flag ≡ lt_z (kept f.constant) (pos 0) → flag ≡ true → Judged f false
-  judged_constant flag fits e h = judged_no 0 (omega arith) (negative f.constant flag fits e h)
+below : (z : ℤ) → z <ℤ pos 0 → non_neg z ≡ false
+below (pos n) h = never_both (true_from _ h.lt) (ge-ltb n 0 (omega arith))
+below (negsuc n) h = refl
 
-  pub judged_coefficient : (i : ℕ) (flag : Bool) → i < 16 → SFits w64 (at f i) → flag ≡ lt_z (kept (at f i)) (pos 0) → flag ≡ true → Judged f false
-  judged_coefficient i flag less fits e h = judged_no (suc i) (omega arith) (negative (at f i) flag fits e h)
+-- what a pass over the coefficients says, where the constant is not below 0
+pub judged : {f : Form} {r : Bool} → pos 0 ≤ℤ f.constant → length f.coefficients ≡ 16
+    → MatchBool r (AllWithin (λ z. pos 0 ≤ℤ z) f.coefficients 0 (length f.coefficients)) ((k : ℕ) × (k < length f.coefficients) × HoldsAt (λ z. z <ℤ pos 0) f.coefficients k) → Judged f r
+judged {f} {r = true} constant size each =
+    record { yes = λ h. each_number (λ i z. non_neg z ≡ true) f (at_least f.constant constant) (λ i less. at_least _ (each i (pos 0) (omega arith) (omega arith))); no = λ h. never_both refl h }
+judged {f} {r = false} constant size found =
+    record { yes = λ h. never_both h refl; no = λ h. (suc found.0, omega (arith, found.1), below _ (found.2 (pos 0))) }
 
-  pub judged_yes : non_neg f.constant ≡ true → ((i : ℕ) → i < 16 → non_neg (at f i) ≡ true) → Judged f true
-  judged_yes constant coefficient =
-      record { yes = λ h. each_number (λ i z. non_neg z ≡ true) f constant coefficient; no = λ h. never_both refl h }
+pub judged_constant : {f : Form} → f.constant <ℤ pos 0 → Judged f false
+judged_constant {f} h = record { yes = λ e. never_both e refl; no = λ e. (0, omega arith, below f.constant h) }

@@ -4,7 +4,6 @@
 
 ghost use Rattle.std.specs.Prelude.{◌+◌, ◌≤◌, ◌<◌, ◌^◌, nat_abs};
 ghost use Rattle.forms.specs.Sums.{Within};
-ghost use Rattle.tables.specs.Tables.{SafeRows};
 ghost use Rattle.residuals.specs.Sums.{width, Summable, FormAt, WithRow, WithConstant, Partial, SumsTo, Judged};
 
 use forms::Form;
@@ -12,17 +11,15 @@ use tables::{Rows, Weights};
 
 /// A row of the table as a form, by its first counts.
 fn form_at(rows: &Rows, base: usize, width: usize) -> Form
-    requires { (base + 17 ≤ 1224) × (width ≤ 16) × (SafeRows rows.now) }
+    requires { (base + 17 ≤ 1224) × (width ≤ 16) }
     ensures { FormAt rows.now width base result }
 {
     let mut coefficients = [0i64; 16];
-    let mut i: usize = 0;
-    while i < width {
-        coefficients[i] = widths::u16_to_i64(rows[base + 1 + i]);
-        i += 1;
+    for i in 0..width {
+        coefficients[i] = rows[base + 1 + i] as i64;
     }
     Form {
-        constant: widths::u16_to_i64(rows[base]),
+        constant: rows[base] as i64,
         coefficients,
     }
 }
@@ -31,7 +28,7 @@ fn form_at(rows: &Rows, base: usize, width: usize) -> Form
 /// which half of a row is looked at.
 #[tactic(auto, using(crate::proofs::Rows::narrow_added))]
 fn with_row(form: Form, rows: &Rows, base: usize, weight: i64, variables: usize) -> Form
-    requires { (base + 17 ≤ 1224) × (SafeRows rows.now) × (Within (2 ^ 61) form) × (nat_abs weight ≤ 2 ^ 36) }
+    requires { (base + 17 ≤ 1224) × (Within (2 ^ 61) form) × (nat_abs weight ≤ 2 ^ 36) }
     ensures { WithRow form rows.now (width variables) base weight result }
 {
     if variables <= 8 {
@@ -44,10 +41,9 @@ fn with_constant(form: Form, c: i64) -> Form
     requires { (nat_abs form.constant < 2 ^ 60) × (nat_abs c < 2 ^ 60) }
     ensures { WithConstant form c result }
 {
-    let coefficients = form.coefficients;
     Form {
         constant: form.constant + c,
-        coefficients,
+        ..form
     }
 }
 
@@ -56,30 +52,27 @@ fn with_atom(sum: Form, weights: &Weights, rows: &Rows, atom: usize, variables: 
     requires { (atom ≤ 8) × (Summable weights.now rows.now) × (Partial weights.now rows.now (width variables) atom sum) }
     ensures { Partial weights.now rows.now (width variables) (atom + 1) result }
 {
-    let mut form = with_constant(sum, widths::i32_to_i64(weights[atom * 9]));
-    let mut k: usize = 0;
-    while k < 8 {
+    let mut form = with_constant(sum, weights[atom * 9] as i64);
+    for k in 0..8 {
         let weight = weights[atom * 9 + 1 + k];
         if weight != 0 {
             let base = tables::row_place(atom, k);
-            form = with_row(form, rows, base, widths::i32_to_i64(weight), variables);
+            form = with_row(form, rows, base, weight as i64, variables);
         }
-        k += 1;
     }
     form
 }
 
 /// The residual by the weights that are there: the head's and the subgoals' arguments, each times its weight, in a rule of so
 /// many variables.
+#[tactic(auto, using(crate::proofs::Sums::no_atoms_lem))]
 pub fn residual(weights: &Weights, rows: &Rows, subgoals: usize, variables: usize) -> Form
     requires { (subgoals ≤ 8) × (Summable weights.now rows.now) }
     ensures { SumsTo weights.now rows.now (width variables) (subgoals + 1) result }
 {
     let mut form = Form::zero();
-    let mut atom: usize = 0;
-    while atom <= subgoals {
+    for atom in 0..=subgoals {
         form = with_atom(form, weights, rows, atom, variables);
-        atom += 1;
     }
     form
 }
@@ -88,16 +81,5 @@ pub fn residual(weights: &Weights, rows: &Rows, subgoals: usize, variables: usiz
 pub fn is_justified(form: Form) -> bool
     ensures { Judged form result }
 {
-    if forms::is_negative(form.constant) {
-        return false;
-    }
-    let coefficients = form.coefficients;
-    let mut i: usize = 0;
-    while i < Form::VARIABLES {
-        if forms::is_negative(coefficients[i]) {
-            return false;
-        }
-        i += 1;
-    }
-    true
+    form.constant >= 0 && form.coefficients.iter().all(|c| *c >= 0)
 }

@@ -1,10 +1,6 @@
-use Prim.Native.Nat.{◌-◌, ◌≤◌}
 use Rattle.residuals.specs.Sums.{width}
 use Rattle.residuals.proofs.Sums.{RowsAdded}
 use Rattle.residuals.proofs.with_atom.Given as goal
 
 abbrev pub invariant-loop-k : goal.invariant-loop-k
-invariant-loop-k l = (l.k ≤ 8) × RowsAdded l.weights l.rows (width l.variables) l.atom l.form l.k
-
-abbrev pub decreases-loop-k : goal.decreases-loop-k
-decreases-loop-k l = 8 - l.k
+invariant-loop-k l = RowsAdded l.weights l.rows (width l.variables) l.atom l.form l.k
