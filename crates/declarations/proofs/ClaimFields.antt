@@ -1,5 +1,6 @@
 -- A field of a `C` line: a number of the claim, into the row.
 use mathlib.Core.Path.{◌≡◌, refl, sym, ◌∙◌, ap}
+use Rattle.std.specs.Prelude.{Ok, Err}
 use mathlib.Core.Bool.{false}
 use mathlib.Core.List.{List}
 use mathlib.Core.Option.{some}
@@ -23,7 +24,6 @@ use Rattle.numbers.specs.declared.Integer.TheVariants.{Signed, NoInteger}
 use Rattle.numbers.specs.Numbers.{integer_of}
 use Rattle.forms.proofs.Results.{kept}
 use Rattle.tables.specs.declared.Fault.TheVariants.{Number}
-use Rattle.tables.specs.declared.Fielding.TheVariants.{Read, Misread}
 use Rattle.declarations.specs.Fields.{FieldC}
 
 module _ (field : Bytes) (read : Integer) (is : integer_of read ≡ integer 9999 field) where
@@ -44,7 +44,7 @@ module _ (field : Bytes) (read : Integer) (is : integer_of read ≡ integer 9999
     pub number_fits : nat_abs (kept z) < 32768
     number_fits = rw whole (omega (arith, small))
 
-    pub number_read : (index many : ℕ) (row₀ : List ℤ) (y : ℤ) → index < 9 → length row₀ ≡ 9 → y ≡ kept z → FieldC index field many row₀ (Read many) (set row₀ index (to_z w16 (of_z w16 y)))
+    pub number_read : (index many : ℕ) (row₀ : List ℤ) (y : ℤ) → index < 9 → length row₀ ≡ 9 → y ≡ kept z → FieldC index field many row₀ (Ok many) (set row₀ index (to_z w16 (of_z w16 y)))
     unfolding is_some
     number_read index many row₀ y inside long narrowed =
         record {
@@ -61,7 +61,7 @@ module _ (field : Bytes) (read : Integer) (is : integer_of read ≡ integer 9999
         is_z : stored ≡ z
         is_z = ap (λ (x : ℤ). to_z w16 (of_z w16 x)) (narrowed ∙ whole) ∙ to_z-of_z fits
 
-  pub no_number : (index many : ℕ) (row₀ : List ℤ) → read ≡ NoInteger → FieldC index field many row₀ (Misread Number) row₀
+  pub no_number : (index many : ℕ) (row₀ : List ℤ) → read ≡ NoInteger → FieldC index field many row₀ (Err Number) row₀
   unfolding is_some
   no_number index many row₀ found =
       let none : is_claim_number field ≡ false = rw (← is, found) in

@@ -10,6 +10,7 @@ use lib.Dec.{leb}
 use lib.IntN.{ℤ, pos, nat_abs}
 use lib.ListN.{length, get_or, set, drop, length-set}
 use lib.Seq.{get_or-set_other}
+use Rattle.std.specs.Prelude.{Result, Ok, Err}
 use Rattle.groundwork.proofs.Truth.{and_right, leb-gt}
 use Rattle.groundwork.proofs.Stretches.{replaced}
 use Rattle.theory.specs.Lists.{every, is_empty}
@@ -26,10 +27,6 @@ use Rattle.tables.specs.declared.State.{State}
 use Rattle.tables.specs.declared.Opened.{Opened}
 use Rattle.tables.specs.declared.Fault.{Fault}
 use Rattle.tables.specs.declared.Fault.TheVariants.{Number, CountLimit}
-use Rattle.tables.specs.declared.Fielding.{Fielding}
-use Rattle.tables.specs.declared.Fielding.TheVariants.{Read, Misread}
-use Rattle.tables.specs.declared.Closing.{Closing}
-use Rattle.tables.specs.declared.Closing.TheVariants.{Done, Misclosed}
 use Rattle.tables.specs.Tables.{Tables, tables, claim_place, Holds, Safe}
 use Rattle.tables.specs.Faults.{number_of}
 use Rattle.tables.specs.Lines.{Passed, ClosedFor, at}
@@ -46,7 +43,7 @@ use Rattle.declarations.proofs.ClaimTable.{claim_laid, claims_more, laid_small}
 pub c_begin : (fs : List Bytes) (row : List ℤ) → ProgressC fs 0 row
 c_begin fs row = record { read = λ i l. absurd (omega arith) }
 
-pub c_field : (fs : List Bytes) (index many : ℕ) (row₀ row : List ℤ) (r : Fielding) (n : ℕ) → ProgressC fs index row₀ → FieldC index (at fs index) many row₀ r row → r ≡ Read n → ProgressC fs (suc index) row
+pub c_field : (fs : List Bytes) (index many : ℕ) (row₀ row : List ℤ) (r : Result ℕ Fault) (n : ℕ) → ProgressC fs index row₀ → FieldC index (at fs index) many row₀ r row → r ≡ Ok n → ProgressC fs (suc index) row
 c_field fs index many row₀ row r n before done is =
     record {
       read = λ i l. below_more (λ i. integer number_limit (at fs i) ≡ some (get_or row i (pos 0))) index
@@ -56,7 +53,7 @@ c_field fs index many row₀ row r n before done is =
           (omega arith);
     }
 
-pub c_count : {index many : ℕ} {f : Bytes} {row₀ row : List ℤ} {r : Fielding} {n : ℕ} → FieldC index f many row₀ r row → r ≡ Read n → many ≡ n
+pub c_count : {index many : ℕ} {f : Bytes} {row₀ row : List ℤ} {r : Result ℕ Fault} {n : ℕ} → FieldC index f many row₀ r row → r ≡ Ok n → many ≡ n
 c_count {many = many} {f = f} done is = (field_passes many Number (is_claim_number f) done.answer is).1
 
 -- the tests that are left when the fields are read
@@ -65,7 +62,7 @@ c_left : {manner : Manner} (line : Bytes) (s : State) (w : Written) (o : Opened)
 unfolding first_given tests claim_tests
 c_left line s w o passed = passed.left
 
-pub c_fault : {manner : Manner} (line : Bytes) (s : State) (w : Written) (o : Opened) (index many : ℕ) (row₀ row : List ℤ) (r : Fielding) (f : Fault) → Passed manner C line s w o → index < length (drop 2 (fields_of line)) → FieldC index (at (drop 2 (fields_of line)) index) many row₀ r row → r ≡ Misread f → fault manner w line ≡ number_of f
+pub c_fault : {manner : Manner} (line : Bytes) (s : State) (w : Written) (o : Opened) (index many : ℕ) (row₀ row : List ℤ) (r : Result ℕ Fault) (f : Fault) → Passed manner C line s w o → index < length (drop 2 (fields_of line)) → FieldC index (at (drop 2 (fields_of line)) index) many row₀ r row → r ≡ Err f → fault manner w line ≡ number_of f
 c_fault line s w o index many row₀ row r f passed less done is =
     let fs = drop 2 (fields_of line) in
     let failed = field_fails many Number (is_claim_number (at fs index)) done.answer is in
@@ -109,17 +106,17 @@ c_holds line t s w o row claims holds safe passed done room laid =
       ended = holds.ended;
     }
 
-module _ {o : Opened} {s : State} {row : List ℤ} {signatures₀ : List ℕ} {claims₀ : List ℤ} {r : Closing} {signatures : List ℕ} {claims : List ℤ} (closes : ClosesC o s row signatures₀ claims₀ r signatures claims) where
+module _ {o : Opened} {s : State} {row : List ℤ} {signatures₀ : List ℕ} {claims₀ : List ℤ} {r : Result State Fault} {signatures : List ℕ} {claims : List ℤ} (closes : ClosesC o s row signatures₀ claims₀ r signatures claims) where
   -- a line that is done had room for its claim
-  room : (next : State) → r ≡ Done next → (get_or signatures₀ (64 + o.predicate) 0 < claim_limit) × (with_claim o.predicate signatures₀ s ≡ next)
+  room : (next : State) → r ≡ Ok next → (get_or signatures₀ (64 + o.predicate) 0 < claim_limit) × (with_claim o.predicate signatures₀ s ≡ next)
   room next is =
       let passes = line_passes CountLimit (with_claim o.predicate signatures₀ s) (leb claim_limit (get_or signatures₀ (64 + o.predicate) 0)) closes.answer is in
       (leb-gt claim_limit (get_or signatures₀ (64 + o.predicate) 0) passes.0, passes.1)
 
-  pub c_limit : (f : Fault) → r ≡ Misclosed f → f ≡ CountLimit
+  pub c_limit : (f : Fault) → r ≡ Err f → f ≡ CountLimit
   c_limit f is = sym (line_fails CountLimit (with_claim o.predicate signatures₀ s) (leb claim_limit (get_or signatures₀ (64 + o.predicate) 0)) closes.answer is).1
 
-pub c_close : {manner : Manner} (line : Bytes) (t : Tables) (s : State) (w : Written) (o : Opened) (row : List ℤ) (signatures : List ℕ) (claims : List ℤ) (r : Closing) → Holds t s w → Safe t s → Passed manner C line s w o → ProgressC (drop 2 (fields_of line)) (length (drop 2 (fields_of line))) row → ClosesC o s row t.signatures t.claims r signatures claims
+pub c_close : {manner : Manner} (line : Bytes) (t : Tables) (s : State) (w : Written) (o : Opened) (row : List ℤ) (signatures : List ℕ) (claims : List ℤ) (r : Result State Fault) → Holds t s w → Safe t s → Passed manner C line s w o → ProgressC (drop 2 (fields_of line)) (length (drop 2 (fields_of line))) row → ClosesC o s row t.signatures t.claims r signatures claims
     → ClosedFor manner line w r (tables t.names signatures claims t.variables t.rows t.slots)
 c_close line t s w o row signatures claims r holds safe passed done closes =
     let fs = drop 2 (fields_of line) in
@@ -133,8 +130,8 @@ c_close line t s w o row signatures claims r holds safe passed done closes =
     }
 
 -- the ranges are kept
-pub c_safe : (t : Tables) (s : State) (o : Opened) (row : List ℤ) (signatures : List ℕ) (claims : List ℤ) (r : Closing) → Safe t s → o.predicate < 32 → ((i : ℕ) → nat_abs (get_or row i (pos 0)) ≤ 9999) → ClosesC o s row t.signatures t.claims r signatures claims
-    → (next : State) → r ≡ Done next → Safe (tables t.names signatures claims t.variables t.rows t.slots) next
+pub c_safe : (t : Tables) (s : State) (o : Opened) (row : List ℤ) (signatures : List ℕ) (claims : List ℤ) (r : Result State Fault) → Safe t s → o.predicate < 32 → ((i : ℕ) → nat_abs (get_or row i (pos 0)) ≤ 9999) → ClosesC o s row t.signatures t.claims r signatures claims
+    → (next : State) → r ≡ Ok next → Safe (tables t.names signatures claims t.variables t.rows t.slots) next
 c_safe t s o row signatures claims r safe below small closes next is =
     let p = o.predicate in
     let count = get_or t.signatures (64 + p) 0 in

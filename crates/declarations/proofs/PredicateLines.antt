@@ -8,6 +8,7 @@ use native.Mathlib.Omega.{arith}
 use lib.Dec.{leb}
 use lib.ListN.{length, set, length-set}
 use lib.Seq.{get_or-set_other}
+use Rattle.std.specs.Prelude.{Result, Ok, Err}
 use Rattle.groundwork.proofs.Truth.{and_left, and_right, and_not_right, leb-gt}
 use Rattle.groundwork.proofs.Lists.{length_end}
 use Rattle.groundwork.proofs.Stretches.{replaced}
@@ -27,8 +28,6 @@ use Rattle.tables.specs.declared.State.{State}
 use Rattle.tables.specs.declared.Opened.{Opened}
 use Rattle.tables.specs.declared.Fault.{Fault}
 use Rattle.tables.specs.declared.Fault.TheVariants.{CountLimit}
-use Rattle.tables.specs.declared.Closing.{Closing}
-use Rattle.tables.specs.declared.Closing.TheVariants.{Done, Misclosed}
 use Rattle.tables.specs.Tables.{Tables, tables, Holds, Safe, flag}
 use Rattle.tables.specs.Lines.{Passed, ClosedFor}
 use Rattle.tables.proofs.Outcomes.{line_number, line_passes, line_fails}
@@ -88,17 +87,17 @@ p_holds line t s w o holds safe passed is_new room =
       ended = holds.ended;
     }
 
-module _ {o : Opened} {s : State} {names₀ signatures₀ : List ℕ} {r : Closing} {names signatures : List ℕ} (closes : ClosesP o s names₀ signatures₀ r names signatures) where
+module _ {o : Opened} {s : State} {names₀ signatures₀ : List ℕ} {r : Result State Fault} {names signatures : List ℕ} (closes : ClosesP o s names₀ signatures₀ r names signatures) where
   -- a line that is done had room for its predicate
-  room : (next : State) → r ≡ Done next → (s.predicates < predicate_limit) × (with_predicates (s.predicates + 1) s ≡ next)
+  room : (next : State) → r ≡ Ok next → (s.predicates < predicate_limit) × (with_predicates (s.predicates + 1) s ≡ next)
   room next is =
       let passes = line_passes CountLimit (with_predicates (s.predicates + 1) s) (leb predicate_limit s.predicates) closes.answer is in
       (leb-gt predicate_limit s.predicates passes.0, passes.1)
 
-  pub p_limit : (f : Fault) → r ≡ Misclosed f → f ≡ CountLimit
+  pub p_limit : (f : Fault) → r ≡ Err f → f ≡ CountLimit
   p_limit f is = sym (line_fails CountLimit (with_predicates (s.predicates + 1) s) (leb predicate_limit s.predicates) closes.answer is).1
 
-pub p_close : {manner : Manner} (line : Bytes) (t : Tables) (s : State) (w : Written) (o : Opened) (names signatures : List ℕ) (r : Closing) → Holds t s w → Safe t s → Passed manner P line s w o → ClosesP o s t.names t.signatures r names signatures
+pub p_close : {manner : Manner} (line : Bytes) (t : Tables) (s : State) (w : Written) (o : Opened) (names signatures : List ℕ) (r : Result State Fault) → Holds t s w → Safe t s → Passed manner P line s w o → ClosesP o s t.names t.signatures r names signatures
     → ClosedFor manner line w r (tables names signatures t.claims t.variables t.rows t.slots)
 p_close line t s w o names signatures r holds safe passed closes =
     let known = s.predicates in
@@ -111,8 +110,8 @@ p_close line t s w o names signatures r holds safe passed closes =
     }
 
 -- the ranges are kept
-pub p_safe : (t : Tables) (s : State) (o : Opened) (names signatures : List ℕ) (r : Closing) → Safe t s → o.arity ≤ 8 → ClosesP o s t.names t.signatures r names signatures
-    → (next : State) → r ≡ Done next → Safe (tables names signatures t.claims t.variables t.rows t.slots) next
+pub p_safe : (t : Tables) (s : State) (o : Opened) (names signatures : List ℕ) (r : Result State Fault) → Safe t s → o.arity ≤ 8 → ClosesP o s t.names t.signatures r names signatures
+    → (next : State) → r ≡ Ok next → Safe (tables names signatures t.claims t.variables t.rows t.slots) next
 p_safe t s o names signatures r safe low closes next is =
     let known = s.predicates in
     let fits = room closes next is in

@@ -1,12 +1,11 @@
 -- The ends of `P` and `C` lines: their last tests, and what they leave in the tables.
-use Rattle.std.specs.Prelude.{◌≡◌, true, cond, List, ℕ, ◌+◌, ◌*◌, ◌^◌, ◌≤◌, ◌<◌, eqb, leb, ℤ, pos, length, get_or, set}
+use Rattle.std.specs.Prelude.{◌≡◌, true, cond, List, ℕ, ◌+◌, ◌*◌, ◌^◌, ◌≤◌, ◌<◌, eqb, leb, ℤ, pos, length, get_or, set, Result, Ok, Err}
 use Rattle.std.specs.Int.Bits.{bit_or}
 use Rattle.theory.specs.Packs.{predicate_limit, claim_limit}
 use Rattle.tables.specs.declared.State.{State}
 use Rattle.tables.specs.declared.Opened.{Opened}
+use Rattle.tables.specs.declared.Fault.{Fault}
 use Rattle.tables.specs.declared.Fault.TheVariants.{CountLimit}
-use Rattle.tables.specs.declared.Closing.{Closing}
-use Rattle.tables.specs.declared.Closing.TheVariants.{Done, Misclosed}
 use Rattle.tables.specs.Tables.{claim_place}
 
 abbrev pub with_predicates : ℕ → State → State
@@ -23,8 +22,8 @@ with_owing owing s = record { predicates = s.predicates; claimed = true; rules =
 abbrev pub with_claim : ℕ → List ℕ → State → State
 with_claim place signatures s = with_owing (owing_with s.owing place (get_or signatures (32 + place) 0)) s
 
-pub record ClosesP (o : Opened) (s : State) (names₀ signatures₀ : List ℕ) (r : Closing) (names signatures : List ℕ) : Type 0 where
-  pub answer : r ≡ cond (leb predicate_limit s.predicates) (Misclosed CountLimit) (Done (with_predicates (s.predicates + 1) s))
+pub record ClosesP (o : Opened) (s : State) (names₀ signatures₀ : List ℕ) (r : Result State Fault) (names signatures : List ℕ) : Type 0 where
+  pub answer : r ≡ cond (leb predicate_limit s.predicates) (Err CountLimit) (Ok (with_predicates (s.predicates + 1) s))
   pub names_are : s.predicates < predicate_limit → names ≡ set (set names₀ (2 * s.predicates) o.words.first) (2 * s.predicates + 1) o.words.second
   pub signatures_are : s.predicates < predicate_limit → signatures ≡ set (set signatures₀ s.predicates o.arity) (32 + s.predicates) o.mark
 
@@ -36,7 +35,7 @@ pub record Laid (claims₀ : List ℤ) (place : ℕ) (row : List ℤ) (arity : �
   pub below : (i : ℕ) → i < place → get_or claims i (pos 0) ≡ get_or claims₀ i (pos 0)
   pub above : (i : ℕ) → place + 9 ≤ i → get_or claims i (pos 0) ≡ get_or claims₀ i (pos 0)
 
-pub record ClosesC (o : Opened) (s : State) (row : List ℤ) (signatures₀ : List ℕ) (claims₀ : List ℤ) (r : Closing) (signatures : List ℕ) (claims : List ℤ) : Type 0 where
-  pub answer : r ≡ cond (leb claim_limit (get_or signatures₀ (64 + o.predicate) 0)) (Misclosed CountLimit) (Done (with_claim o.predicate signatures₀ s))
+pub record ClosesC (o : Opened) (s : State) (row : List ℤ) (signatures₀ : List ℕ) (claims₀ : List ℤ) (r : Result State Fault) (signatures : List ℕ) (claims : List ℤ) : Type 0 where
+  pub answer : r ≡ cond (leb claim_limit (get_or signatures₀ (64 + o.predicate) 0)) (Err CountLimit) (Ok (with_claim o.predicate signatures₀ s))
   pub signatures_are : get_or signatures₀ (64 + o.predicate) 0 < claim_limit → signatures ≡ set signatures₀ (64 + o.predicate) (get_or signatures₀ (64 + o.predicate) 0 + 1)
   pub claims_are : get_or signatures₀ (64 + o.predicate) 0 < claim_limit → Laid claims₀ (claim_place o.predicate (get_or signatures₀ (64 + o.predicate) 0)) row (get_or signatures₀ o.predicate 0) claims

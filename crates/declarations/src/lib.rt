@@ -8,10 +8,15 @@ ghost use Rattle.declarations.specs.Ends.{ClosesP, Laid, owing_with, ClosesC};
 
 use forms::Form;
 use numbers::Integer;
-use tables::{Claims, Closing, Fault, Fielding, Names, Opened, PredicateSet, Signatures, State};
+use tables::{Claims, Fault, Names, Opened, PredicateSet, Signatures, State};
 
 /// A field of a `C` line: a number of the claim.
-pub fn field_claim(index: usize, field: &[u8], row: &mut [i16; 9], many: usize) -> Fielding
+pub fn field_claim(
+    index: usize,
+    field: &[u8],
+    row: &mut [i16; 9],
+    many: usize,
+) -> Result<usize, Fault>
     requires { (index < 9) × (length row.old ≡ 9) }
     ensures { FieldC index field.now many row.old result row.new }
 {
@@ -19,9 +24,9 @@ pub fn field_claim(index: usize, field: &[u8], row: &mut [i16; 9], many: usize) 
     match number {
         Integer::Signed(z) => {
             row[index] = widths::i64_to_i16(z);
-            Fielding::Read(many)
+            Ok(many)
         }
-        Integer::NoInteger => Fielding::Misread(Fault::Number),
+        Integer::NoInteger => Err(Fault::Number),
     }
 }
 
@@ -31,12 +36,12 @@ pub fn close_predicate(
     state: State,
     names: &mut Names,
     signatures: &mut Signatures,
-) -> Closing
+) -> Result<State, Fault>
     ensures { ClosesP o state names.old signatures.old result names.new signatures.new }
 {
     let known = state.predicates;
     if 32 <= known {
-        return Closing::Misclosed(Fault::CountLimit);
+        return Err(Fault::CountLimit);
     }
     let words = o.words;
     let arity = o.arity;
@@ -47,7 +52,7 @@ pub fn close_predicate(
     signatures[32 + known] = mark;
     let mut next = state;
     next.predicates = known + 1;
-    Closing::Done(next)
+    Ok(next)
 }
 
 /// Lays a claim's numbers into the table, zeros after the last.
@@ -87,14 +92,14 @@ pub fn close_claim(
     row: &[i16; 9],
     signatures: &mut Signatures,
     claims: &mut Claims,
-) -> Closing
+) -> Result<State, Fault>
     requires { (o.predicate < 32) × (SafeSignatures signatures.old) × (length claims.old ≡ 4608) }
     ensures { ClosesC o state row.now signatures.old claims.old result signatures.new claims.new }
 {
     let p = o.predicate;
     let count = widths::u8_to_usize(signatures[64 + p]);
     if Form::CLAIMS <= count {
-        return Closing::Misclosed(Fault::CountLimit);
+        return Err(Fault::CountLimit);
     }
     let arity = widths::u8_to_usize(signatures[p]);
     let mark = signatures[32 + p];
@@ -103,5 +108,5 @@ pub fn close_claim(
     let mut next = state;
     next.claimed = true;
     next.owing = owing_with(state.owing, p, mark);
-    Closing::Done(next)
+    Ok(next)
 }

@@ -11,6 +11,7 @@ use lib.ListN.{length, get_or, drop, drop_of_length-le}
 use lib.Seq.{get_or-drop}
 use types.Run.{OneOf, miss}
 use denote.Enum.Declared.{tag_of}
+use Rattle.std.specs.Prelude.{Result, Ok, Err}
 use Rattle.theory.specs.contracts.Letter.{the_type}
 use Rattle.groundwork.proofs.Truth.{not-true, not-false, never_both, and_left, equal-eqb, eqb-equal, lt-ltb}
 use Rattle.theory.specs.declared.Letter.{Letter}
@@ -33,8 +34,6 @@ use Rattle.tables.specs.declared.State.{State}
 use Rattle.tables.specs.declared.Fault.{Fault}
 use Rattle.tables.specs.declared.Fault.TheVariants.{Name, Declaration, FieldCount, Number}
 use Rattle.tables.specs.declared.Opened.{Opened}
-use Rattle.tables.specs.declared.Opening.{Opening}
-use Rattle.tables.specs.declared.Opening.TheVariants.{Line, Misopened}
 use Rattle.tables.specs.Tables.{SafeState, SafeSignatures, predicate_at, flag, signature, signature_at, no_arity, Outline}
 use Rattle.tables.specs.Sorts.{sort_of}
 use Rattle.tables.specs.Lines.{skipped, opening_tests, most, OldPredicate, NamedFor}
@@ -134,7 +133,7 @@ arity_given f arity given good = go (natural 8 f) refl given good
 -- ---- a predicate that is not declared
 
 module _ {names signatures : List ℕ} {s : State} {line : Bytes} {name : Named} {place : ℕ} (above : s.predicates ≤ place) where
-  undeclared : {l : Letter} → Refers l → LookedUp l names signatures s line name place → OpensLetter l line names signatures s (Misopened Declaration)
+  undeclared : {l : Letter} → Refers l → LookedUp l names signatures s line name place → OpensLetter l line names signatures s (Err Declaration)
   undeclared {l} refers looked =
       refuses l Declaration (λ e. omega arith) λ manner w outline stands.
       fault_eight manner (fields_of line) w.pack l (refers_names refers) looked.stands.named (undeclared_found (fields_of line) w.pack refers (none_meant looked w outline above))
@@ -156,21 +155,21 @@ module _ {names signatures : List ℕ} {s : State} {line : Bytes} {name : Named}
         let four : length (fields_of line) ≡ 4 = omega (arith, eqb-equal n 3 (not-false _ three)) in
         either (not (ltb arity no_arity && is_kind _)) (λ bad. malformed four (ap not (sym well) ∙ bad)) (λ good. declared short four (sym well ∙ not-false _ good))
       where
-        either : (b : Bool) {x y : Opening} → (b ≡ true → OpensLetter P line names signatures s x) → (b ≡ false → OpensLetter P line names signatures s y) → OpensLetter P line names signatures s (cond b x y)
+        either : (b : Bool) {x y : Result Opened Fault} → (b ≡ true → OpensLetter P line names signatures s x) → (b ≡ false → OpensLetter P line names signatures s y) → OpensLetter P line names signatures s (cond b x y)
         either true found passed = found refl
         either false found passed = passed refl
 
         is_new_lem : (w : Written) → Outline names signatures s w → is_some (meant_by P (fields_of line) w.pack) ≡ false
         is_new_lem w outline = none_is _ (none_meant looked w outline above)
 
-        miscounted : (length (fields_of line) ≡ 4 → ⊥) → OpensLetter P line names signatures s (Misopened FieldCount)
+        miscounted : (length (fields_of line) ≡ 4 → ⊥) → OpensLetter P line names signatures s (Err FieldCount)
         miscounted other = refuses P FieldCount (λ e. omega arith) λ manner w outline stands. fault_nine manner (fields_of line) w.pack looked.stands.named (is_new_lem w outline) other
 
-        malformed : length (fields_of line) ≡ 4 → not (is_some (natural 8 (field 2 (fields_of line))) && is_kind (field 3 (fields_of line))) ≡ true → OpensLetter P line names signatures s (Misopened Number)
+        malformed : length (fields_of line) ≡ 4 → not (is_some (natural 8 (field 2 (fields_of line))) && is_kind (field 3 (fields_of line))) ≡ true → OpensLetter P line names signatures s (Err Number)
         malformed four bad = refuses P Number (λ e. omega arith) λ manner w outline stands. fault_ten manner (fields_of line) w.pack looked.stands.named (is_new_lem w outline) four bad
 
         declared : length line ≤ 1024 → length (fields_of line) ≡ 4 → (is_some (natural 8 (field 2 (fields_of line))) && is_kind (field 3 (fields_of line))) ≡ true
-            → OpensLetter P line names signatures s (Line (record { letter = P; predicate = s.predicates; words = name.words; from = length line + 1; arity = arity; mark = flag (kind_from (field 1 (parts_from 44 line (name.stop + 1)))) }))
+            → OpensLetter P line names signatures s (Ok (record { letter = P; predicate = s.predicates; words = name.words; from = length line + 1; arity = arity; mark = flag (kind_from (field 1 (parts_from 44 line (name.stop + 1)))) }))
         declared short four good =
             let (is, low) = arity_given (field 2 (fields_of line)) arity given (and_left _ _ good) in
             let none = parts_done 44 line (length line + 1) (omega arith) ∙ sym (drop_of_length-le (fields_of line) {i = 4} (omega arith)) in
@@ -187,10 +186,10 @@ module _ {l : Letter} (names-it : HasName l) {names signatures : List ℕ} {s : 
   barred_told : (w : Written) → Outline names signatures s w → is_barred l (some (predicate_at w.pack.predicates place)) ≡ bars l (get_or signatures (32 + place) 0)
   barred_told w outline = barred_mark l _ (outline.declares.kind place below)
 
-  barred : bars l (get_or signatures (32 + place) 0) ≡ true → OpensLetter l line names signatures s (Misopened (barred_by l))
+  barred : bars l (get_or signatures (32 + place) 0) ≡ true → OpensLetter l line names signatures s (Err (barred_by l))
   barred e = refuses l (barred_by l) (barred_other l) λ manner w outline stands. fault_barred manner (fields_of line) w.pack _ names-it looked.stands.named (is_meant looked w outline below) (barred_told w outline ∙ e)
 
-  referred : length line ≤ 1024 → bars l (get_or signatures (32 + place) 0) ≡ false → OpensLetter l line names signatures s (Line (opened l place name.words (name.stop + 1)))
+  referred : length line ≤ 1024 → bars l (get_or signatures (32 + place) 0) ≡ false → OpensLetter l line names signatures s (Ok (opened l place name.words (name.stop + 1)))
   referred short free =
       let refers = others_refer names-it (λ is. never_both (ap (λ (k : Letter). bars k (get_or signatures (32 + place) 0)) is) free) in
       let (n, given, low, read) = place_arity names signatures looked.safe looked.few _ (line_arity l (fields_of line)) looked.at below in
@@ -213,7 +212,7 @@ module _ {l : Letter} (names-it : HasName l) {names signatures : List ℕ} {s : 
 -- ---- together: what `open_named` cites
 
 module _ (l : Letter) (names-it : HasName l) (names signatures : List ℕ) (s : State) (line : Bytes) (naming : Naming) (read : NameRead line naming) where
-  pub opens_unnamed : naming ≡ NoName → OpensLetter l line names signatures s (Misopened Name)
+  pub opens_unnamed : naming ≡ NoName → OpensLetter l line names signatures s (Err Name)
   opens_unnamed other = refuses l Name (λ e. omega arith) λ manner w outline stands. fault_seven manner (fields_of line) w.pack l names-it (read.none other)
 
   pub name_rest : (name : Named) → naming ≡ Found name → parts_from 44 line (name.stop + 1) ≡ drop 2 (fields_of line)
@@ -226,18 +225,18 @@ module _ (l : Letter) (names-it : HasName l) (names signatures : List ℕ) (s : 
 
     -- what `is_barred` answers of one that is declared
     module _ (below : place < s.predicates) (answer : Bool) (mark : answer ≡ bars l (get_or signatures (32 + place) 0)) where
-      pub opens_barred : answer ≡ true → {f : Fault} → f ≡ barred_by l → OpensLetter l line names signatures s (Misopened f)
-      opens_barred e {f} fault = subst⁻¹ (λ (g : Fault). OpensLetter l line names signatures s (Misopened g)) fault (barred names-it looked_up below (sym mark ∙ e))
+      pub opens_barred : answer ≡ true → {f : Fault} → f ≡ barred_by l → OpensLetter l line names signatures s (Err f)
+      opens_barred e {f} fault = subst⁻¹ (λ (g : Fault). OpensLetter l line names signatures s (Err g)) fault (barred names-it looked_up below (sym mark ∙ e))
 
-      pub opens_reference : length line ≤ 1024 → answer ≡ false → OpensLetter l line names signatures s (Line (opened l place name.words (name.stop + 1)))
+      pub opens_reference : length line ≤ 1024 → answer ≡ false → OpensLetter l line names signatures s (Ok (opened l place name.words (name.stop + 1)))
       opens_reference short e = referred names-it looked_up below short (sym mark ∙ e)
 
     -- what `is_declaration` answers where none is
     module _ (above : s.predicates ≤ place) (way : Bool) (told : way ≡ declares l) where
-      pub opens_undeclared : way ≡ false → OpensLetter l line names signatures s (Misopened Declaration)
+      pub opens_undeclared : way ≡ false → OpensLetter l line names signatures s (Err Declaration)
       opens_undeclared old = undeclared above (others_refer names-it (λ is. never_both (ap declares is) (sym told ∙ old))) looked_up
 
-      pub opens_declaration : way ≡ true → (n : ℕ) → n + 1 ≡ length (parts_at 44 line) → length line ≤ 1024 → {r : Opening} → r ≡ declaration line s.predicates name.words (name.stop + 1) n arity → OpensLetter l line names signatures s r
+      pub opens_declaration : way ≡ true → (n : ℕ) → n + 1 ≡ length (parts_at 44 line) → length line ≤ 1024 → {r : Result Opened Fault} → r ≡ declaration line s.predicates name.words (name.stop + 1) n arity → OpensLetter l line names signatures s r
       opens_declaration new n count short {r} is =
           subst⁻¹ (λ (k : Letter). LookedUp k names signatures s line name place → arity ≡ Option.get_or (line_arity k (fields_of line)) no_arity → OpensLetter k line names signatures s r) (declares_is names-it (sym told ∙ new))
           (λ looked known. subst⁻¹ (OpensLetter P line names signatures s) is (new_predicate above looked n count arity known short)) looked_up given
@@ -263,14 +262,14 @@ bare Nameless.multipliers = record {
 bare Nameless.end = record { skips = refl; opens = refl; due = λ names signatures s w outline stands. refl; named = λ line s w o e. e }
 
 module _ (l : Letter) (nameless : Nameless l) (s : State) (line : Bytes) (commas : ℕ) (all : commas ≡ most (sort_of l) s) (n : ℕ) (count : n + 1 ≡ length (parts_at 44 line)) where
-  pub bare_miscounted : (n ≡ commas → ⊥) → OpensBare l line s (Misopened FieldCount)
+  pub bare_miscounted : (n ≡ commas → ⊥) → OpensBare l line s (Err FieldCount)
   bare_miscounted other = record {
     opens = λ names signatures.
         refuses l FieldCount (λ e. omega arith) λ manner w outline stands.
         fault_nine_alone manner (fields_of line) w.pack l nameless (λ e. other (omega (arith, (bare nameless).due names signatures s w outline stands)));
   }
 
-  pub bare_passed : Begins line → (l ≡ M → s.multipliers < 16) → length line ≤ 1024 → n ≡ commas → (words : Words) → OpensBare l line s (Line (opened l 0 words 2))
+  pub bare_passed : Begins line → (l ≡ M → s.multipliers < 16) → length line ≤ 1024 → n ≡ commas → (words : Words) → OpensBare l line s (Ok (opened l 0 words 2))
   bare_passed begins due short right words = record {
     opens = λ names signatures.
         passes (opened l 0 words 2) short
@@ -313,9 +312,9 @@ commas_multipliers s is = ap (λ (k : Letter). most (sort_of k) s) (sym is)
 pub commas_end : {l : Letter} (s : State) → l ≡ E → 0 ≡ most (sort_of l) s
 commas_end s is = ap (λ (k : Letter). most (sort_of k) s) (sym is)
 
-pub opens_bare : {l : Letter} {line : Bytes} {s : State} {r : Opening} → OpensBare l line s r → {names signatures : List ℕ} → OpensLetter l line names signatures s r
+pub opens_bare : {l : Letter} {line : Bytes} {s : State} {r : Result Opened Fault} → OpensBare l line s r → {names signatures : List ℕ} → OpensLetter l line names signatures s r
 opens_bare opens {names} {signatures} = opens.opens names signatures
 
 -- no line of no letter is opened
-pub opens_none : {l : Letter} → (l ≡ NoLetter → ⊥) → l ≡ NoLetter → {line : Bytes} {names signatures : List ℕ} {s : State} {r : Opening} → OpensLetter l line names signatures s r
+pub opens_none : {l : Letter} → (l ≡ NoLetter → ⊥) → l ≡ NoLetter → {line : Bytes} {names signatures : List ℕ} {s : State} {r : Result Opened Fault} → OpensLetter l line names signatures s r
 opens_none other is = absurd (other is)

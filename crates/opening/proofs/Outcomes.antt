@@ -5,6 +5,7 @@ use mathlib.Core.List.{List}
 use Prim.Native.Nat.{ℕ, ◌+◌, ◌≤◌, ◌<◌}
 use native.Mathlib.Omega.{arith}
 use lib.ListN.{length, drop, length-drop}
+use Rattle.std.specs.Prelude.{Result, Ok, Err}
 use Rattle.theory.specs.declared.Letter.{Letter}
 use Rattle.theory.specs.declared.Letter.TheVariants.{P, M}
 use Rattle.theory.specs.Text.{Bytes, fields_of}
@@ -13,30 +14,29 @@ use Rattle.theory.specs.Faults.{Manner, first_given, is_unfit, may_stand, tests,
 use Rattle.text.specs.Scans.{parts_from}
 use Rattle.words.specs.declared.Words.{Words}
 use Rattle.tables.specs.declared.State.{State}
-use Rattle.tables.specs.declared.Fault.{Fault}
 use Rattle.tables.specs.declared.Opened.{Opened}
-use Rattle.tables.specs.declared.Opening.TheVariants.{Line, Misopened}
+use Rattle.tables.specs.declared.Fault.{Fault}
 use Rattle.tables.specs.Faults.{number_of}
 use Rattle.tables.specs.Tables.{Outline}
 use Rattle.tables.specs.Sorts.{sort_of}
 use Rattle.tables.specs.Lines.{skipped, opening_tests, most, NamedFor, Passed, SafeOpened}
-use Rattle.tables.proofs.Outcomes.{line_misopened, line_opened, misopened_fault}
+use Rattle.tables.proofs.Outcomes.{ok_never_err, same_ok, same_err}
 use Rattle.opening.specs.Opening.{OpenedFor, Opens, OpensLetter}
 use Rattle.opening.proofs.LineTests.{past_five}
 
 -- ---- refused
 
-refused_other : (f : Fault) → (number_of f ≡ 13 → ⊥) → (g : Fault) → Misopened f ≡ Misopened g → number_of g ≡ 13 → ⊥
-refused_other f other g e = subst (λ (h : Fault). number_of h ≡ 13 → ⊥) (misopened_fault e) other
+refused_other : (f : Fault) → (number_of f ≡ 13 → ⊥) → (g : Fault) → ◌≡◌ {A = Result Opened Fault} (Err f) (Err g) → number_of g ≡ 13 → ⊥
+refused_other f other g e = subst (λ (h : Fault). number_of h ≡ 13 → ⊥) (same_err e) other
 
 module _ (f : Fault) {line : Bytes} {s : State} where
-  refused_safe : (o : Opened) → Misopened f ≡ Line o → SafeOpened line s o
-  refused_safe o e = absurd (line_misopened (sym e))
+  refused_safe : (o : Opened) → Err f ≡ Ok o → SafeOpened line s o
+  refused_safe o e = absurd (ok_never_err (sym e))
 
-  refused_for : {manner : Manner} (w : Written) → fault manner w line ≡ number_of f → OpenedFor manner line s w (Misopened f)
-  refused_for w found = record { refused = λ g e. found ∙ ap number_of (misopened_fault e); passed = λ o e. absurd (line_misopened (sym e)) }
+  refused_for : {manner : Manner} (w : Written) → fault manner w line ≡ number_of f → OpenedFor manner line s w (Err f)
+  refused_for w found = record { refused = λ g e. found ∙ ap number_of (same_err e); passed = λ o e. absurd (ok_never_err (sym e)) }
 
-  pub refuses_line : (number_of f ≡ 13 → ⊥) → {names signatures : List ℕ} → ((manner : Manner) → manner.allows ≡ may_stand → (w : Written) → Outline names signatures s w → fault manner w line ≡ number_of f) → Opens line names signatures s (Misopened f)
+  pub refuses_line : (number_of f ≡ 13 → ⊥) → {names signatures : List ℕ} → ((manner : Manner) → manner.allows ≡ may_stand → (w : Written) → Outline names signatures s w → fault manner w line ≡ number_of f) → Opens line names signatures s (Err f)
   refuses_line other finds = record { safe = refused_safe; other = refused_other f other; tells = λ manner same w outline. refused_for w (finds manner same w outline) }
 
 -- ---- passed
@@ -65,28 +65,28 @@ own_tests manner l line w fit unended allowed is =
 
 module _ {line : Bytes} {names signatures : List ℕ} {s : State} where
   pub refuses : (l : Letter) (f : Fault) → (number_of f ≡ 13 → ⊥) → ((manner : Manner) (w : Written) → Outline names signatures s w → may_stand w.pack l ≡ true → first_given (tests manner l (fields_of line) w.pack) ≡ number_of f)
-      → OpensLetter l line names signatures s (Misopened f)
+      → OpensLetter l line names signatures s (Err f)
   refuses l f other finds = record {
     safe = refused_safe f;
     other = refused_other f other;
     tells = λ manner w outline fit unended allowed stands is. refused_for f w (own_tests manner l line w fit unended allowed is ∙ finds manner w outline stands);
   }
 
-  pub passes : (o : Opened) → length line ≤ 1024 → Keeps line s o → ((manner : Manner) (w : Written) → Outline names signatures s w → may_stand w.pack o.letter ≡ true → Clears manner line s w o) → OpensLetter o.letter line names signatures s (Line o)
+  pub passes : (o : Opened) → length line ≤ 1024 → Keeps line s o → ((manner : Manner) (w : Written) → Outline names signatures s w → may_stand w.pack o.letter ≡ true → Clears manner line s w o) → OpensLetter o.letter line names signatures s (Ok o)
   passes o short k clears = record {
-    safe = λ p e. subst (SafeOpened line s) (line_opened e) (record {
+    safe = λ p e. subst (SafeOpened line s) (same_ok e) (record {
       short = short;
       few = omega (arith, ap length k.rest, length-drop (skipped (sort_of o.letter)) (fields_of line));
       place = k.place;
       due = k.due;
       low = k.low;
     });
-    other = λ f e. absurd (line_misopened e);
+    other = λ f e. absurd (ok_never_err e);
     tells = λ manner w outline fit unended allowed stands is.
         let clear = clears manner w outline stands in
         record {
-          refused = λ f e. absurd (line_misopened e);
-          passed = λ p e. subst (λ (q : Opened). Passed manner q.letter line s w q) (line_opened e) (record {
+          refused = λ f e. absurd (ok_never_err e);
+          passed = λ p e. subst (λ (q : Opened). Passed manner q.letter line s w q) (same_ok e) (record {
             first = is;
             short = short;
             unended = unended;

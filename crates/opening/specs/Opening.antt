@@ -1,5 +1,5 @@
 -- A line's tests before its fields are read.
-use Rattle.std.specs.Prelude.{◌≡◌, Bool, true, false, cond, not, ◌&&◌, List, ℕ, ◌+◌, ◌≤◌, ◌<◌, eqb, ltb, length, drop}
+use Rattle.std.specs.Prelude.{◌≡◌, Bool, true, false, cond, not, ◌&&◌, List, ℕ, ◌+◌, ◌≤◌, ◌<◌, eqb, ltb, length, drop, Result, Ok, Err}
 use Rattle.theory.specs.declared.Letter.{Letter}
 use Rattle.theory.specs.declared.Letter.TheVariants.{P, C, G, H, B, M, E, NoLetter}
 use Rattle.theory.specs.Text.{Bytes, is_name, fields_of}
@@ -12,8 +12,6 @@ use Rattle.tables.specs.declared.State.{State}
 use Rattle.tables.specs.declared.Fault.{Fault}
 use Rattle.tables.specs.declared.Fault.TheVariants.{Declaration, FieldCount, Number, RuledFact}
 use Rattle.tables.specs.declared.Opened.{Opened}
-use Rattle.tables.specs.declared.Opening.{Opening}
-use Rattle.tables.specs.declared.Opening.TheVariants.{Line, Misopened}
 use Rattle.tables.specs.Faults.{number_of}
 use Rattle.tables.specs.Tables.{flag, no_arity, Outline}
 use Rattle.tables.specs.Lines.{Passed, SafeOpened}
@@ -79,12 +77,12 @@ abbrev pub kind_mark : Bytes → Marking
 kind_mark f = cond (is_kind f) (Mark (flag (kind_from f))) NoKind
 
 -- the opening of a line that declares a new predicate, by the number of its commas, its arity, and the kind after that, which stands from a place on
-abbrev pub declaration : Bytes → ℕ → Words → ℕ → ℕ → ℕ → Opening
+abbrev pub declaration : Bytes → ℕ → Words → ℕ → ℕ → ℕ → Result Opened Fault
 declaration line known words from commas arity =
     let kind = field 1 (parts_from 44 line from) in
-    cond (not (eqb commas 3)) (Misopened FieldCount)
-    (cond (not (ltb arity no_arity && is_kind kind)) (Misopened Number)
-    (Line (record { letter = P; predicate = known; words = words; from = length line + 1; arity = arity; mark = flag (kind_from kind) })))
+    cond (not (eqb commas 3)) (Err FieldCount)
+    (cond (not (ltb arity no_arity && is_kind kind)) (Err Number)
+    (Ok (record { letter = P; predicate = known; words = words; from = length line + 1; arity = arity; mark = flag (kind_from kind) })))
 
 -- ## Steps
 
@@ -108,20 +106,20 @@ pub record NameRead (line : Bytes) (r : Naming) : Type 0 where
   pub none : r ≡ NoName → is_name (field 1 (fields_of line)) ≡ false
 
 -- a line that is opened, judged in some manner after lines that write w
-pub record OpenedFor (manner : Manner) (line : Bytes) (s : State) (w : Written) (r : Opening) : Type 0 where
-  pub refused : (f : Fault) → r ≡ Misopened f → fault manner w line ≡ number_of f
-  pub passed : (o : Opened) → r ≡ Line o → Passed manner o.letter line s w o
+pub record OpenedFor (manner : Manner) (line : Bytes) (s : State) (w : Written) (r : Result Opened Fault) : Type 0 where
+  pub refused : (f : Fault) → r ≡ Err f → fault manner w line ≡ number_of f
+  pub passed : (o : Opened) → r ≡ Ok o → Passed manner o.letter line s w o
 
 -- in each manner that allows the letters of a whole pack
-pub record Opens (line : Bytes) (names signatures : List ℕ) (s : State) (r : Opening) : Type 0 where
-  pub safe : (o : Opened) → r ≡ Line o → SafeOpened line s o
-  pub other : (f : Fault) → r ≡ Misopened f → number_of f ≡ 13 → ⊥
+pub record Opens (line : Bytes) (names signatures : List ℕ) (s : State) (r : Result Opened Fault) : Type 0 where
+  pub safe : (o : Opened) → r ≡ Ok o → SafeOpened line s o
+  pub other : (f : Fault) → r ≡ Err f → number_of f ≡ 13 → ⊥
   pub tells : (manner : Manner) → manner.allows ≡ may_stand → (w : Written) → Outline names signatures s w → OpenedFor manner line s w r
 
 -- the same for a fit line of a letter that may stand here, in each manner that allows it
-pub record OpensLetter (letter : Letter) (line : Bytes) (names signatures : List ℕ) (s : State) (r : Opening) : Type 0 where
-  pub safe : (o : Opened) → r ≡ Line o → SafeOpened line s o
-  pub other : (f : Fault) → r ≡ Misopened f → number_of f ≡ 13 → ⊥
+pub record OpensLetter (letter : Letter) (line : Bytes) (names signatures : List ℕ) (s : State) (r : Result Opened Fault) : Type 0 where
+  pub safe : (o : Opened) → r ≡ Ok o → SafeOpened line s o
+  pub other : (f : Fault) → r ≡ Err f → number_of f ≡ 13 → ⊥
   pub tells : (manner : Manner) (w : Written) → Outline names signatures s w → is_unfit line ≡ false → w.ended ≡ false → manner.allows w.pack letter ≡ true → may_stand w.pack letter ≡ true → line_letter line ≡ letter → OpenedFor manner line s w r
 
 pub record Completes (signatures : List ℕ) (s : State) (r : Bool) : Type 0 where
@@ -134,5 +132,5 @@ pub record Stands (letter : Letter) (signatures : List ℕ) (s : State) (r : Boo
   pub due : letter ≡ M → r ≡ true → s.multipliers < 16
 
 -- the same whatever the tables hold that the letter's tests do not read
-pub record OpensBare (letter : Letter) (line : Bytes) (s : State) (r : Opening) : Type 0 where
+pub record OpensBare (letter : Letter) (line : Bytes) (s : State) (r : Result Opened Fault) : Type 0 where
   pub opens : (names signatures : List ℕ) → OpensLetter letter line names signatures s r

@@ -17,7 +17,7 @@ ghost use Rattle.tables.specs.Lines.{most};
 ghost use Rattle.opening.specs.Opening.{declares, bars, barred_by, kind_mark, declaration, HasName, Nameless, Begins, LetterRead, NameRead, Completes, Stands, OpensLetter, OpensBare, Opens};
 
 use numbers::Natural;
-use tables::{Fault, Hints, Names, Opened, Opening, Signatures, State};
+use tables::{Fault, Hints, Names, Opened, Signatures, State};
 use theory::Letter;
 use words::{Word, Words};
 
@@ -239,21 +239,21 @@ fn open_declaration(
     from: usize,
     commas: usize,
     arity: usize,
-) -> Opening
+) -> Result<Opened, Fault>
     requires { length line.now ≤ 1024 }
     ensures { result ≡ declaration line.now known words from commas arity }
 {
     if commas != 3 {
-        return Opening::Misopened(Fault::FieldCount);
+        return Err(Fault::FieldCount);
     }
     if tables::NO_ARITY <= arity {
-        return Opening::Misopened(Fault::Number);
+        return Err(Fault::Number);
     }
     let marking = read_mark(line, from);
     let Marking::Mark(mark) = marking else {
-        return Opening::Misopened(Fault::Number);
+        return Err(Fault::Number);
     };
-    Opening::Line(Opened {
+    Ok(Opened {
         letter: Letter::P,
         predicate: known,
         words,
@@ -272,12 +272,12 @@ fn open_named(
     signatures: &Signatures,
     hints: &mut Hints,
     naming: Naming,
-) -> Opening
+) -> Result<Opened, Fault>
     requires { (HasName letter) × (length line.now ≤ 1024) × (SafeState state) × (SafeSignatures signatures.now) × (NameRead line.now naming) }
     ensures { OpensLetter letter line.now names.now signatures.now state result }
 {
     let Naming::Found(name) = naming else {
-        return Opening::Misopened(Fault::Name);
+        return Err(Fault::Name);
     };
     let known = state.predicates;
     let words = name.words;
@@ -287,14 +287,14 @@ fn open_named(
     let place = tables::place_by(names, signatures, known, words, arity, hints);
     if known <= place {
         if !is_declaration(letter) {
-            return Opening::Misopened(Fault::Declaration);
+            return Err(Fault::Declaration);
         }
         return open_declaration(line, known, words, from, commas, arity);
     }
     if is_barred(letter, signatures[32 + place]) {
-        return Opening::Misopened(barred_fault(letter));
+        return Err(barred_fault(letter));
     }
-    Opening::Line(Opened {
+    Ok(Opened {
         letter,
         predicate: place,
         words,
@@ -305,18 +305,18 @@ fn open_named(
 }
 
 /// A line of a letter that names no predicate, with a number of commas.
-fn open_bare(letter: Letter, commas: usize, line: &[u8], state: State) -> Opening
+fn open_bare(letter: Letter, commas: usize, line: &[u8], state: State) -> Result<Opened, Fault>
     requires { (Nameless letter) × (commas ≡ most (sort_of letter) state) × (Begins line.now) × (length line.now ≤ 1024) × (letter ≡ M → state.multipliers < 16) }
     ensures { OpensBare letter line.now state result }
 {
     if text::count(line, b',') != commas {
-        return Opening::Misopened(Fault::FieldCount);
+        return Err(Fault::FieldCount);
     }
     let words = Words {
         first: 0,
         second: 0,
     };
-    Opening::Line(Opened {
+    Ok(Opened {
         letter,
         predicate: 0,
         words,
@@ -335,7 +335,7 @@ fn open_letter(
     signatures: &Signatures,
     hints: &mut Hints,
     classes: &[u8; 256],
-) -> Opening
+) -> Result<Opened, Fault>
     requires { (letter ≡ NoLetter → ⊥) × (Begins line.now) × (length line.now ≤ 1024) × (SafeState state) × (SafeSignatures signatures.now) × (letter ≡ M → state.multipliers < 16) × Classes classes.now }
     ensures { OpensLetter letter line.now names.now signatures.now state result }
 {
@@ -346,7 +346,7 @@ fn open_letter(
         }
         Letter::M => open_bare(letter, state.slots, line, state),
         Letter::E => open_bare(letter, 0, line, state),
-        Letter::NoLetter => Opening::Misopened(Fault::Letter),
+        Letter::NoLetter => Err(Fault::Letter),
     }
 }
 
@@ -359,16 +359,16 @@ pub fn open(
     hints: &mut Hints,
     classes: &[u8; 256],
     plain: bool,
-) -> Opening
+) -> Result<Opened, Fault>
     requires { (SafeSignatures signatures.now) × (SafeState state) × Classes classes.now × (plain ≡ true → every (between 32 126) line.now ≡ true) }
     ensures { Opens line.now names.now signatures.now state result }
 {
     if text::is_unfit_in(line, plain) {
-        return Opening::Misopened(Fault::UnfitLine);
+        return Err(Fault::UnfitLine);
     }
     let letter = letter_of(line);
     if !may_stand(letter, state, signatures) {
-        return Opening::Misopened(Fault::Letter);
+        return Err(Fault::Letter);
     }
     open_letter(letter, line, state, names, signatures, hints, classes)
 }
