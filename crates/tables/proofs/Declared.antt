@@ -1,40 +1,27 @@
 -- The declared predicates, with one more.
-use mathlib.Core.Path.{◌≡◌, refl, sym, ◌∙◌}
+use mathlib.Core.Path.{◌≡◌, refl, sym, ◌∙◌, ap}
 use mathlib.Core.Bool.{true}
 use mathlib.Core.List.{List, [], ◌∷◌, ◌++◌}
 use mathlib.Core.Option.{none}
 use Prim.Native.Nat.{ℕ, ◌+◌, ◌≤◌, ◌<◌}
 use native.Mathlib.Omega.{arith}
-use lib.Dec.{ltb}
+use lib.Dec.{eqb, ltb}
 use lib.IntN.{ℤ}
-use lib.ListN.{length, get_or, set, length-set}
+use lib.ListN.{length, set}
 use lib.Seq.{get_or-set_same, get_or-set_other}
-use Rattle.groundwork.proofs.Truth.{by_truth, ltb-lt, ltb-ge}
+use Rattle.groundwork.proofs.Truth.{by_truth, eqb-equal, eqb-unequal, ltb-lt, ltb-ge}
 use Rattle.groundwork.proofs.Lists.{length_end}
 use Rattle.theory.specs.Text.{is_name}
 use Rattle.theory.specs.Packs.{Predicate, key_of, declared_as, claims_on}
 use Rattle.theory.proofs.Reading.Places.{each_and_last}
-use Rattle.words.specs.Words.{words_of, words_at}
-use Rattle.terms.proofs.VariableTable.{with_words, with_other, with_here}
-use Rattle.tables.specs.Tables.{Declares, HoldsClaims, no_predicate, predicate_at, flag}
+use Rattle.words.specs.Words.{words_of}
+use Rattle.tables.specs.declared.Signature.{Signature}
+use Rattle.tables.specs.Tables.{signature_at, no_signature, Declares, HoldsClaims, no_predicate, predicate_at, kind_of}
 use Rattle.tables.proofs.Lookup.{undeclared}
 
 -- ---- one predicate more
 
-abbrev pub with_signature : List ℕ → ℕ → ℕ → ℕ → List ℕ
-with_signature signatures n arity kind = set (set signatures n arity) (32 + n) kind
-
-module _ (signatures : List ℕ) (n arity kind : ℕ) where
-  pub signature_stays : (i : ℕ) → (i ≡ n → ⊥) → (i ≡ 32 + n → ⊥) → get_or (with_signature signatures n arity kind) i 0 ≡ get_or signatures i 0
-  signature_stays i h k = get_or-set_other (set signatures n arity) (32 + n) i kind 0 k ∙ get_or-set_other signatures n i arity 0 h
-
-  arity_stands : n < length signatures → get_or (with_signature signatures n arity kind) n 0 ≡ arity
-  arity_stands h = get_or-set_other (set signatures n arity) (32 + n) n kind 0 (λ e. omega arith) ∙ get_or-set_same signatures n arity 0 h
-
-  kind_stands : 32 + n < length signatures → get_or (with_signature signatures n arity kind) (32 + n) 0 ≡ kind
-  kind_stands h = get_or-set_same (set signatures n arity) (32 + n) kind 0 (simp length-set h)
-
-module _ (names signatures : List ℕ) (known : ℕ) (ps : List Predicate) (x : Predicate) (declares : Declares names signatures known ps) where
+module _ (signatures : List Signature) (known : ℕ) (ps : List Predicate) (x : Predicate) (declares : Declares signatures known ps) where
   -- what holds of each predicate and its place, and of the one more, holds of each then
   each_known : (Q : Predicate → ℕ → Type 0) → ((i : ℕ) → i < known → Q (predicate_at ps i) i) → Q x known → (i : ℕ) → i < known + 1 → Q (predicate_at (ps ++ (x ∷ [])) i) i
   each_known Q each last i h =
@@ -56,46 +43,57 @@ module _ (names signatures : List ℕ) (known : ℕ) (ps : List Predicate) (x : 
         i
         h
 
-    pub declares_more : known < 32 → length names ≡ 64 → length signatures ≡ 96 → is_name x.name ≡ true
-        → Declares (with_words names known (words_of x.name)) (with_signature signatures known x.arguments (flag x.kind)) (known + 1) (ps ++ (x ∷ []))
-    declares_more room name_size signatureSize proper =
-        let words = words_of x.name in
-        let kind = flag x.kind in
-        let signatures₁ = with_signature signatures known x.arguments kind in
+    -- under its signature
+    pub declares_more : (n : Signature) → n.words ≡ words_of x.name → n.arity ≡ x.arguments → n.kind ≡ kind_of x.kind → known < 32 → length signatures ≡ 32 → is_name x.name ≡ true
+        → Declares (set signatures known n) (known + 1) (ps ++ (x ∷ []))
+    declares_more n words arity kind room long proper =
+        let more = set signatures known n in
+        let others : (i : ℕ) → i < known → signature_at signatures i ≡ signature_at more i = λ i h. sym (get_or-set_other signatures known i n no_signature (λ e. omega arith)) in
+        let here : n ≡ signature_at more known = sym (get_or-set_same signatures known n no_signature (omega arith)) in
         record {
           count = omega (arith, length_end ps x, declares.count);
-          words = each_known (λ p i. words_at (with_words names known words) i ≡ words_of p.name) (λ i h. with_other names known words i h ∙ declares.words i h) (with_here names known words (omega arith));
+          words = each_known (λ p i. (signature_at more i).words ≡ words_of p.name) (λ i h. ap (λ (s : Signature). s.words) (sym (others i h)) ∙ declares.words i h) (ap (λ (s : Signature). s.words) (sym here) ∙ words);
           named = each_known (λ p i. is_name p.name ≡ true) declares.named proper;
-          arity = each_known (λ p i. get_or signatures₁ i 0 ≡ p.arguments)
-              (λ i h. signature_stays signatures known x.arguments kind i (λ e. omega arith) (λ e. omega arith) ∙ declares.arity i h)
-              (arity_stands signatures known x.arguments kind (omega arith));
-          kind = each_known (λ p i. get_or signatures₁ (32 + i) 0 ≡ flag p.kind)
-              (λ i h. signature_stays signatures known x.arguments kind (32 + i) (λ e. omega arith) (λ e. omega arith) ∙ declares.kind i h)
-              (kind_stands signatures known x.arguments kind (omega arith));
+          arity = each_known (λ p i. (signature_at more i).arity ≡ p.arguments) (λ i h. ap (λ (s : Signature). s.arity) (sym (others i h)) ∙ declares.arity i h) (ap (λ (s : Signature). s.arity) (sym here) ∙ arity);
+          kind = each_known (λ p i. (signature_at more i).kind ≡ kind_of p.kind) (λ i h. ap (λ (s : Signature). s.kind) (sym (others i h)) ∙ declares.kind i h) (ap (λ (s : Signature). s.kind) (sym here) ∙ kind);
           distinct = still_distinct;
         }
 
--- a count of claims is no arity and no kind
-pub count_declares : (names signatures : List ℕ) (known p n : ℕ) (ps : List Predicate) → known ≤ 32 → Declares names signatures known ps → Declares names (set signatures (64 + p) n) known ps
-count_declares names signatures known p n ps few old =
-    record {
-      count = old.count;
-      words = old.words;
-      named = old.named;
-      arity = λ i h. get_or-set_other signatures (64 + p) i n 0 (λ e. omega arith) ∙ old.arity i h;
-      kind = λ i h. get_or-set_other signatures (64 + p) (32 + i) n 0 (λ e. omega arith) ∙ old.kind i h;
-      distinct = old.distinct;
-    }
+-- a predicate with another number of claims is the same predicate
+abbrev pub with_claims : ℕ → Signature → Signature
+with_claims n s = record { words = s.words; kind = s.kind; arity = s.arity; claims = n }
+
+module _ (signatures : List Signature) (p n : ℕ) where
+  abbrev pub counted : List Signature
+  counted = set signatures p (with_claims n (signature_at signatures p))
+
+  -- what a count of claims leaves as it is
+  pub count_leaves : {A : Type 0} (f : Signature → A) → f (with_claims n (signature_at signatures p)) ≡ f (signature_at signatures p) → p < length signatures → (i : ℕ) → f (signature_at counted i) ≡ f (signature_at signatures i)
+  count_leaves f same inside i =
+      by_truth (λ b. f (signature_at counted i) ≡ f (signature_at signatures i)) (eqb i p)
+      (λ e. rw (eqb-equal i p e) (ap f (get_or-set_same signatures p (with_claims n (signature_at signatures p)) no_signature inside) ∙ same))
+      (λ e. ap f (get_or-set_other signatures p i (with_claims n (signature_at signatures p)) no_signature (eqb-unequal i p e)))
+
+  pub count_declares : (known : ℕ) (ps : List Predicate) → p < length signatures → Declares signatures known ps → Declares counted known ps
+  count_declares known ps inside old =
+      record {
+        count = old.count;
+        words = λ i h. count_leaves (λ (s : Signature). s.words) refl inside i ∙ old.words i h;
+        named = old.named;
+        arity = λ i h. count_leaves (λ (s : Signature). s.arity) refl inside i ∙ old.arity i h;
+        kind = λ i h. count_leaves (λ (s : Signature). s.kind) refl inside i ∙ old.kind i h;
+        distinct = old.distinct;
+      }
 
 -- ---- no claims
 
-module _ (signatures : List ℕ) (claims : List ℤ) (ps : List Predicate) (holds : HoldsClaims signatures claims ps []) where
-  no_count : (i : ℕ) → i < 32 → get_or signatures (64 + i) 0 ≡ 0
+module _ (signatures : List Signature) (claims : List ℤ) (ps : List Predicate) (holds : HoldsClaims signatures claims ps []) where
+  no_count : (i : ℕ) → i < 32 → (signature_at signatures i).claims ≡ 0
   unfolding claims_on
-  no_count i h = by_truth (λ b. get_or signatures (64 + i) 0 ≡ 0) (ltb i (length ps)) (λ e. holds.count i (ltb-lt i (length ps) e)) (λ e. holds.none i (ltb-ge i (length ps) e) h)
+  no_count i h = by_truth (λ b. (signature_at signatures i).claims ≡ 0) (ltb i (length ps)) (λ e. holds.count i (ltb-lt i (length ps) e)) (λ e. holds.none i (ltb-ge i (length ps) e) h)
 
   -- they stand for any predicates, in a table with the same counts
-  pub claimless : (more : List ℕ) (qs : List Predicate) → length qs ≤ 32 → ((i : ℕ) → i < 32 → get_or more (64 + i) 0 ≡ get_or signatures (64 + i) 0) → HoldsClaims more claims qs []
+  pub claimless : (more : List Signature) (qs : List Predicate) → length qs ≤ 32 → ((i : ℕ) → i < 32 → (signature_at more i).claims ≡ (signature_at signatures i).claims) → HoldsClaims more claims qs []
   unfolding claims_on
   claimless more qs few same =
       record {

@@ -2,7 +2,6 @@
 pub mod Outcomes
 pub mod FaultNumbers
 pub mod Lookup
-pub mod Signatures
 pub mod Declared
 pub mod PredicateSets
 pub mod Shipping

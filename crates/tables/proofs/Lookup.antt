@@ -2,22 +2,22 @@
 use mathlib.Core.Path.{◌≡◌, refl, sym, ◌∙◌, ap, ap₂}
 use mathlib.Core.Bool.{true, cond}
 use mathlib.Core.List.{List, [], ◌∷◌}
-use mathlib.Core.Option
 use mathlib.Core.Option.{Option, some, none, none-ne-some}
 use Prim.Native.Nat.{ℕ, zero, suc, ◌≤◌, ◌<◌}
 use native.Mathlib.Omega.{arith}
-use lib.ListN.{length, get_or}
+use lib.ListN.{length}
+use Rattle.std.specs.Prelude.{Some, None}
 use Rattle.groundwork.proofs.Truth.{by_truth}
 use Rattle.theory.specs.Text.{Bytes, is_name}
 use Rattle.theory.specs.Packs.{Predicate, Key, key, same_key, key_of, declared_as}
 use Rattle.theory.specs.Faults.{key_with, declared_for}
 use Rattle.theory.proofs.Judging.Keys.{same_key_other, same_key_here}
-use Rattle.theory.proofs.Judging.LineKeys.{declared_with}
 use Rattle.theory.proofs.Reading.Spelling.{name_bytes}
 use Rattle.words.specs.declared.Words.{Words}
-use Rattle.words.specs.Words.{words_of, StandsAt}
+use Rattle.words.specs.Words.{words_of}
 use Rattle.words.proofs.WordLaws.{words_equal}
-use Rattle.tables.specs.Tables.{SafeSignatures, predicate_at, Signature, signature, signature_at, no_arity, Declares}
+use Rattle.tables.specs.declared.Signature.{Signature}
+use Rattle.tables.specs.Tables.{SafeSignatures, predicate_at, signature_at, Heading, heading, heading_at, FoundFor, Declares}
 
 -- ---- the first predicate of a key
 
@@ -44,45 +44,42 @@ undeclared k (p ∷ ps) e (suc i) h is =
 
 -- ---- names by their words
 
--- what is found with an arity that there may be has that arity: no predicate has `no_arity`
-pub place_arity : (names signatures : List ℕ) {known : ℕ} → SafeSignatures signatures → known ≤ 32 → (words : Words) (o : Option ℕ) {r : ℕ} → StandsAt (signature_at names signatures) known (signature words (Option.get_or o no_arity)) r
-    → r < known → (n : ℕ) × (o ≡ some n) × (n ≤ 8) × (get_or signatures r 0 ≡ n)
-place_arity names signatures {known} safe few words o {r} at h = by o (ap (λ (x : Signature). x.arity) (at.found h))
-  where
-    low : get_or signatures r 0 ≤ 8
-    low = safe.arity r (omega arith)
+some_never_none : {r : ℕ} → Some r ≡ None → ⊥
+some_never_none e = cc
 
-    by : (o : Option ℕ) → get_or signatures r 0 ≡ Option.get_or o no_arity → (n : ℕ) × (o ≡ some n) × (n ≤ 8) × (get_or signatures r 0 ≡ n)
-    by none is = absurd (omega (arith, low))
-    by (some n) is = (n, refl, omega (arith, low), is)
+-- what is found has the arity that the line gives
+pub place_arity : (signatures : List Signature) {known : ℕ} → SafeSignatures signatures → known ≤ 32 → (words : Words) (o : Option ℕ) (r : ℕ) → FoundFor signatures known words o (Some r)
+    → (n : ℕ) × (o ≡ some n) × (n ≤ 8) × ((signature_at signatures r).arity ≡ n)
+place_arity signatures safe few words none r e = absurd (some_never_none e)
+place_arity signatures safe few words (some n) r (below, is) =
+    let read : (signature_at signatures r).arity ≡ n = ap (λ (h : Heading). h.arity) is in
+    (n, refl, omega (arith, safe.arity r (omega arith)), read)
 
-module _ {names signatures : List ℕ} {known : ℕ} {ps : List Predicate} (d : Declares names signatures known ps) (name : Bytes) (is_named : is_name name ≡ true) where
+-- and it is among the first
+pub place_below : (signatures : List Signature) {known : ℕ} (words : Words) (o : Option ℕ) (r : ℕ) → FoundFor signatures known words o (Some r) → r < known
+place_below signatures words none r e = absurd (some_never_none e)
+place_below signatures words (some n) r found = found.0
+
+module _ {signatures : List Signature} {known : ℕ} {ps : List Predicate} (d : Declares signatures known ps) (name : Bytes) (is_named : is_name name ≡ true) where
   -- the words of a name with an arity are those of a key
-  signature_key : (i n : ℕ) → i < known → signature_at names signatures i ≡ signature (words_of name) n → key_of (predicate_at ps i) ≡ key name n
-  signature_key i n h is =
-      let words = ap (λ (x : Signature). x.words) is in
-      let arity = ap (λ (x : Signature). x.arity) is in
+  heading_key : (i n : ℕ) → i < known → heading_at signatures i ≡ heading (words_of name) n → key_of (predicate_at ps i) ≡ key name n
+  heading_key i n h is =
+      let words = ap (λ (x : Heading). x.words) is in
+      let arity = ap (λ (x : Heading). x.arity) is in
       ap₂ key (words_equal (predicate_at ps i).name name (name_bytes _ (d.named i h)) (name_bytes name is_named) (sym (d.words i h) ∙ words)) (sym (d.arity i h) ∙ arity)
 
-  key_signature : (i n : ℕ) → i < known → key_of (predicate_at ps i) ≡ key name n → signature_at names signatures i ≡ signature (words_of name) n
-  key_signature i n h is = ap₂ signature (d.words i h ∙ ap (λ (k : Key). words_of k.name) is) (d.arity i h ∙ ap (λ (k : Key). k.arity) is)
+  key_heading : (i n : ℕ) → i < known → key_of (predicate_at ps i) ≡ key name n → heading_at signatures i ≡ heading (words_of name) n
+  key_heading i n h is = ap₂ heading (d.words i h ∙ ap (λ (k : Key). words_of k.name) is) (d.arity i h ∙ ap (λ (k : Key). k.arity) is)
 
-  -- a place found by a name with an arity that there may be
-  module _ (safe : SafeSignatures signatures) (few : known ≤ 32) (o : Option ℕ) {r : ℕ} (at : StandsAt (signature_at names signatures) known (signature (words_of name) (Option.get_or o no_arity)) r) where
-    given_arity : r < known → o ≡ some (predicate_at ps r).arguments
-    given_arity h = let (n, is, low, read) = place_arity names signatures safe few (words_of name) o at h in is ∙ ap some (sym read ∙ d.arity r h)
+  -- what is found by a name with an arity that there may be
+  pub key_declared : (o : Option ℕ) (r : ℕ) → FoundFor signatures known (words_of name) o (Some r) → declared_for (key_with name o) ps ≡ some (predicate_at ps r)
+  unfolding declared_for
+  key_declared none r e = absurd (some_never_none e)
+  key_declared (some n) r (h, is) =
+      let here = heading_key r n h is in
+      declared_first (key name n) ps r (omega (arith, d.count)) (λ j below e. let same = d.distinct j r (omega arith) h (e ∙ sym here) in omega arith) here
 
-    pub key_declared : r < known → declared_for (key_with name o) ps ≡ some (predicate_at ps r)
-    key_declared h =
-        let n = (predicate_at ps r).arguments in
-        let here = signature_key r n h (at.found h ∙ ap (λ (p : Option ℕ). signature (words_of name) (Option.get_or p no_arity)) (given_arity h)) in
-        declared_with name ps o n (given_arity h)
-        ∙ declared_first (key name n) ps r (omega (arith, d.count)) (λ j below e. let same = d.distinct j r (omega arith) h (e ∙ sym here) in omega arith) here
-
-    pub key_absent : known ≤ r → declared_for (key_with name o) ps ≡ none
-    unfolding declared_for
-    key_absent h = by o (at.nowhere h)
-      where
-        by : (o : Option ℕ) → ((i : ℕ) → i < known → signature_at names signatures i ≡ signature (words_of name) (Option.get_or o no_arity) → ⊥) → declared_for (key_with name o) ps ≡ none
-        by none nowhere = refl
-        by (some n) nowhere = declared_none (key name n) ps (λ j below e. let low : j < known = omega (arith, d.count) in nowhere j low (key_signature j n low e))
+  pub key_absent : (o : Option ℕ) → FoundFor signatures known (words_of name) o None → declared_for (key_with name o) ps ≡ none
+  unfolding declared_for
+  key_absent none e = refl
+  key_absent (some n) nowhere = declared_none (key name n) ps (λ j below e. let low : j < known = omega (arith, d.count) in nowhere j low (key_heading j n low e))

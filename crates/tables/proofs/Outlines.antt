@@ -3,7 +3,7 @@ use Rattle.theory.specs.Written.{Written}
 use Rattle.tables.specs.declared.State.{State}
 use Rattle.tables.specs.Tables.{Tables, Holds, Outline}
 
-pub outline : (t : Tables) (s : State) (w : Written) → Holds t s w → Outline t.names t.signatures s w
+pub outline : (t : Tables) (s : State) (w : Written) → Holds t s w → Outline t.signatures s w
 outline t s w holds =
     record {
       declares = holds.declares;

@@ -18,6 +18,7 @@ use Rattle.theory.specs.Faults.{heads_rule}
 use Rattle.theory.proofs.Reading.Every.{none_member, members_none, any_end}
 use Rattle.theory.proofs.Judging.Heads.{heads_changed}
 use Rattle.theory.proofs.Reading.Places.{each_and_last}
+use Rattle.tables.specs.declared.Signature.{Signature}
 use Rattle.tables.specs.Tables.{no_predicate, predicate_at, Declares, SetOf, has_key_in}
 use Rattle.theory.proofs.Judging.Keys.{same_key_here, same_key_other}
 
@@ -55,7 +56,7 @@ module _ {test : Predicate → Bool} {ps : List Predicate} {set : ℕ} (is : Set
 abbrev pub Alone : List Predicate → ℕ → Type 0
 Alone ps place = (i : ℕ) → i < length ps → key_of (predicate_at ps i) ≡ key_of (predicate_at ps place) → i ≡ place
 
-pub key_alone : {names signatures : List ℕ} {known : ℕ} {ps : List Predicate} → Declares names signatures known ps → (place : ℕ) → place < length ps → Alone ps place
+pub key_alone : {signatures : List Signature} {known : ℕ} {ps : List Predicate} → Declares signatures known ps → (place : ℕ) → place < length ps → Alone ps place
 key_alone declares place below i h same = declares.distinct i place (omega (arith, declares.count)) (omega (arith, declares.count)) same
 
 module _ (ps : List Predicate) (place : ℕ) (alone : Alone ps place) (k : Key) (is : key_of (predicate_at ps place) ≡ k) where

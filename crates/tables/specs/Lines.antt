@@ -14,7 +14,7 @@ use Rattle.tables.specs.declared.Opened.{Opened}
 use Rattle.tables.specs.declared.Fault.{Fault}
 use Rattle.tables.specs.Faults.{closing_number}
 use Rattle.tables.specs.Sorts.{Sort, declaring, numbering, stating, following, multiplying, ending, none as no_sort, sort_of}
-use Rattle.tables.specs.Tables.{Tables, flag, predicate_at, Holds}
+use Rattle.tables.specs.Tables.{Tables, kind_of, predicate_at, Holds}
 
 -- ## Opened
 
@@ -49,14 +49,15 @@ most multiplying s = s.slots
 most ending s = 0
 most no_sort s = 0
 
--- a predicate that is not declared yet, in a line of four fields: its words, its arity and its mark
+-- a predicate that is not declared yet, in a line of four fields: what is put into the table
 pub record NewPredicate (line : Bytes) (w : Written) (o : Opened) : Type 0 where
   pub named : is_name (field 1 (fields_of line)) ≡ true
   pub is_new : meant_by P (fields_of line) w.pack ≡ none
   pub four : length (fields_of line) ≡ 4
-  pub words : o.words ≡ words_of (field 1 (fields_of line))
-  pub arity : natural 8 (field 2 (fields_of line)) ≡ some o.arity
-  pub mark : o.mark ≡ flag (kind_from (field 3 (fields_of line)))
+  pub words : o.signature.words ≡ words_of (field 1 (fields_of line))
+  pub arity : natural 8 (field 2 (fields_of line)) ≡ some o.signature.arity
+  pub kind : o.signature.kind ≡ kind_of (kind_from (field 3 (fields_of line)))
+  pub claims : o.signature.claims ≡ 0
 
 -- the predicate declared under a key, in a line with a field for each argument and some more
 pub record OldPredicate (k : Key) (more : ℕ) (line : Bytes) (w : Written) (o : Opened) : Type 0 where
@@ -91,7 +92,8 @@ pub record SafeOpened (line : Bytes) (s : State) (o : Opened) : Type 0 where
   pub few : length (parts_from 44 line o.from) ≤ most (sort_of o.letter) s
   pub place : (o.letter ≡ P → ⊥) → o.predicate < 32
   pub due : o.letter ≡ M → s.multipliers < 16
-  pub low : o.arity ≤ 8
+  pub low : o.signature.arity ≤ 8
+  pub claimless : o.signature.claims ≡ 0
 
 -- ## Its fields, from 0
 

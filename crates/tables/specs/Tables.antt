@@ -1,33 +1,36 @@
 -- The tables and the state, and how they stand for what the lines so far write.
-use Rattle.std.specs.Prelude.{◌≡◌, Bool, true, false, cond, not, List, [], ℕ, zero, suc, ◌+◌, ◌*◌, ◌≤◌, ◌<◌, eqb, ℤ, pos, nat_abs, length, get_or}
+use Rattle.std.specs.Prelude.{◌≡◌, Bool, true, false, cond, not, List, [], ℕ, zero, suc, ◌+◌, ◌*◌, ◌≤◌, ◌<◌, eqb, ℤ, pos, nat_abs, length, get_or, Option, Some, None}
+use Rattle.std.proofs.Math.Option as M
 use Rattle.groundwork.proofs.Bits.{bit}
 use Rattle.theory.specs.Lists.{any, is_empty}
 use Rattle.theory.specs.Text.{Bytes, is_name}
 use Rattle.theory.specs.Terms.{Term, Terms, variable, nil, cons, arity}
 use Rattle.theory.specs.Sizes.{Measure}
 use Rattle.theory.specs.Forms.{zero_form}
-use Rattle.theory.specs.Packs.{Kind, given, ruled, Predicate, Claim, Atom, Rule, Pack, measure_in, Key, same_key, key_of, atom_key, claims_on, claims_on_all, no_claim}
+use Rattle.theory.specs.Packs.{Kind as PredicateKind, given, ruled, Predicate, Claim, Atom, Rule, Pack, measure_in, Key, same_key, key_of, atom_key, claims_on, claims_on_all, no_claim}
 use Rattle.theory.specs.Written.{Written}
 use Rattle.theory.specs.Residuals.{claim_form, subgoal_forms, rule_variables}
 use Rattle.theory.specs.Faults.{last_rule, owes_rule, heads_rule}
 use Rattle.theory.specs.Check.{multiplier_lines}
 use Rattle.words.specs.declared.Words.{Words}
-use Rattle.words.specs.Words.{words_of, words_at}
+use Rattle.words.specs.Words.{words_of}
 use Rattle.terms.specs.Rows.{Holds as HoldsVariables}
 use Rattle.terms.specs.TermForms.{RowStands}
+use Rattle.tables.specs.declared.Kind.{Kind}
+use Rattle.tables.specs.declared.Kind.TheVariants.{Ruled, Given}
+use Rattle.tables.specs.declared.Signature.{Signature}
 use Rattle.tables.specs.declared.State.{State}
 
 -- what the arrays hold
 pub record Tables : Type 0 where
-  pub names : List ℕ
-  pub signatures : List ℕ
+  pub signatures : List Signature
   pub claims : List ℤ
   pub variables : List ℕ
   pub rows : List ℕ
   pub slots : List ℕ
 
-abbrev pub tables : List ℕ → List ℕ → List ℤ → List ℕ → List ℕ → List ℕ → Tables
-tables n f c v r s = record { names = n; signatures = f; claims = c; variables = v; rows = r; slots = s }
+abbrev pub tables : List Signature → List ℤ → List ℕ → List ℕ → List ℕ → Tables
+tables f c v r s = record { signatures = f; claims = c; variables = v; rows = r; slots = s }
 
 -- where the numbers of a claim on a predicate begin, and where the row of an atom's argument does
 abbrev pub claim_place : ℕ → ℕ → ℕ
@@ -37,12 +40,45 @@ abbrev pub row_place : ℕ → ℕ → ℕ
 row_place atom argument = (atom * 8 + argument) * 17
 
 pub record Sizes (t : Tables) : Type 0 where
-  pub names : length t.names ≡ 64
-  pub signatures : length t.signatures ≡ 96
+  pub signatures : length t.signatures ≡ 32
   pub claims : length t.claims ≡ 4608
   pub variables : length t.variables ≡ 64
   pub rows : length t.rows ≡ 1224
   pub slots : length t.slots ≡ 256
+
+-- ## The table of predicates
+
+-- what stands where no predicate is declared yet
+abbrev pub no_signature : Signature
+no_signature = record { words = record { first = 0; second = 0 }; kind = Ruled; arity = 0; claims = 0 }
+
+-- what stands at a place, from 0
+abbrev pub signature_at : List Signature → ℕ → Signature
+signature_at signatures i = get_or signatures i no_signature
+
+-- what a predicate is looked up by: the words of its name, and its arity
+pub record Heading : Type 0 where
+  pub words : Words
+  pub arity : ℕ
+
+abbrev pub heading : Words → ℕ → Heading
+heading words n = record { words = words; arity = n }
+
+abbrev pub heading_of : Signature → Heading
+heading_of s = heading s.words s.arity
+
+abbrev pub heading_at : List Signature → ℕ → Heading
+heading_at signatures i = heading_of (signature_at signatures i)
+
+-- of what stands at places: r is a place of x among the first `known`, or none where it stands at none of those
+abbrev pub FoundAt : {A : Type 0} → (ℕ → A) → ℕ → A → Option ℕ → Type 0
+FoundAt at known x (Some r) = (r < known) × (at r ≡ x)
+FoundAt at known x None = (i : ℕ) → i < known → at i ≡ x → ⊥
+
+-- the same for the predicate of a name and an arity that a line gives, if it gives one
+abbrev pub FoundFor : List Signature → ℕ → Words → M.Option ℕ → Option ℕ → Type 0
+FoundFor signatures known words M.none r = r ≡ None
+FoundFor signatures known words (M.some n) r = FoundAt (heading_at signatures) known (heading words n) r
 
 -- ## Ranges, whatever the lines write: what the code needs to be safe
 
@@ -56,9 +92,9 @@ pub record SafeState (s : State) : Type 0 where
   pub multipliers : s.multipliers ≤ 16
   pub lines : s.multiplier_lines ≤ 16 * s.rules + s.multipliers
 
-pub record SafeSignatures (signatures : List ℕ) : Type 0 where
-  pub arity : (i : ℕ) → i < 32 → get_or signatures i 0 ≤ 8
-  pub count : (i : ℕ) → i < 32 → get_or signatures (64 + i) 0 ≤ 16
+pub record SafeSignatures (signatures : List Signature) : Type 0 where
+  pub arity : (i : ℕ) → i < 32 → (signature_at signatures i).arity ≤ 8
+  pub count : (i : ℕ) → i < 32 → (signature_at signatures i).claims ≤ 16
 
 pub record SafeClaims (claims : List ℤ) : Type 0 where
   pub small : (i : ℕ) → nat_abs (get_or claims i (pos 0)) ≤ 9999
@@ -85,31 +121,16 @@ no_predicate = record { name = []; arguments = 0; kind = ruled }
 abbrev pub predicate_at : List Predicate → ℕ → Predicate
 predicate_at ps i = get_or ps i no_predicate
 
-abbrev pub flag : Kind → ℕ
-flag given = 1
-flag ruled = 0
+abbrev pub kind_of : PredicateKind → Kind
+kind_of given = Given
+kind_of ruled = Ruled
 
--- a name's words with an arity, and those of the predicate at a place
-pub record Signature : Type 0 where
-  pub words : Words
-  pub arity : ℕ
-
-abbrev pub signature : Words → ℕ → Signature
-signature words n = record { words = words; arity = n }
-
-abbrev pub signature_at : List ℕ → List ℕ → ℕ → Signature
-signature_at names signatures i = signature (words_at names i) (get_or signatures i 0)
-
--- an arity that no predicate has
-abbrev pub no_arity : ℕ
-no_arity = 9
-
-pub record Declares (names signatures : List ℕ) (known : ℕ) (ps : List Predicate) : Type 0 where
+pub record Declares (signatures : List Signature) (known : ℕ) (ps : List Predicate) : Type 0 where
   pub count : length ps ≡ known
-  pub words : (i : ℕ) → i < known → words_at names i ≡ words_of (predicate_at ps i).name
+  pub words : (i : ℕ) → i < known → (signature_at signatures i).words ≡ words_of (predicate_at ps i).name
   pub named : (i : ℕ) → i < known → is_name (predicate_at ps i).name ≡ true
-  pub arity : (i : ℕ) → i < known → get_or signatures i 0 ≡ (predicate_at ps i).arguments
-  pub kind : (i : ℕ) → i < known → get_or signatures (32 + i) 0 ≡ flag (predicate_at ps i).kind
+  pub arity : (i : ℕ) → i < known → (signature_at signatures i).arity ≡ (predicate_at ps i).arguments
+  pub kind : (i : ℕ) → i < known → (signature_at signatures i).kind ≡ kind_of (predicate_at ps i).kind
   pub distinct : (i j : ℕ) → i < known → j < known → key_of (predicate_at ps i) ≡ key_of (predicate_at ps j) → i ≡ j
 
 -- ## Sets of predicates
@@ -130,9 +151,9 @@ pub record ClaimAt (claims : List ℤ) (place : ℕ) (c : Claim) : Type 0 where
   pub constant : get_or claims place (pos 0) ≡ c.constant
   pub coefficient : (k : ℕ) → k < 8 → get_or claims (place + 1 + k) (pos 0) ≡ get_or c.coefficients k (pos 0)
 
-pub record HoldsClaims (signatures : List ℕ) (claims : List ℤ) (ps : List Predicate) (cs : List Claim) : Type 0 where
-  pub count : (i : ℕ) → i < length ps → get_or signatures (64 + i) 0 ≡ length (claims_on (key_of (predicate_at ps i)) cs)
-  pub none : (i : ℕ) → length ps ≤ i → i < 32 → get_or signatures (64 + i) 0 ≡ 0
+pub record HoldsClaims (signatures : List Signature) (claims : List ℤ) (ps : List Predicate) (cs : List Claim) : Type 0 where
+  pub count : (i : ℕ) → i < length ps → (signature_at signatures i).claims ≡ length (claims_on (key_of (predicate_at ps i)) cs)
+  pub none : (i : ℕ) → length ps ≤ i → i < 32 → (signature_at signatures i).claims ≡ 0
   pub at : (i j : ℕ) → i < length ps → j < length (claims_on (key_of (predicate_at ps i)) cs) → ClaimAt claims (claim_place i j) (get_or (claims_on (key_of (predicate_at ps i)) cs) j no_claim)
 
 -- ## Facts that come with the pack
@@ -184,7 +205,7 @@ pub record RuleStands (t : Tables) (s : State) (p : Pack) (r : Rule) : Type 0 wh
 
 -- the tables and the state stand for what the lines write
 pub record Holds (t : Tables) (s : State) (w : Written) : Type 0 where
-  pub declares : Declares t.names t.signatures s.predicates w.pack.predicates
+  pub declares : Declares t.signatures s.predicates w.pack.predicates
   pub claims : HoldsClaims t.signatures t.claims w.pack.predicates w.pack.claims
   pub claimed : s.claimed ≡ not (is_empty w.pack.claims)
   pub shipped : Ships s.shipped w.pack.predicates w.pack.facts
@@ -196,9 +217,9 @@ pub record Holds (t : Tables) (s : State) (w : Written) : Type 0 where
   pub ended : s.ended ≡ w.ended
 
 -- what the tests before a line's fields go by
-pub record Outline (names signatures : List ℕ) (s : State) (w : Written) : Type 0 where
-  pub declares : Declares names signatures s.predicates w.pack.predicates
-  pub counts : (i : ℕ) → i < length w.pack.predicates → get_or signatures (64 + i) 0 ≡ length (claims_on (key_of (predicate_at w.pack.predicates i)) w.pack.claims)
+pub record Outline (signatures : List Signature) (s : State) (w : Written) : Type 0 where
+  pub declares : Declares signatures s.predicates w.pack.predicates
+  pub counts : (i : ℕ) → i < length w.pack.predicates → (signature_at signatures i).claims ≡ length (claims_on (key_of (predicate_at w.pack.predicates i)) w.pack.claims)
   pub claimed : s.claimed ≡ not (is_empty w.pack.claims)
   pub shipped : eqb s.shipped 0 ≡ is_empty w.pack.facts
   pub rules : s.rules ≡ length w.pack.rules

@@ -6,20 +6,44 @@
 
 ghost use Rattle.std.specs.Prelude.{◌≡◌, ◌≤◌, ◌<◌, ◌^◌, eqb, pos, replicate};
 ghost use Rattle.std.specs.Int.Bits.{bit_or};
-ghost use Rattle.tables.specs.Tables.{claim_place, row_place};
+ghost use Rattle.tables.specs.Tables.{no_signature, claim_place, row_place};
 
 use theory::Letter;
 use words::Words;
 
 mod keys;
 
-pub use keys::{NO_ARITY, arity_by, place, place_by};
+pub use keys::{place, place_by};
 
-/// The predicates' names, two words each.
-pub type Names = words::WordTable;
+/// Whether a predicate has rules in the pack, or is given: its facts come from outside.
+#[derive(Clone, Copy, PartialEq, Eq)]
+pub enum Kind {
+    Ruled,
+    Given,
+}
 
-/// Of the predicate at place i: its arity at i, 1 at 32 + i if it is given, the number of its claims at 64 + i.
-pub type Signatures = [u8; 96];
+/// A declared predicate: the words of its name, its arity, its kind, and the number of claims on it.
+#[derive(Clone, Copy)]
+pub struct Signature {
+    pub words: Words,
+    pub kind: Kind,
+    pub arity: u8,
+    pub claims: u8,
+}
+
+/// What stands in the table where no predicate is declared yet.
+pub const NO_SIGNATURE: Signature = Signature {
+    words: Words {
+        first: 0,
+        second: 0,
+    },
+    kind: Kind::Ruled,
+    arity: 0,
+    claims: 0,
+};
+
+/// The predicates, in the order of their `P` lines.
+pub type Signatures = [Signature; 32];
 
 /// Claim j on the predicate at place i: nine numbers from `claim_place(i, j)` on, zeros after the last.
 pub type Claims = [i16; 4608];
@@ -43,44 +67,20 @@ pub type Hints = words::Hints;
 /// What stands for an unknown size among those that a query gives: one more than the largest.
 pub const UNKNOWN_SIZE: u32 = 65536;
 
-/// The table of names before any line: zeros, as in the next two.
-pub fn no_names() -> Names
-    ensures { result ≡ replicate 64 0 }
-{
-    [0u64; 64]
-}
-
-/// The table of signatures before any line.
-pub fn no_signatures() -> Signatures
-    ensures { result ≡ replicate 96 0 }
-{
-    [0u8; 96]
-}
-
-/// The table of claims before any line.
-pub fn no_claims() -> Claims
-    ensures { result ≡ replicate 4608 (pos 0) }
-{
-    [0i16; 4608]
-}
-
 /// The tables that outlive the lines of a pack: what queries and the sheet ask after its last line.
 pub struct Tables {
-    pub names: Names,
     pub signatures: Signatures,
     pub claims: Claims,
 }
 
 impl Tables {
-    /// The tables before any line: zeros.
+    /// The tables before any line.
     pub fn empty() -> Tables
-        ensures names { result.names ≡ replicate 64 0 }
-        ensures signatures { result.signatures ≡ replicate 96 0 }
+        ensures signatures { result.signatures ≡ replicate 32 no_signature }
         ensures claims { result.claims ≡ replicate 4608 (pos 0) }
     {
         Tables {
-            names: [0u64; 64],
-            signatures: [0u8; 96],
+            signatures: [NO_SIGNATURE; 32],
             claims: [0i16; 4608],
         }
     }
@@ -175,12 +175,10 @@ pub enum Fault {
 #[derive(Clone, Copy)]
 pub struct Opened {
     pub letter: Letter,
-    /// Of a line that declares a predicate: its arity, and its mark, 1 if it is given. Of another both are 0.
-    pub arity: u8,
-    pub mark: u8,
+    /// The place of the predicate that the line names or declares, among the declared ones.
     pub predicate: usize,
-    /// The words of the name in its second field.
-    pub words: Words,
+    /// Of a line that declares a predicate, what it declares; of another `NO_SIGNATURE`.
+    pub signature: Signature,
     /// Where the fields that are still to be read begin.
     pub from: usize,
 }
