@@ -6,6 +6,8 @@ use Rattle.clause_theory.specs.ClauseTokens as T
 use Rattle.clause_theory.specs.Import.{is_lone}
 use Rattle.clause_theory.specs.Imported.{marks}
 use Rattle.text.specs.Scans.{part}
+use denote.Enum.Bare.{sameb}
+use Rattle.clause_tokens.specs.contracts.Mark.{the_type}
 use Rattle.clause_tokens.specs.declared.Mark.{Mark}
 use Rattle.clause_tokens.specs.declared.Mark.TheVariants.{Name, Variable, Lone, Opens, Closes, Comma, Neck, Stop, Stray, Nothing}
 use Rattle.clause_tokens.specs.declared.Token.{Token as Found}
@@ -58,14 +60,6 @@ pub data NextToken (text : Bytes) (from : ℕ) (r : Found) : Type 0 where
   one_found : (m : T.Mark) → Seen (part text r.start r.end) r.mark m → from ≤ r.start → r.start < r.end → r.end ≤ length text
       → tokens_at text from ≡ token m r.start ∷ tokens_at text r.end → NextToken text from r
 
-unfoldable pub is_stop_mark : Mark → Bool
-is_stop_mark Name = false
-is_stop_mark Variable = false
-is_stop_mark Lone = false
-is_stop_mark Opens = false
-is_stop_mark Closes = false
-is_stop_mark Comma = false
-is_stop_mark Neck = false
-is_stop_mark Stop = true
-is_stop_mark Stray = false
-is_stop_mark Nothing = false
+-- whether a token ends a clause
+abbrev pub is_stop_mark : Mark → Bool
+is_stop_mark k = sameb the_type k Stop

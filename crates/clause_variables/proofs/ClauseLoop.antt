@@ -1,11 +1,12 @@
 -- The loop of `variables_of`: of each clause that stands from a place on, some marks are passed and some are left.
 use mathlib.Core.Path.{◌≡◌, refl, sym, ◌∙◌, ap, subst}
-use mathlib.Core.Bool.{Bool, true, false, not}
+use mathlib.Core.Bool.{Bool, true, false}
 use mathlib.Core.List.{List, [], ◌∷◌, ◌++◌, append_assoc, head-eq_of_cons-eq, tail-eq_of_cons-eq}
-use Prim.Native.Nat.{ℕ, ◌+◌, ◌-◌, ◌≤◌, ◌<◌}
+use Prim.Native.Nat.{ℕ, ◌-◌, ◌≤◌, ◌<◌}
 use native.Mathlib.Omega.{arith}
 use lib.ListN.{length}
-use Rattle.groundwork.proofs.Truth.{never_both, not-true, not-false}
+use Rattle.std.specs.Prelude.{Option, Some, None}
+use Rattle.groundwork.proofs.Truth.{never_both}
 use Rattle.theory.specs.Text.{Bytes}
 use Rattle.theory.specs.Residuals.{numbered}
 use Rattle.clause_theory.specs.ClauseTokens.{name, variable, opens, closes, comma, neck, stop, stray}
@@ -60,8 +61,15 @@ next_mark {m = m} passed after (runs_on {s = s} {m = k} {ms = ms} e runs) whole 
 
 -- ---- the loop
 
+-- what an answer says
+of_some : {v : Variables} {xs : List Bytes} → Known v xs (Some tt) → Gathered v xs
+of_some (all_known known) = known
+
+of_none : {v : Variables} {xs : List Bytes} → Known v xs None → TooMany xs
+of_none (over past) = past
+
 -- of a clause: these marks are passed and their variables gathered, and the others come from this place on
-pub record Rest (text : Bytes) (names : List ℕ) (known alone at : ℕ) (c : Clause) : Type 0 where
+pub record Rest (text : Bytes) (v : Variables) (at : ℕ) (c : Clause) : Type 0 where
   pub passed : List T.Mark
   pub left : List T.Mark
   pub after : List T.Mark
@@ -69,43 +77,38 @@ pub record Rest (text : Bytes) (names : List ℕ) (known alone at : ℕ) (c : Cl
   pub runs : Runs state left c
   pub whole : clause_marks c ≡ passed ++ left
   pub there : marks_at text at ≡ left ++ after
-  pub gathered : Gathered names known alone (mark_variables passed)
+  pub gathered : Gathered v (mark_variables passed)
 
 module _ (text : Bytes) (from : ℕ) where
-  pub record Gathering (names : List ℕ) (known alone at : ℕ) : Type 0 where
-    pub size : length names ≡ 64
-    pub few : known + alone ≤ 16
+  pub record Gathering (v : Variables) (at : ℕ) : Type 0 where
     pub high : at ≤ length text
-    pub rest : (c : Clause) → ClauseAt text from c → Rest text names known alone at c
+    pub rest : (c : Clause) → ClauseAt text from c → Rest text v at c
 
-  nothing_gathered : {names : List ℕ} → length names ≡ 64 → Gathered names 0 0 (mark_variables [])
-  unfolding mark_variables named numbered lones
-  nothing_gathered size =
-      record {
-        holds = record { size = size; few = omega arith; words = λ i h. absurd (omega arith); proper = λ i h. absurd (omega arith); once = once_none };
-        named_is = refl;
-        lones_is = refl;
-        few = omega arith;
-      }
+  module _ {v : Variables} (size : length v.names ≡ 64) (no_names : v.named ≡ 0) (no_lones : v.lones ≡ 0) where
+    nothing_gathered : Gathered v (mark_variables [])
+    unfolding mark_variables named numbered lones
+    nothing_gathered =
+        record {
+          holds = record { size = size; few = omega arith; words = λ i h. absurd (omega arith); proper = λ i h. absurd (omega arith); once = once_none };
+          named_is = no_names;
+          lones_is = no_lones;
+        }
 
-  pub gathering_none : {names : List ℕ} → from ≤ length text → length names ≡ 64 → Gathering names 0 0 from
-  gathering_none high size =
-      record {
-        size = size;
-        few = omega arith;
-        high = high;
-        rest = λ c at.
-            record { passed = []; left = clause_marks c; after = at.after; state = begin; runs = runs_complete c; whole = refl; there = at.marks; gathered = nothing_gathered size };
-      }
+    pub gathering_none : from ≤ length text → Gathering v from
+    gathering_none high =
+        record {
+          high = high;
+          rest = λ c at.
+              record { passed = []; left = clause_marks c; after = at.after; state = begin; runs = runs_complete c; whole = refl; there = at.marks; gathered = nothing_gathered };
+        }
 
-  module _ {names : List ℕ} {known alone at : ℕ} (g : Gathering names known alone at) where
+  module _ {v : Variables} {at : ℕ} (g : Gathering v at) where
     -- nothing comes, so no clause stands there
     no_clause : tokens_at text at ≡ [] → (c : Clause) → ClauseAt text from c → ⊥
     no_clause none c stands = let r = g.rest c stands in some_left r.after r.runs (sym (ap marks none) ∙ r.there)
 
-    pub gathering_all : {r : Variables} → length text ≤ at → r.fine ≡ false → VariablesFound text from r names
-    gathering_all {r} end not_fine =
-        record { size = g.size; few = λ fine. never_both fine not_fine; found = λ c stands. absurd (no_clause (none_at_end text false at at end) c stands) }
+    pub gathering_all : {r : Option (Unit {0})} → length text ≤ at → VariablesFound text from r v
+    gathering_all end = record { found = λ c stands. absurd (no_clause (none_at_end text false at at end) c stands) }
 
     module _ {t : Found} (next : NextToken text at t) where
       pub token_ordered : t.start ≤ t.end
@@ -129,23 +132,23 @@ module _ (text : Bytes) (from : ℕ) where
           at_next (none_left mark start end none) = omega arith
           at_next (one_found m seen low some high tokens) = omega arith
 
-      module _ (r : Variables) (names₁ : List ℕ) (gathers : Gathers text t.mark t.start t.end names known alone r names₁) where
+      module _ {r : Option (Unit {0})} {w : Variables} (gathers : Gathers text t v r w) where
         -- what is known of a clause's variables after this token
         data Stepped (c : Clause) : Type 0 where
-          clause_ends : is_stop_mark t.mark ≡ true → Known r names₁ (clause_variables c) → Stepped c
+          clause_ends : is_stop_mark t.mark ≡ true → Known w (clause_variables c) r → Stepped c
           clause_goes : {s : State} (passed left after : List T.Mark) → is_stop_mark t.mark ≡ false → Runs s left c → clause_marks c ≡ passed ++ left → marks_at text t.end ≡ left ++ after
-              → Known r names₁ (mark_variables passed) → Stepped c
+              → Known w (mark_variables passed) r → Stepped c
 
         stepped : (c : Clause) → ClauseAt text from c → Stepped c
         stepped c stands = at_next next
           where
-            known_more : (m : T.Mark) → Seen (part text t.start t.end) t.mark m → Known r names₁ (mark_variables ((g.rest c stands).passed ++ (m ∷ [])))
+            known_more : (m : T.Mark) → Seen (part text t.start t.end) t.mark m → Known w (mark_variables ((g.rest c stands).passed ++ (m ∷ []))) r
             known_more m seen =
                 let rest = g.rest c stands in
-                subst (Known r names₁) (sym (marks_append rest.passed (m ∷ []))) (gathers.gathers (mark_variables rest.passed) m rest.gathered seen)
+                subst (λ (xs : List Bytes). Known w xs r) (sym (marks_append rest.passed (m ∷ []))) (gathers.gathers (mark_variables rest.passed) m rest.gathered seen)
 
             at_mark : (m : T.Mark) → Seen (part text t.start t.end) t.mark m → NextMark (g.rest c stands).passed m (marks_at text t.end) c → Stepped c
-            at_mark m seen (last_mark is whole) = clause_ends (stop_seen seen ∙ is) (subst (Known r names₁) (ap mark_variables (sym whole) ∙ clause_variables_lem c) (known_more m seen))
+            at_mark m seen (last_mark is whole) = clause_ends (stop_seen seen ∙ is) (subst (λ (xs : List Bytes). Known w xs r) (ap mark_variables (sym whole) ∙ clause_variables_lem c) (known_more m seen))
             at_mark m seen (more_marks {left = left} after is runs whole coming) =
                 let rest = g.rest c stands in
                 clause_goes (rest.passed ++ (m ∷ [])) left after (stop_seen seen ∙ is) runs (whole ∙ sym (append_assoc rest.passed (m ∷ []) left)) coming (known_more m seen)
@@ -156,40 +159,29 @@ module _ (text : Bytes) (from : ℕ) where
                 let rest = g.rest c stands in
                 at_mark m seen (next_mark rest.passed rest.after rest.runs rest.whole (sym (ap marks tokens) ∙ rest.there))
 
-        found_size : length names₁ ≡ 64
-        found_size = gathers.size ∙ g.size
-
-        pub gathering_over : not r.fine ≡ true → VariablesFound text from r names₁
-        gathering_over refused = record { size = found_size; few = gathers.few; found = λ c stands. at_step c (stepped c stands) }
+        pub gathering_over : {q : Option (Unit {0})} → q ≡ None → r ≡ None → VariablesFound text from q w
+        gathering_over none refused = subst (λ (o : Option (Unit {0})). VariablesFound text from o w) (sym none) (record { found = λ c stands. at_step c (stepped c stands) })
           where
-            not_fine : r.fine ≡ false
-            not_fine = not-true r.fine refused
+            too_many : {xs : List Bytes} → Known w xs r → TooMany xs
+            too_many {xs} known = of_none (subst (Known w xs) refused known)
 
-            too_many : {xs : List Bytes} → Known r names₁ xs → TooMany xs
-            too_many (all_known fine known) = never_both fine not_fine
-            too_many (over _ past) = past
-
-            at_step : (c : Clause) → Stepped c → Known r names₁ (clause_variables c)
-            at_step c (clause_ends is known) = known
+            at_step : (c : Clause) → Stepped c → Known w (clause_variables c) None
+            at_step c (clause_ends is known) = over (too_many known)
             at_step c (clause_goes passed left after is runs whole coming known) =
-                over not_fine (subst TooMany (sym (marks_append passed left) ∙ ap mark_variables (sym whole) ∙ clause_variables_lem c) (too_many_more (mark_variables left) (too_many known)))
+                over (subst TooMany (sym (marks_append passed left) ∙ ap mark_variables (sym whole) ∙ clause_variables_lem c) (too_many_more (mark_variables left) (too_many known)))
 
-        module _ (stops : Bool) (told : stops ≡ is_stop_mark t.mark) where
-          pub gathering_found : stops ≡ true → VariablesFound text from r names₁
-          gathering_found is = record { size = found_size; few = gathers.few; found = λ c stands. at_step c (stepped c stands) }
+        module _ (accepted : r ≡ Some tt) {stops : Bool} (told : stops ≡ is_stop_mark t.mark) where
+          pub gathering_found : stops ≡ true → VariablesFound text from (Some tt) w
+          gathering_found is = record { found = λ c stands. at_step c (stepped c stands) }
             where
-              at_step : (c : Clause) → Stepped c → Known r names₁ (clause_variables c)
-              at_step c (clause_ends is_end_lem known) = known
+              at_step : (c : Clause) → Stepped c → Known w (clause_variables c) (Some tt)
+              at_step c (clause_ends is_end_lem known) = subst (Known w (clause_variables c)) accepted known
               at_step c (clause_goes passed left after goes_on runs whole coming known) = never_both (sym told ∙ is) goes_on
 
-          pub gathering_more : stops ≡ false → not r.fine ≡ false → Gathering names₁ r.named r.lones t.end
-          gathering_more is accepted = record { size = found_size; few = gathers.few (not-false r.fine accepted); high = token_inside; rest = λ c stands. at_step c (stepped c stands) }
+          pub gathering_more : stops ≡ false → Gathering w t.end
+          gathering_more is = record { high = token_inside; rest = λ c stands. at_step c (stepped c stands) }
             where
-              all : {xs : List Bytes} → Known r names₁ xs → Gathered names₁ r.named r.lones xs
-              all (all_known fine known) = known
-              all (over not_fine past) = never_both (not-false r.fine accepted) not_fine
-
-              at_step : (c : Clause) → Stepped c → Rest text names₁ r.named r.lones t.end c
+              at_step : (c : Clause) → Stepped c → Rest text w t.end c
               at_step c (clause_ends is_end_lem known) = never_both is_end_lem (sym told ∙ is)
               at_step c (clause_goes {s = s} passed left after goes_on runs whole coming known) =
-                  record { passed = passed; left = left; after = after; state = s; runs = runs; whole = whole; there = coming; gathered = all known }
+                  record { passed = passed; left = left; after = after; state = s; runs = runs; whole = whole; there = coming; gathered = of_some (subst (Known w (mark_variables passed)) accepted known) }

@@ -24,7 +24,7 @@ is_stop_token stop = true
 is_stop_token (stray s) = false
 
 pub stop_seen : {x : Bytes} {k : Mark} {m : T.Mark} → Seen x k m → is_stop_mark k ≡ is_stop_token m
-unfolding is_stop_mark is_stop_token
+unfolding is_stop_token
 stop_seen (seen_name w) = refl
 stop_seen (seen_variable w l) = refl
 stop_seen seen_lone = refl

@@ -1,5 +1,5 @@
 -- The variables of a clause as numbers: a table of the named ones, and how often `_` stands.
-use Rattle.std.specs.Prelude.{◌≡◌, true, false, List, [], ◌∷◌, ◌++◌, ℕ, ◌+◌, ◌≤◌, ◌<◌, length}
+use Rattle.std.specs.Prelude.{◌≡◌, false, leb, List, [], ◌∷◌, ◌++◌, ℕ, ◌+◌, ◌<◌, length, Option, Some, None}
 use Rattle.theory.specs.Lists.{◌∈◌}
 use Rattle.theory.specs.Text.{Bytes, bytes, is_variable}
 use Rattle.theory.specs.Packs.{variable_limit}
@@ -12,7 +12,7 @@ use Rattle.clause_theory.proofs.FilledVariables.{named}
 use Rattle.terms.specs.Rows.{Holds}
 use Rattle.text.specs.Scans.{part}
 use Rattle.clause_tokens.specs.NextTokens.{marks_at, Seen}
-use Rattle.clause_tokens.specs.declared.Mark.{Mark}
+use Rattle.clause_tokens.specs.declared.Token.{Token}
 use Rattle.clause_variables.specs.declared.Variables.{Variables}
 
 -- a clause stands at a place, whatever comes after it
@@ -20,12 +20,11 @@ pub record ClauseAt (text : Bytes) (from : ℕ) (c : Clause) : Type 0 where
   pub after : List T.Mark
   pub marks : marks_at text from ≡ clause_marks c ++ after
 
--- of these variables: the table holds the named ones, so many are named, and so often `_` stands among them
-pub record Gathered (names : List ℕ) (many alone : ℕ) (xs : List Bytes) : Type 0 where
-  pub holds : Holds names (numbered [] (named xs))
-  pub named_is : many ≡ length (numbered [] (named xs))
-  pub lones_is : alone ≡ lones xs
-  pub few : many + alone ≤ variable_limit
+-- v has these variables: the table holds the named ones, so many are named, and so often `_` stands among them
+pub record Gathered (v : Variables) (xs : List Bytes) : Type 0 where
+  pub holds : Holds v.names (numbered [] (named xs))
+  pub named_is : v.named ≡ length (numbered [] (named xs))
+  pub lones_is : v.lones ≡ lones xs
 
 -- they are too many, or one is too long
 pub data TooMany (xs : List Bytes) : Type 0 where
@@ -33,23 +32,22 @@ pub data TooMany (xs : List Bytes) : Type 0 where
   long : (x : Bytes) → x ∈ xs → is_lone x ≡ false → is_variable x ≡ false → TooMany xs
 
 -- what is known of some variables after a reader's answer
-pub data Known (r : Variables) (names : List ℕ) (xs : List Bytes) : Type 0 where
-  all_known : r.fine ≡ true → Gathered names r.named r.lones xs → Known r names xs
-  over : r.fine ≡ false → TooMany xs → Known r names xs
+pub data Known (v : Variables) (xs : List Bytes) : Option (Unit {0}) → Type 0 where
+  all_known : Gathered v xs → Known v xs (Some tt)
+  over : TooMany xs → Known v xs None
 
--- `_` once more among so many variables
-pub record LoneCounted (many alone : ℕ) (r : Variables) : Type 0 where
-  pub few : r.fine ≡ true → r.named + r.lones ≤ variable_limit
-  pub counts : (names : List ℕ) (xs : List Bytes) → Gathered names many alone xs → Known r names (xs ++ (bytes "_" ∷ []))
+-- a named variable more
+pub record Named (x : Bytes) (v₀ : Variables) (r : Option (Unit {0})) (v : Variables) : Type 0 where
+  pub names : (xs : List Bytes) → Gathered v₀ xs → is_variable x ≡ leb (length x) 16 → is_lone x ≡ false → Known v (xs ++ (x ∷ [])) r
+
+-- `_` once more
+pub record LoneCounted (v₀ : Variables) (r : Option (Unit {0})) (v : Variables) : Type 0 where
+  pub counts : (xs : List Bytes) → Gathered v₀ xs → Known v (xs ++ (bytes "_" ∷ [])) r
 
 -- one token more
-pub record Gathers (text : Bytes) (mark : Mark) (start end : ℕ) (names₀ : List ℕ) (many alone : ℕ) (r : Variables) (names : List ℕ) : Type 0 where
-  pub size : length names ≡ length names₀
-  pub few : r.fine ≡ true → r.named + r.lones ≤ variable_limit
-  pub gathers : (xs : List Bytes) (m : T.Mark) → Gathered names₀ many alone xs → Seen (part text start end) mark m → Known r names (xs ++ mark_variables (m ∷ []))
+pub record Gathers (text : Bytes) (t : Token) (v₀ : Variables) (r : Option (Unit {0})) (v : Variables) : Type 0 where
+  pub gathers : (xs : List Bytes) (m : T.Mark) → Gathered v₀ xs → Seen (part text t.start t.end) t.mark m → Known v (xs ++ mark_variables (m ∷ [])) r
 
 -- a whole clause
-pub record VariablesFound (text : Bytes) (from : ℕ) (r : Variables) (names : List ℕ) : Type 0 where
-  pub size : length names ≡ 64
-  pub few : r.fine ≡ true → r.named + r.lones ≤ variable_limit
-  pub found : (c : Clause) → ClauseAt text from c → Known r names (clause_variables c)
+pub record VariablesFound (text : Bytes) (from : ℕ) (r : Option (Unit {0})) (v : Variables) : Type 0 where
+  pub found : (c : Clause) → ClauseAt text from c → Known v (clause_variables c) r
