@@ -12,7 +12,7 @@ use mir.Syntax.{w64}
 use mir.Val.{SFits, to_z, of_z}
 use mir.Facts.{to_z-of_z}
 use Rattle.groundwork.proofs.Magnitude.{nat_abs_add, nat_abs_mul}
-use Rattle.widths.proofs.Kept.{small_fits}
+use Rattle.forms.proofs.Kept.{small_fits}
 use Rattle.forms.specs.declared.Form.{Form}
 use Rattle.forms.specs.Sums.{at, Within}
 

@@ -11,23 +11,22 @@ pub struct Reader<'a> {
     pub at: usize,
 }
 
-/// A reader at a place of a line.
-pub fn start_at<'a>(line: &'a [u8], at: usize) -> Reader<'a>
-    ensures { (result.line ≡ line.entry) × (result.at ≡ at) }
-{
-    Reader { line, at }
-}
+impl<'a> Reader<'a> {
+    /// A reader at a place of a line.
+    pub fn start_at(line: &'a [u8], at: usize) -> Reader<'a>
+        ensures { (result.line ≡ line.entry) × (result.at ≡ at) }
+    {
+        Reader { line, at }
+    }
 
-/// The reader moved forward to the end of the field at its place: to the next comma, or to the line's end. No function of
-/// this crate moves a reader back.
-pub fn to_field_end<'a>(r: Reader<'a>) -> Reader<'a>
-    requires { r.at ≤ length r.line.now }
-    ensures { (result.line ≡ r.entry.line) × (r.entry.at ≤ result.at) × Finds r.entry.line.now 44 r.entry.at result.at }
-{
-    let end = text::find_near(r.line, b',', r.at);
-    Reader {
-        line: r.line,
-        at: end,
+    /// The reader moved forward to the end of the field at its place: to the next comma, or to the line's end. No function
+    /// of this crate moves a reader back.
+    pub fn to_field_end(self) -> Reader<'a>
+        requires { self.at ≤ length self.line.now }
+        ensures { (result.line ≡ self.entry.line) × (self.entry.at ≤ result.at) × Finds self.entry.line.now 44 self.entry.at result.at }
+    {
+        let end = text::find(self.line, b',', self.at);
+        Reader { at: end, ..self }
     }
 }
 
@@ -36,5 +35,5 @@ pub fn field_end(line: &[u8], at: usize) -> usize
     requires { at ≤ length line.now }
     ensures { Finds line.now 44 at result }
 {
-    to_field_end(start_at(line, at)).at
+    Reader::start_at(line, at).to_field_end().at
 }

@@ -1,16 +1,17 @@
--- Bytes as one number: two, four and eight of them by halves. Each has eight bits, in every part.
+-- Bytes as one number: two, four and eight of them. Each has eight bits, in every part.
 use mathlib.Core.Path.{◌≡◌, refl, sym, ◌∙◌, ap}
 use mathlib.Core.List.{[], ◌∷◌}
 use Prim.Native.Nat.{ℕ, zero, suc, ◌+◌, ◌*◌, ◌^◌, ◌≤◌, ◌<◌}
-use native.Mathlib.Nat.{pow-succ'}
+use native.Mathlib.Nat.{mul_comm, pow-succ'}
 use native.Mathlib.Omega.{arith}
 use lib.ListN.{length, get_or}
 use lib.Pow.{pow-add}
 use mir.Syntax.{w8}
 use mir.Val.{Fits}
+use Rattle.std.specs.Int.{sum_through, byte_worth}
 use Rattle.theory.specs.Text.{Bytes}
 use Rattle.text.specs.Scans.{part}
-use Rattle.text.specs.ByteNumbers.{number, Numbered}
+use Rattle.text.specs.ByteNumbers.{number}
 use Rattle.text.proofs.Parts.{part_length, part_at}
 use Rattle.text.proofs.Halves.{value_join, value_one}
 
@@ -29,27 +30,19 @@ module _ (s : Bytes) where
   number_one : (i e : ℕ) → i + 1 ≡ e → e ≤ length s → number (part s i e) ≡ get_or s i 0
   number_one = value_one 256 (λ (b : ℕ). b) number number_none number_more s
 
-  -- ---- halves
-
+  -- what std's `from_le_bytes` gives: the bytes from a place on, each by its worth
   module _ (at : ℕ) where
-    pub two_numbered : at + 2 ≤ length s → (a b : ℕ) → (a ≡ get_or s at 0) × (a < 256) → (b ≡ get_or s (at + 1) 0) × (b < 256) → Numbered s at 2 65536 (a + 256 * b)
-    two_numbered l a b e f = record {
-      is = omega (arith, number_join at 1 (at + 1) (at + 2) refl (omega arith) l, number_one at (at + 1) refl (omega arith), number_one (at + 1) (at + 2) (omega arith) l);
-      small = omega arith;
-    }
+    abbrev pub byte_from : ℕ → ℕ
+    byte_from zero = get_or s at 0
+    byte_from (suc i) = get_or s (at + suc i) 0
 
-    pub four_numbered : at + 4 ≤ length s → (a b : ℕ) → Numbered s at 2 65536 a → Numbered s (at + 2) 2 65536 b → Numbered s at 4 4294967296 (a + 65536 * b)
-    four_numbered l a b e f =
-        let place : at + 2 + 2 ≡ at + 4 = omega arith in
-        record {
-          is = omega (arith, number_join at 2 (at + 2) (at + 4) refl (omega arith) l, e.is, rw place at f.is);
-          small = omega (arith, e.small, f.small);
-        }
-
-    pub eight_numbered : at + 8 ≤ length s → (a b : ℕ) → Numbered s at 4 4294967296 a → Numbered s (at + 4) 4 4294967296 b → a + 4294967296 * b ≡ number (part s at (at + 8))
-    eight_numbered l a b e f =
-        let place : at + 4 + 4 ≡ at + 8 = omega arith in
-        omega (arith, number_join at 4 (at + 4) (at + 8) refl (omega arith) l, e.is, rw place at f.is)
+    pub worths_lem : (k : ℕ) → at + suc k ≤ length s → sum_through (λ i. byte_worth i (byte_from i)) k ≡ number (part s at (at + suc k))
+    worths_lem zero l = sym (number_one at (at + 1) refl l)
+    worths_lem (suc k) l =
+        let b = get_or s (at + suc k) 0 in
+        let raised : 256 ^ suc k * number (part s (at + suc k) (at + suc (suc k))) ≡ b * 256 ^ suc k =
+        ap (λ (n : ℕ). 256 ^ suc k * n) (number_one (at + suc k) (at + suc (suc k)) (omega arith) l) ∙ mul_comm (256 ^ suc k) b in
+        omega (arith, worths_lem k (omega arith), number_join at (suc k) (at + suc k) (at + suc (suc k)) refl (omega arith) l, raised)
 
 -- ---- bytes and their bits
 

@@ -7,9 +7,7 @@ pub mod Classes
 pub mod Halves
 pub mod EightBytes
 -- What the functions' proofs cite.
-pub mod Blocks
-pub mod Marks
-pub mod CountLoops
-pub mod MarkCounts
+pub mod Finding
+pub mod Counting
 pub mod Fitness
 pub mod PlainBytes

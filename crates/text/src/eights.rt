@@ -8,7 +8,7 @@ pub fn two_bytes(bytes: &[u8], at: usize) -> u64
     requires { at + 2 ≤ length bytes.now }
     ensures { Numbered bytes.now at 2 65536 result }
 {
-    widths::u8_to_u64(bytes[at]) + 256 * widths::u8_to_u64(bytes[at + 1])
+    u16::from_le_bytes([bytes[at], bytes[at + 1]]) as u64
 }
 
 /// Four bytes as one number.
@@ -16,13 +16,22 @@ pub fn four_bytes(bytes: &[u8], at: usize) -> u64
     requires { at + 4 ≤ length bytes.now }
     ensures { Numbered bytes.now at 4 4294967296 result }
 {
-    two_bytes(bytes, at) + 65536 * two_bytes(bytes, at + 2)
+    u32::from_le_bytes([bytes[at], bytes[at + 1], bytes[at + 2], bytes[at + 3]]) as u64
 }
 
-/// Eight bytes as one number. Summed by halves, which makes one load of it.
+/// Eight bytes as one number: one load.
 pub fn eight_bytes(bytes: &[u8], at: usize) -> u64
     requires { at + 8 ≤ length bytes.now }
     ensures { result ≡ number (part bytes.now at (at + 8)) }
 {
-    four_bytes(bytes, at) + 4294967296 * four_bytes(bytes, at + 4)
+    u64::from_le_bytes([
+        bytes[at],
+        bytes[at + 1],
+        bytes[at + 2],
+        bytes[at + 3],
+        bytes[at + 4],
+        bytes[at + 5],
+        bytes[at + 6],
+        bytes[at + 7],
+    ])
 }

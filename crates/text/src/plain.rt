@@ -10,11 +10,8 @@ pub fn is_plain(text: &[u8]) -> bool
     ensures { result ≡ every is_plain text.now }
 {
     let mut odd = false;
-    let mut i: usize = 0;
-    while i < text.len() {
-        let b = text[i];
+    for &b in text {
         odd = odd | (((b < b' ') | (b'~' < b)) & (b != b'\n'));
-        i += 1;
     }
     !odd
 }

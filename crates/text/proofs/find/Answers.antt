@@ -1,17 +1,9 @@
--- `text::find` meets its contract: what was passed is free of the byte. Assumes nothing.
-use borrow.Author.Rules.{rules}
-use Rattle.text.proofs.Parts.{free_none, free_more}
-use Rattle.text.proofs.Blocks.{block_found, block_passed}
+-- `text::find` meets its contract: what `memchr` finds behind the place is the first place from it on.
+use Rattle.text.proofs.Finding.{found_ahead, none_ahead}
 use Rattle.text.proofs.find.Goals as goal
 
-pub loop-i-init : goal.loop-i-init
-loop-i-init c = search (rules, free_none)
+pub returns-in-Some : goal.returns-in-Some
+returns-in-Some c = found_ahead c.args.wanted c.args.bytes.now c.args.from c.requires c.in-Some.ahead c.in-Some.ensures
 
-pub returns-then-k-lt8 : goal.returns-then-k-lt8
-returns-then-k-lt8 c = search (rules, block_found)
-
-pub loop-i-preserved : goal.loop-i-preserved
-loop-i-preserved c = search (rules, block_passed)
-
-pub loop-i-2-preserved : goal.loop-i-2-preserved
-loop-i-2-preserved c = search (rules, free_more)
+pub returns-in-None : goal.returns-in-None
+returns-in-None c = none_ahead c.args.wanted c.args.bytes.now c.args.from c.requires c.in-None.ensures

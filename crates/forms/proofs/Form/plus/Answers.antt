@@ -1,15 +1,10 @@
 -- `Form::plus` meets its contract. The loop's invariant: each coefficient passed is the sum of the two.
 use native.Mathlib.Omega.{arith}
-use borrow.Author.Count.{below_none}
-use borrow.Author.Rules.{rules}
 use lib.IntN.{◌+ℤ◌}
 use lib.ListN.{length-set}
 use Rattle.forms.specs.Sums.{at}
 use Rattle.forms.proofs.Results.{constants_add, coefficients_add, rule_more}
 use Rattle.forms.proofs.Form.plus.Goals as goal
-
-pub loop-i-init : goal.loop-i-init
-loop-i-init c = (search rules, search rules, search rules, search rules, below_none _)
 
 pub overflow_add-sums : goal.overflow_add-sums
 overflow_add-sums c = (coefficients_add c.requires c.loop-i.i (omega arith)).fits
@@ -19,13 +14,8 @@ loop-i-preserved c =
     let f = c.args.self in
     let g = c.args.other in
     let i = c.loop-i.i in
-    let next = coefficients_add c.requires i (omega arith) in (
-      search rules,
-      simp length-set (search rules),
-      search rules,
-      search rules,
-      rule_more (λ j. at f j +ℤ at g j) c.loop-i.sums i _ (omega arith) c.loop-i.invariant.4 next.result,
-    )
+    let next = coefficients_add c.requires i (omega arith) in
+    (simp length-set c.loop-i.invariant.0, rule_more (λ j. at f j +ℤ at g j) c.loop-i.sums i _ (omega arith) c.loop-i.invariant.1 next.result)
 
 pub overflow_add-result : goal.overflow_add-result
 overflow_add-result c = (constants_add c.requires).fits
@@ -33,4 +23,4 @@ overflow_add-result c = (constants_add c.requires).fits
 pub returns : goal.returns
 returns c =
     let constant = constants_add c.requires in
-    record { constant = constant.result; coefficient = λ i less. c.loop-i.invariant.4 i (omega arith) }
+    record { constant = constant.result; coefficient = λ i less. c.loop-i.invariant.1 i (omega arith) }

@@ -1,11 +1,6 @@
-use Prim.Native.Nat.{◌-◌}
-use lib.ListN.{length}
-use Rattle.text.proofs.CountLoops.{Counted}
+use Rattle.std.proofs.Common.{◌≡◌, ◌==◌, count_by, take}
 use Rattle.text.proofs.counts.count_few.Given as goal
 
--- `text::counts::count_few` meets its contract: what was found before the place, with the parts from it on, makes the parts. Assumes nothing.
-abbrev pub invariant-loop-i : goal.invariant-loop-i
-invariant-loop-i l = Counted l.wanted l.bytes l.n l.i
-
-abbrev pub decreases-loop-i : goal.decreases-loop-i
-decreases-loop-i l = length l.bytes - l.i
+-- what was counted is how often the byte stands before the place
+abbrev pub invariant-loop-b : goal.invariant-loop-b
+invariant-loop-b l = l.n ≡ count_by (λ b. b == l.wanted) (take l.b-index l.bytes)

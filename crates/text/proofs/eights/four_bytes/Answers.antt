@@ -1,8 +1,8 @@
--- `text::eights::four_bytes` meets its contract. Assumes nothing.
-use borrow.Author.Rules.{rules}
-use Rattle.text.proofs.EightBytes.{four_numbered}
+-- `text::eights::four_bytes` meets its contract: std's number of these bytes is that of the part.
+use mathlib.Core.Path.{◌∙◌}
+use native.Mathlib.Omega.{arith}
+use Rattle.text.proofs.EightBytes.{worths_lem}
 use Rattle.text.proofs.eights.four_bytes.Goals as goal
 
--- `text::eights::four_bytes` meets its contract. Assumes nothing.
 pub returns : goal.returns
-returns c = search (rules, four_numbered)
+returns c = record { is = c.from_le_bytes.ensures ∙ worths_lem c.args.bytes.now c.args.at 3 c.requires; small = omega arith }
