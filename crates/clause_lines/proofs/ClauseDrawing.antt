@@ -28,6 +28,7 @@ use Rattle.clause_tokens.specs.NextTokens.{tokens_at, marks_at, is_stop_mark, Si
 use Rattle.clause_tokens.specs.declared.Mark.{Mark}
 use Rattle.clause_tokens.specs.declared.Mark.TheVariants.{Name, Variable, Lone}
 use Rattle.clause_tokens.specs.declared.Token.{Token as Found}
+use Rattle.clause_variables.specs.declared.Variables.{Variables}
 use Rattle.clause_variables.specs.FreshNumbers.{Tabled, NextFree}
 use Rattle.clause_variables.specs.Variables.{Gathered}
 use Rattle.clause_variables.proofs.Gathering.{gathered_few, gathered_tabled}
@@ -95,23 +96,23 @@ name_not_lone e = let z : ◌≡◌ {A = ℕ} 0 1 = cc in omega arith
 variable_not_lone : Variable ≡ Lone → ⊥
 variable_not_lone e = let z : ◌≡◌ {A = ℕ} 0 1 = cc in omega arith
 
-module _ {names : List ℕ} {known alone number r : ℕ} (c : Clause) (others : List T.Mark) (i : ℕ) (gathered : Gathered names known alone (clause_variables c)) (fresh : FreshAt c i number) where
+module _ {v : Variables} {number r : ℕ} (c : Clause) (others : List T.Mark) (i : ℕ) (gathered : Gathered v (clause_variables c)) (fresh : FreshAt c i number) where
   -- another token than `_`: nothing is numbered
-  same_number : {mark : Mark} → NumberAfter mark names known number r → (mark ≡ Lone → ⊥) → FreshAt c i r
+  same_number : {mark : Mark} → NumberAfter mark v number r → (mark ≡ Lone → ⊥) → FreshAt c i r
   same_number after other = subst (FreshAt c i) (sym (after.other other)) fresh
 
   -- a lone `_`: the next number that is free
-  next_number : NextFree names known (number + 1) r → i < lones (clause_variables c) → (nth (fresh_of c) i ≡ numbered_variable r) × FreshAt c (suc i) r
+  next_number : NextFree v (number + 1) r → i < lones (clause_variables c) → (nth (fresh_of c) i ≡ numbered_variable r) × FreshAt c (suc i) r
   next_number free more = let next = next_is_fresh c gathered free in fresh_next fresh more r next.0 next.1 next.2
 
   -- a token that is the same in the filled clause
   as_written : {x : Bytes} {mark : Mark} {m : T.Mark} → Shows x r mark m → is_stop_mark mark ≡ is_stop_token m → (mark ≡ Lone → ⊥) → filled_marks (fresh_of c) i (m ∷ others) ≡ m ∷ filled_marks (fresh_of c) i others
-      → lones (mark_variables (m ∷ others)) ≡ lones (mark_variables others) → NumberAfter mark names known number r → i + lones (mark_variables (m ∷ others)) ≡ lones (clause_variables c) → Filled c x mark m others i r
+      → lones (mark_variables (m ∷ others)) ≡ lones (mark_variables others) → NumberAfter mark v number r → i + lones (mark_variables (m ∷ others)) ≡ lones (clause_variables c) → Filled c x mark m others i r
   as_written {m = m} shows stops other is plain after counts =
       record { token = m; passed = i; shows = shows; stops = stops; is = is; counts = ap (λ (k : ℕ). i + k) (sym plain) ∙ counts; fresh = same_number after other }
 
-  filled_token : {x : Bytes} {mark : Mark} {m : T.Mark} → Seen x mark m → NumberAfter mark names known number r → i + lones (mark_variables (m ∷ others)) ≡ lones (clause_variables c) → Filled c x mark m others i r
-  unfolding filled_marks mark_variables lones is_stop_mark is_stop_token bytes same
+  filled_token : {x : Bytes} {mark : Mark} {m : T.Mark} → Seen x mark m → NumberAfter mark v number r → i + lones (mark_variables (m ∷ others)) ≡ lones (clause_variables c) → Filled c x mark m others i r
+  unfolding filled_marks mark_variables lones is_stop_token bytes same
   filled_token {x} (seen_name told) after counts = as_written (shows_name told) refl name_not_lone refl refl after counts
   filled_token {x} (seen_variable told written) after counts = as_written (shows_variable told) refl variable_not_lone (rw written refl) (rw written refl) after counts
   filled_token seen_lone after counts =
@@ -119,9 +120,9 @@ module _ {names : List ℕ} {known alone number r : ℕ} (c : Clause) (others : 
       record {
         token = variable (numbered_variable r);
         passed = suc i;
-        shows = shows_lone (omega (arith, fresh_low next.1, gathered.named_is, gathered.lones_is, gathered.few));
+        shows = shows_lone (omega (arith, fresh_low next.1, gathered.named_is, gathered.lones_is, v.few));
         stops = refl;
-        is = ap (λ (v : Bytes). variable v ∷ filled_marks (fresh_of c) (suc i) others) next.0;
+        is = ap (λ (y : Bytes). variable y ∷ filled_marks (fresh_of c) (suc i) others) next.0;
         counts = omega arith;
         fresh = next.1;
       }
@@ -161,15 +162,15 @@ nothing_drawn page digits =
       fits = record { atoms = λ a m. absurd (Memᴰ.not-nil m); lines = λ l m. absurd (Memᴰ.not-nil m); count = omega arith; opens_fit = tt; last_fits = tt; line = omega arith };
     }
 
-module _ (text : Bytes) (from : ℕ) (names : List ℕ) (known : ℕ) (page₀ : Bytes) where
+module _ (text : Bytes) (from : ℕ) (v : Variables) (page₀ : Bytes) where
   pub record Progress (page : Bytes) (digits : List ℕ) (d : Drawn) (number at : ℕ) : Type 0 where
-    pub ready : ClauseReady text from names known
+    pub ready : ClauseReady text from v
     pub size : length page ≡ length page₀
     pub table : length digits ≡ 256
     pub high : at ≤ length text
-    pub rest : (r : ClauseReady text from names known) → LeftOf text page₀ page digits d number at r.clause
+    pub rest : (r : ClauseReady text from v) → LeftOf text page₀ page digits d number at r.clause
 
-  pub progress_none : {digits : List ℕ} → from ≤ length text → length digits ≡ 256 → ClauseReady text from names known
+  pub progress_none : {digits : List ℕ} → from ≤ length text → length digits ≡ 256 → ClauseReady text from v
       → Progress page₀ digits (record { to = 0; line = 0; depth = 0; atoms = 0; arguments = 0 }) 0 from
   progress_none {digits} high table ready =
       record {
@@ -194,24 +195,24 @@ module _ (text : Bytes) (from : ℕ) (names : List ℕ) (known : ℕ) (page₀ :
 
   module _ {page : Bytes} {digits : List ℕ} {d : Drawn} {number at : ℕ} (g : Progress page digits d number at) where
     -- nothing comes, so no clause stands there
-    no_clause : tokens_at text at ≡ [] → ClauseReady text from names known → ⊥
+    no_clause : tokens_at text at ≡ [] → ClauseReady text from v → ⊥
     no_clause none r =
         let rest = g.rest r in
         some_left (fresh_of r.clause) rest.passed rest.left rest.after rest.runs (sym (ap marks none) ∙ rest.there)
 
-    pub progress_all : length text ≤ at → LinesPut text from names known page₀ None page
+    pub progress_all : length text ≤ at → LinesPut text from v page₀ None page
     progress_all end = record { size = g.size; put = λ r. absurd (no_clause (none_at_end text false at at end) r) }
 
-    pub progress_tabled : Tabled names known
+    pub progress_tabled : Tabled v
     progress_tabled = gathered_tabled g.ready.gathered
 
-    pub progress_low : number + 1 + known < 100
+    pub progress_low : number + 1 + v.named < 100
     progress_low =
         let rest = g.rest g.ready in
         let gathered = g.ready.gathered in
-        omega (arith, fresh_low rest.fresh, rest.counts, gathered.named_is, gathered.lones_is, gathered.few)
+        omega (arith, fresh_low rest.fresh, rest.counts, gathered.named_is, gathered.lones_is, v.few)
 
-    module _ {t : Found} (next : NextToken text at t) {r : ℕ} (numbered : NumberAfter t.mark names known number r) where
+    module _ {t : Found} (next : NextToken text at t) {r : ℕ} (numbered : NumberAfter t.mark v number r) where
       x : Bytes
       x = part text t.start t.end
 
@@ -231,7 +232,7 @@ module _ (text : Bytes) (from : ℕ) (names : List ℕ) (known : ℕ) (page₀ :
         drawing : Drawing reached d page₀ page digits
         inside : (at ≤ t.start) × (t.start < t.end) × (t.end ≤ length text)
 
-      coming : (ready : ClauseReady text from names known) → Coming ready.clause
+      coming : (ready : ClauseReady text from v) → Coming ready.clause
       unfolding x
       coming ready = at_next next
         where
@@ -295,7 +296,7 @@ module _ (text : Bytes) (from : ℕ) (names : List ℕ) (known : ℕ) (page₀ :
         progress_size = draws.size ∙ g.size
 
         -- a limit is passed, or the page is too short
-        pub progress_over : {a : Rust.Option ℕ} → e ≡ None → a ≡ None → LinesPut text from names known page₀ a after
+        pub progress_over : {a : Rust.Option ℕ} → e ≡ None → a ≡ None → LinesPut text from v page₀ a after
         progress_over {a} refused none = record { size = progress_size; put = λ ready. subst (ClausePut ready.clause page₀ after) (sym none) (not_put (λ fits. over (coming ready) fits (left_after (coming ready)))) }
           where
             short : {to : State} → DrawnNext to page₀ after digits₁ None → StateFits to → length page₀ < length (drawn_text to)
@@ -316,10 +317,10 @@ module _ (text : Bytes) (from : ℕ) (names : List ℕ) (known : ℕ) (page₀ :
           drawn_up_to {to} drawn = written (subst (DrawnNext to page₀ after digits₁) accepted drawn)
 
           -- the clause is at its end
-          pub progress_whole : stops ≡ true → LinesPut text from names known page₀ (Some f.to) after
+          pub progress_whole : stops ≡ true → LinesPut text from v page₀ (Some f.to) after
           progress_whole is = record { size = progress_size; put = λ ready. whole ready (left_after (coming ready)) }
             where
-              whole : (ready : ClauseReady text from names known) → Left ready.clause (coming ready) → ClausePut ready.clause page₀ after (Some f.to)
+              whole : (ready : ClauseReady text from v) → Left ready.clause (coming ready) → ClausePut ready.clause page₀ after (Some f.to)
               whole ready (some_more goes_on runs drawn) = never_both (sym told ∙ is) goes_on
               whole ready (none_more ended drawn) =
                   let drawing = drawn_up_to drawn in

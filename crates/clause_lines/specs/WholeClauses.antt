@@ -8,12 +8,13 @@ use Rattle.clause_theory.specs.Import.{clause_variables, filled, clause_lines, c
 use Rattle.pages.specs.Pages.{Puts}
 use Rattle.clause_tokens.specs.declared.Mark.{Mark}
 use Rattle.clause_tokens.specs.declared.Mark.TheVariants.{Lone}
+use Rattle.clause_variables.specs.declared.Variables.{Variables}
 use Rattle.clause_variables.specs.FreshNumbers.{NextFree}
 use Rattle.clause_variables.specs.Variables.{ClauseAt, Gathered}
 
 -- the number of the last fresh variable after one more token
-pub record NumberAfter (mark : Mark) (names : List ℕ) (named number r : ℕ) : Type 0 where
-  pub lone : mark ≡ Lone → NextFree names named (number + 1) r
+pub record NumberAfter (mark : Mark) (v : Variables) (number r : ℕ) : Type 0 where
+  pub lone : mark ≡ Lone → NextFree v (number + 1) r
   pub other : (mark ≡ Lone → ⊥) → r ≡ number
 
 -- the lines of a clause stand on the page, in so many bytes; or it passes a limit, or the page is too short for them
@@ -22,12 +23,11 @@ pub data ClausePut (c : Clause) (page₀ page : Bytes) : Rust.Option ℕ → Typ
   not_put : (clause_fits (filled c) ≡ true → length page₀ < length (text_of (clause_lines (filled c)))) → ClausePut c page₀ page None
 
 -- some clause stands at a place, and its variables are gathered
-pub record ClauseReady (text : Bytes) (from : ℕ) (names : List ℕ) (named : ℕ) : Type 0 where
+pub record ClauseReady (text : Bytes) (from : ℕ) (v : Variables) : Type 0 where
   pub clause : Clause
-  pub alone : ℕ
   pub stands : ClauseAt text from clause
-  pub gathered : Gathered names named alone (clause_variables clause)
+  pub gathered : Gathered v (clause_variables clause)
 
-pub record LinesPut (text : Bytes) (from : ℕ) (names : List ℕ) (named : ℕ) (page₀ : Bytes) (r : Rust.Option ℕ) (page : Bytes) : Type 0 where
+pub record LinesPut (text : Bytes) (from : ℕ) (v : Variables) (page₀ : Bytes) (r : Rust.Option ℕ) (page : Bytes) : Type 0 where
   pub size : length page ≡ length page₀
-  pub put : (ready : ClauseReady text from names named) → ClausePut ready.clause page₀ page r
+  pub put : (ready : ClauseReady text from v) → ClausePut ready.clause page₀ page r

@@ -7,25 +7,17 @@ ghost use Rattle.clause_variables.specs.FreshNumbers.{Tabled};
 ghost use Rattle.clause_lines.specs.WholeClauses.{NumberAfter, ClauseReady, LinesPut};
 
 use clause_tokens::Mark;
+use clause_variables::Variables;
 use term_lines::Drawn;
-use words::WordTable;
 
 /// The number of the last fresh variable after one more token.
-fn number_after(mark: Mark, names: &WordTable, named: usize, number: usize) -> usize
-    requires { Tabled names.now named × (number + 1 + named < 100) }
-    ensures { NumberAfter mark names.now named number result }
+fn number_after(mark: Mark, variables: &Variables, number: usize) -> usize
+    requires { Tabled variables.now × (number + 1 + variables.now.named < 100) }
+    ensures { NumberAfter mark variables.now number result }
 {
     match mark {
-        Mark::Lone => clause_variables::fresh_number(names, named, number + 1),
-        Mark::Name
-        | Mark::Variable
-        | Mark::Opens
-        | Mark::Closes
-        | Mark::Comma
-        | Mark::Neck
-        | Mark::Stop
-        | Mark::Stray
-        | Mark::Nothing => number,
+        Mark::Lone => variables.fresh_number(number + 1),
+        _ => number,
     }
 }
 
@@ -36,13 +28,12 @@ pub fn put_clause(
     text: &[u8],
     from: usize,
     classes: &[u8; 256],
-    names: &WordTable,
-    named: usize,
+    variables: &Variables,
     digits: &mut [usize; 256],
     page: &mut [u8],
 ) -> Option<usize>
-    requires { (from ≤ length text.now) × Classes classes.now × (length digits.old ≡ 256) × ClauseReady text.now from names.now named }
-    ensures { (length digits.new ≡ 256) × LinesPut text.now from names.now named page.old result page.new }
+    requires { (from ≤ length text.now) × Classes classes.now × (length digits.old ≡ 256) × ClauseReady text.now from variables.now }
+    ensures { (length digits.new ≡ 256) × LinesPut text.now from variables.now page.old result page.new }
 {
     let mut drawn = Drawn {
         to: 0,
@@ -56,7 +47,7 @@ pub fn put_clause(
     while at < text.len() {
         let token = clause_tokens::next(text, at, classes);
         let mark = token.mark;
-        number = number_after(mark, names, named, number);
+        number = number_after(mark, variables, number);
         drawn = token_lines::put_token(
             text,
             mark,
@@ -67,7 +58,7 @@ pub fn put_clause(
             page,
             digits,
         )?;
-        if clause_tokens::is_end(mark) {
+        if mark == Mark::Stop {
             return Some(drawn.to);
         }
         at = token.end;

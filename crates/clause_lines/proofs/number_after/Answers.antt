@@ -6,5 +6,5 @@ use Rattle.clause_lines.proofs.number_after.Goals as goal
 pub returns-in-Lone : goal.returns-in-Lone
 returns-in-Lone c = search (rules, number_lone)
 
-pub returns-in-Name : goal.returns-in-Name
-returns-in-Name c = search (rules, number_same)
+pub returns-in_default : goal.returns-in_default
+returns-in_default c = search (rules, number_same)

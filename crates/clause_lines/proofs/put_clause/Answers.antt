@@ -18,11 +18,11 @@ shape_of-page-in_err-drawn c = search (rules, progress_size)
 pub returns-in_err-drawn : goal.returns-in_err-drawn
 returns-in_err-drawn c = search (rules, progress_over, c.in_err-drawn.was)
 
-pub shape_of-page-then-is_end : goal.shape_of-page-then-is_end
-shape_of-page-then-is_end c = search (rules, progress_size)
+pub shape_of-page-then-eq : goal.shape_of-page-then-eq
+shape_of-page-then-eq c = search (rules, progress_size)
 
-pub returns-then-is_end : goal.returns-then-is_end
-returns-then-is_end c = search (rules, progress_whole, c.in_ok-drawn.was)
+pub returns-then-eq : goal.returns-then-eq
+returns-then-eq c = search (rules, progress_whole, c.in_ok-drawn.was)
 
 pub loop-at-smaller : goal.loop-at-smaller
 loop-at-smaller c = search (rules, progress_less)
