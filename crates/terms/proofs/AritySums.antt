@@ -4,7 +4,8 @@ use mathlib.Core.List.{List}
 use mathlib.Core.Option.{some}
 use Prim.Native.Nat.{ℕ, ◌+◌, ◌*◌, ◌≤◌, ◌<◌}
 use native.Mathlib.Omega.{arith}
-use lib.ListN.{get_or, take}
+use lib.ListN.{length, get_or, take, length-take}
+use lib.Seq.{take_all, get_or-take}
 use Rattle.theory.specs.Lists.{total}
 use Rattle.theory.specs.Text.{Bytes}
 use Rattle.theory.specs.Terms.{Term, read_term}
@@ -13,33 +14,27 @@ use Rattle.tokens.specs.TokenRows.{SmallArities, SymbolsStand}
 use Rattle.terms.proofs.Totals.{total_more}
 use Rattle.terms.specs.Constants.{AritiesSummed}
 
-pub record Summing (arities : List ℕ) (symbols sum i : ℕ) : Type 0 where
-  pub high : i ≤ symbols
+pub record Summing (arities : List ℕ) (sum i : ℕ) : Type 0 where
   pub small : sum ≤ 9 * i
   pub is : sum ≡ total (take i arities)
 
-module _ (arities : List ℕ) (symbols : ℕ) (digits : SmallArities arities symbols) where
-  pub summing_none : Summing arities symbols 0 0
-  unfolding total
-  summing_none = record { high = omega arith; small = omega arith; is = refl }
+pub summing_none : (arities : List ℕ) → Summing arities 0 0
+unfolding total
+summing_none arities = record { small = omega arith; is = refl }
 
-  module _ (sum i : ℕ) (summing : Summing arities symbols sum i) where
-    module _ (inside : i < symbols) (arity : ℕ) (is : arity ≡ get_or arities i 0) where
-      pub summing_fits : sum + arity < 65536
-      summing_fits = omega (arith, summing.small, digits.small i inside, digits.few)
+module _ (arities : List ℕ) (symbols : ℕ) (digits : SmallArities arities symbols) (sum i : ℕ) (summing : Summing (take symbols arities) sum i) where
+  module _ (inside : i < length (take symbols arities)) where
+    low : get_or (take symbols arities) i 0 ≤ 9
+    low = let few : i < symbols = omega (arith, length-take symbols arities) in rw (get_or-take symbols arities i 0 few) (digits.small i few)
 
-      pub summing_more : Summing arities symbols (sum + arity) (i + 1)
-      summing_more =
-          record {
-            high = omega arith;
-            small = omega (arith, summing.small, digits.small i inside);
-            is = omega (arith, summing.is, total_more arities i);
-          }
+    pub summing_fits : sum + get_or (take symbols arities) i 0 < 65536
+    summing_fits = omega (arith, summing.small, low, digits.few, length-take symbols arities)
 
-    pub summing_all : symbols ≤ i → AritiesSummed arities symbols sum
-    summing_all past =
-        let same : i ≡ symbols = omega (arith, summing.high) in
-        record { is = summing.is ∙ ap (λ (n : ℕ). total (take n arities)) same; small = omega (arith, summing.small, digits.few) }
+    pub summing_more : Summing (take symbols arities) (sum + get_or (take symbols arities) i 0) (i + 1)
+    summing_more = record { small = omega (arith, summing.small, low); is = omega (arith, summing.is, total_more (take symbols arities) i) }
+
+  pub summing_all : length (take symbols arities) ≤ i → i ≤ symbols → AritiesSummed arities symbols sum
+  summing_all past few = record { is = summing.is ∙ ap total (take_all i (take symbols arities) past); small = omega (arith, summing.small, digits.few) }
 
 -- where the arities are those of a term's symbols, their sum is the constant of its form
 pub term_summed : {arities : List ℕ} {symbols r : ℕ} {field : Bytes} → AritiesSummed arities symbols r → SymbolsStand field arities symbols → (t : Term) → read_term field ≡ some t → r ≡ sum_of_arities t

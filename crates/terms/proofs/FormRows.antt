@@ -1,6 +1,5 @@
 -- A row after both steps: the sum of the arities at its beginning, then the occurrences. It is the term's form.
 use mathlib.Core.Path.{◌≡◌, ◌∙◌, ap}
-use mathlib.Core.Bool.{true}
 use mathlib.Core.List.{List}
 use Prim.Native.Nat.{ℕ, ◌+◌, ◌-◌, ◌≤◌, ◌<◌}
 use native.Mathlib.Decide.{dec_le}
@@ -13,8 +12,10 @@ use Rattle.theory.specs.Text.{Bytes}
 use Rattle.theory.specs.Terms.{Term}
 use Rattle.theory.specs.Sizes.{sum_of_arities, structural}
 use Rattle.theory.proofs.SectionForm.{section_form}
+use Rattle.words.specs.declared.Words.{Words}
 use Rattle.tokens.specs.declared.Tokens.{Tokens}
-use Rattle.tokens.specs.TokenRows.{SmallArities, PlacesStand, TokensRead}
+use Rattle.tokens.specs.declared.TokenRoom.{TokenRoom}
+use Rattle.tokens.specs.TokenRows.{SmallArities, TokensStand}
 use Rattle.terms.specs.Constants.{AritiesSummed}
 use Rattle.terms.specs.Rows.{OccurrencesStand, Counted}
 use Rattle.terms.specs.TermForms.{RowStands, FormTaken}
@@ -28,14 +29,11 @@ row_of_parts rows base xs t first second = record {
   beyond = λ i outside few. second.zeros i few outside;
 }
 
-module _ (field : Bytes) (read : Tokens) (arities places : List ℕ) (read_is : TokensRead field read arities places) (good : read.fine ≡ true) where
-  pub read_arities : SmallArities arities read.symbols
-  read_arities = (read_is.stand good).0.digits
+module _ (field : Bytes) (read : Tokens) (room : TokenRoom) (stand : TokensStand field read room) where
+  pub read_arities : SmallArities room.arities read.symbols
+  read_arities = stand.symbols.digits
 
-  pub read_places : PlacesStand field places read.variables
-  read_places = (read_is.stand good).1
-
-  module _ (sum : ℕ) (first : AritiesSummed arities read.symbols sum) (names₀ : List ℕ) (known : ℕ) (rows₀ : List ℕ) (base r : ℕ) (names counts : List ℕ) (room : base + 17 ≤ 1224) (second : Counted field names₀ known rows₀ base r names counts) where
+  module _ (sum : ℕ) (first : AritiesSummed room.arities read.symbols sum) (names₀ : List Words) (known : ℕ) (rows₀ : List ℕ) (base r : ℕ) (names : List Words) (counts : List ℕ) (fits : base + 17 ≤ 1224) (second : Counted field names₀ known rows₀ base r names counts) where
     abbrev rows : List ℕ
     rows = set counts base sum
 
@@ -50,9 +48,9 @@ module _ (field : Bytes) (read : Tokens) (arities places : List ℕ) (read_is : 
         rw place (omega (arith, second.small.small (i - (base + 1)) (omega arith)))
 
     occurrences_kept : (xs : List Bytes) (t : Term) → length xs ≤ 16 → OccurrencesStand counts base xs t → OccurrencesStand rows base xs t
-    occurrences_kept xs t few stand = record {
-      counts = λ i inside. elsewhere (base + 1 + i) (λ e. omega arith) ∙ stand.counts i inside;
-      zeros = λ i low past. elsewhere (base + 1 + i) (λ e. omega arith) ∙ stand.zeros i low past;
+    occurrences_kept xs t few kept = record {
+      counts = λ i inside. elsewhere (base + 1 + i) (λ e. omega arith) ∙ kept.counts i inside;
+      zeros = λ i low past. elsewhere (base + 1 + i) (λ e. omega arith) ∙ kept.zeros i low past;
     }
 
     pub form_taken : FormTaken structural field names₀ known rows₀ base r names rows
@@ -66,7 +64,7 @@ module _ (field : Bytes) (read : Tokens) (arities places : List ℕ) (read_is : 
       name_size = second.name_size;
       from = λ seen holds number size t e.
           let found = second.from seen holds number size t e in
-          let constant = get_or-set_same counts base sum 0 (omega (arith, second.elsewhere.size)) ∙ term_summed first (read_is.stand good).0 t e in
+          let constant = get_or-set_same counts base sum 0 (omega (arith, second.elsewhere.size)) ∙ term_summed first stand.symbols t e in
           record {
             few = found.few;
             many = found.many;

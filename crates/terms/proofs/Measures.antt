@@ -1,24 +1,22 @@
 -- What `measure` answers: each test, and the size where none finds a fault.
 use mathlib.Core.Path.{◌≡◌, sym, ◌∙◌, ap}
 use mathlib.Core.Bool.{Bool, true, false}
-use mathlib.Core.List.{List}
 use mathlib.Core.Option.{some}
 use Prim.Native.Nat.{ℕ, ◌≤◌, ◌<◌}
 use native.Mathlib.Omega.{arith}
 use lib.ListN.{length, drop_of_length-le}
 use Rattle.groundwork.proofs.Truth.{ltb-ge, or_not_left}
-use Rattle.theory.specs.declared.Measurement.{Measurement}
-use Rattle.theory.specs.declared.Measurement.TheVariants.{Size}
+use Rattle.std.specs.Prelude.{Option, Some, None, is_some}
 use Rattle.theory.specs.Text.{Bytes}
 use Rattle.theory.specs.Terms.{Term, read_term, variables}
 use Rattle.theory.specs.Sizes.{structural, size}
 use Rattle.theory.specs.Faults.{is_unfit}
 use Rattle.theory.specs.Measure.{measured, measure_term, measure_of}
-use Rattle.theory.specs.Answers.{measured_of}
 use Rattle.theory.proofs.SectionForm.{section_form}
 use Rattle.theory.proofs.Reading.Presence.{is_some_lem, is_none_lem, empty_is, filled_is}
 use Rattle.tokens.specs.declared.Tokens.{Tokens}
-use Rattle.tokens.specs.TokenRows.{TokensRead}
+use Rattle.tokens.specs.declared.TokenRoom.{TokenRoom}
+use Rattle.tokens.specs.TokenRows.{TokensStand, TokensRead}
 use Rattle.terms.specs.Constants.{AritiesSummed}
 use Rattle.terms.proofs.AritySums.{term_summed}
 
@@ -32,29 +30,32 @@ module _ (s : Bytes) (unfit : Bool) (unfit-is : unfit ≡ is_unfit s) where
     unfolding is_unfit
     measure_short = ltb-ge 1024 (length s) (or_not_left _ _ (sym unfit-is ∙ fit))
 
-    module _ (read : Tokens) (arities places : List ℕ) (read_is : TokensRead s read arities places) where
-      pub measure_no_term : read.fine ≡ false → measured 11 0 ≡ measure_of s
+    module _ (r : Option Tokens) (room : TokenRoom) (read_is : TokensRead s r room) where
+      pub measure_no_term : r ≡ None → measured 11 0 ≡ measure_of s
       unfolding measure_of measure_term
-      measure_no_term h = rw (sym unfit-is ∙ fit, is_none_lem (read_term s) (sym read_is.fine ∙ h))
+      measure_no_term e = rw (sym unfit-is ∙ fit, is_none_lem (read_term s) (sym read_is.fine ∙ ap is_some e))
 
-      module _ (good : read.fine ≡ true) where
+      module _ (read : Tokens) (e : r ≡ Some read) where
         found : (t : Term) × (read_term s ≡ some t)
-        found = is_some_lem (read_term s) (sym read_is.fine ∙ good)
+        found = is_some_lem (read_term s) (sym read_is.fine ∙ ap is_some e)
 
         abbrev term : Term
         term = found.0
 
+        pub stands : TokensStand s read room
+        stands = read_is.stand read e
+
         many : read.variables ≡ length (variables term)
-        many = read_is.many term found.1
+        many = stands.many term found.1
 
         pub measure_variable : 0 < read.variables → measured 19 0 ≡ measure_of s
         unfolding measure_of measure_term
         measure_variable h = rw (sym unfit-is ∙ fit, found.1, filled_is (variables term) (λ e. omega (arith, many, ap length e)))
 
-        module _ (sum : ℕ) (sum_is_lem : AritiesSummed arities read.symbols sum) where
+        module _ (sum : ℕ) (sum_is_lem : AritiesSummed room.arities read.symbols sum) where
           summed : sum ≡ size structural term
-          summed = term_summed sum_is_lem (read_is.stand good).0 term found.1 ∙ sym (section_form term).first
+          summed = term_summed sum_is_lem stands.symbols term found.1 ∙ sym (section_form term).first
 
-          pub measure_size : read.variables ≤ 0 → (m : Measurement) → m ≡ Size sum → measured_of m ≡ measure_of s
+          pub measure_size : read.variables ≤ 0 → measured 0 sum ≡ measure_of s
           unfolding measure_of measure_term
-          measure_size h m e = rw (sym unfit-is ∙ fit, found.1, empty_is (variables term) (drop_of_length-le (variables term) {i = 0} (omega (arith, many))), e, summed)
+          measure_size h = rw (sym unfit-is ∙ fit, found.1, empty_is (variables term) (drop_of_length-le (variables term) {i = 0} (omega (arith, many))), summed)

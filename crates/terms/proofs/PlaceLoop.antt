@@ -19,7 +19,7 @@ use Rattle.terms.proofs.OneOccurrence.{leaves}
 use Rattle.terms.proofs.Tally.{Tallied, none_tallied, tally_counted, one_tallied}
 
 -- at a place; rows₀ is the table with the row cleared
-pub record Counting (field : Bytes) (places : List ℕ) (count : ℕ) (names₀ : List ℕ) (known : ℕ) (rows₀ : List ℕ) (base i many : ℕ) (names : List ℕ) (rows : List ℕ) : Type 0 where
+pub record Counting (field : Bytes) (places : List ℕ) (count : ℕ) (names₀ : List Words) (known : ℕ) (rows₀ : List ℕ) (base i many : ℕ) (names : List Words) (rows : List ℕ) : Type 0 where
   pub past : i ≤ count
   pub high : many ≤ 17
   pub full : 16 < known → many ≡ 17
@@ -28,7 +28,7 @@ pub record Counting (field : Bytes) (places : List ℕ) (count : ℕ) (names₀ 
   pub small : (j : ℕ) → j < 16 → count_at rows base j ≤ i
   pub tallied : (seen : List Bytes) → Holds names₀ seen → length seen ≡ known → length rows₀ ≡ 1224 → Tallied seen (map (standing_at field) (take i places)) base many names rows
 
-module _ (field : Bytes) (places : List ℕ) (count : ℕ) (stand : PlacesStand field places count) (names₀ : List ℕ) (known : ℕ) (few : known ≤ 17) (rows₀ : List ℕ) (base : ℕ) (room : base + 17 ≤ 1224) where
+module _ (field : Bytes) (places : List ℕ) (count : ℕ) (stand : PlacesStand field places count) (names₀ : List Words) (known : ℕ) (few : known ≤ 17) (rows₀ : List ℕ) (base : ℕ) (room : base + 17 ≤ 1224) where
   -- ---- before the first place
 
   pub counting_none : (entry : List ℕ) → Cleared entry base rows₀ 16 → Counting field places count names₀ known rows₀ base 0 known names₀ rows₀
@@ -43,7 +43,7 @@ module _ (field : Bytes) (places : List ℕ) (count : ℕ) (stand : PlacesStand 
         tallied = λ seen holds number size. none_tallied holds number cleared.zeros;
       }
 
-  module _ (i many : ℕ) (names : List ℕ) (rows : List ℕ) (before : Counting field places count names₀ known rows₀ base i many names rows) where
+  module _ (i many : ℕ) (names : List Words) (rows : List ℕ) (before : Counting field places count names₀ known rows₀ base i many names rows) where
     -- ---- one place
 
     pub counting_small : SmallRow rows base
@@ -56,7 +56,7 @@ module _ (field : Bytes) (places : List ℕ) (count : ℕ) (stand : PlacesStand 
       longer : map (standing_at field) (take (i + 1) places) ≡ map (standing_at field) (take i places) ++ (token ∷ [])
       longer = rw (add-one i, take-suc places i 0 (omega (arith, stand.few, stand.wide)), map-append)
 
-      after : (r : ℕ) (names₁ : List ℕ) (rows₁ : List ℕ) → CountsOne (words_of token) names many rows base r names₁ rows₁ → Counting field places count names₀ known rows₀ base (i + 1) r names₁ rows₁
+      after : (r : ℕ) (names₁ : List Words) (rows₁ : List ℕ) → CountsOne (words_of token) names many rows base r names₁ rows₁ → Counting field places count names₀ known rows₀ base (i + 1) r names₁ rows₁
       after r names₁ rows₁ counts =
           record {
             past = omega arith;
@@ -70,7 +70,7 @@ module _ (field : Bytes) (places : List ℕ) (count : ℕ) (stand : PlacesStand 
           }
 
       module _ (start end : ℕ) (begins : start ≡ start_of (get_or places i 0)) (ends : end ≡ end_of (get_or places i 0)) where
-        pub counting_more : (words : Words) → words ≡ words_of (part field start end) → (r : ℕ) (names₁ : List ℕ) (rows₁ : List ℕ) → CountsOne words names many rows base r names₁ rows₁ → Counting field places count names₀ known rows₀ base (i + 1) r names₁ rows₁
+        pub counting_more : (words : Words) → words ≡ words_of (part field start end) → (r : ℕ) (names₁ : List Words) (rows₁ : List ℕ) → CountsOne words names many rows base r names₁ rows₁ → Counting field places count names₀ known rows₀ base (i + 1) r names₁ rows₁
         counting_more words is r names₁ rows₁ counts = after r names₁ rows₁ (rw (is, begins, ends) at counts)
 
     -- ---- after the last place

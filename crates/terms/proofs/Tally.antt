@@ -11,23 +11,24 @@ use Rattle.theory.specs.Terms.{Term, variables}
 use Rattle.theory.specs.Sizes.{occurrences, occurrences_in}
 use Rattle.theory.specs.Residuals.{numbered}
 use Rattle.words.specs.Words.{words_of}
+use Rattle.words.specs.declared.Words.{Words}
 use Rattle.terms.specs.Rows.{Holds, OccurrencesStand, VariablesTabled, CountsOne, known_already, one_more_lem, none_left, past}
 use Rattle.terms.proofs.Numbering.{place_among, numbered_end_known, numbered_end_new, numbered_grows}
 use Rattle.terms.proofs.VariableTable.{found_is, not_found, holds_more}
 use Rattle.terms.proofs.RowCounting.{RowCounts, row_known, row_new}
 
 -- the variables seen before and those counted are in the table, and the row counts them; or they are more than 16
-pub data Tallied (seen done : List Bytes) (base many : ℕ) (names : List ℕ) (rows : List ℕ) : Type 0 where
+pub data Tallied (seen done : List Bytes) (base many : ℕ) (names : List Words) (rows : List ℕ) : Type 0 where
   all_placed : many ≡ length (numbered seen done) → Holds names (numbered seen done) → RowCounts rows base (numbered seen done) done → Tallied seen done base many names rows
   too_many : many ≡ 17 → 16 < length (numbered seen done) → Tallied seen done base many names rows
 
 -- none counted yet
-pub none_tallied : {seen : List Bytes} {base known : ℕ} {names rows : List ℕ} → Holds names seen → length seen ≡ known → ((i : ℕ) → i < 16 → get_or rows (base + 1 + i) 0 ≡ 0) → Tallied seen [] base known names rows
+pub none_tallied : {seen : List Bytes} {base known : ℕ} {names : List Words} {rows : List ℕ} → Holds names seen → length seen ≡ known → ((i : ℕ) → i < 16 → get_or rows (base + 1 + i) 0 ≡ 0) → Tallied seen [] base known names rows
 unfolding numbered occurrences
 none_tallied holds number zeros = all_placed (sym number) holds (record { counts = λ i h. zeros i (omega (arith, holds.few)); zeros = λ i h _. zeros i h })
 
 -- all variables of a term counted
-pub tally_counted : {seen : List Bytes} (t : Term) {base many : ℕ} {names rows : List ℕ} → Tallied seen (variables t) base many names rows → VariablesTabled (λ xs. OccurrencesStand rows base xs t) seen t many names
+pub tally_counted : {seen : List Bytes} (t : Term) {base many : ℕ} {names : List Words} {rows : List ℕ} → Tallied seen (variables t) base many names rows → VariablesTabled (λ xs. OccurrencesStand rows base xs t) seen t many names
 unfolding occurrences_in
 tally_counted t (all_placed number holds row) =
     record { few = λ h. number; many = λ h. absurd (omega (arith, holds.few)); holds = λ h. holds; row = λ h. record { counts = row.counts; zeros = row.zeros } }
@@ -40,7 +41,7 @@ module _ (seen done : List Bytes) (x : Bytes) (proper : is_variable x ≡ true) 
   abbrev next : List Bytes
   next = done ++ (x ∷ [])
 
-  pub one_tallied : {many : ℕ} {names : List ℕ} {rows : List ℕ} {r : ℕ} {names₁ : List ℕ} {rows₁ : List ℕ} → base + 17 ≤ length rows → Tallied seen done base many names rows → CountsOne (words_of x) names many rows base r names₁ rows₁ → Tallied seen next base r names₁ rows₁
+  pub one_tallied : {many : ℕ} {names : List Words} {rows : List ℕ} {r : ℕ} {names₁ : List Words} {rows₁ : List ℕ} → base + 17 ≤ length rows → Tallied seen done base many names rows → CountsOne (words_of x) names many rows base r names₁ rows₁ → Tallied seen next base r names₁ rows₁
   one_tallied {rows = rows} room (all_placed count holds row) (known_already at inside few place stored) =
       let here : get_or all at [] ≡ x = found_is x holds proper at (omega arith) (rw count at place) in
       let same : numbered seen next ≡ all = numbered_end_known seen done x (place_among x all at (omega arith) here) in

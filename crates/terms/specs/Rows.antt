@@ -1,6 +1,6 @@
 -- The second step of a term's size (000, section 1.4): a rule's variables in a table of words, and a row that counts how often
 -- each occurs in the term.
-use Rattle.std.specs.Prelude.{◌≡◌, List, [], ℕ, ◌+◌, ◌*◌, ◌≤◌, ◌<◌, length, get_or, set, true}
+use Rattle.std.specs.Prelude.{◌≡◌, List, [], ℕ, ◌+◌, ◌≤◌, ◌<◌, length, get_or, set, true}
 use Rattle.std.proofs.Math.Option.{some}
 use Rattle.theory.specs.Text.{Bytes, is_variable}
 use Rattle.theory.specs.Terms.{Term, read_term, variables}
@@ -12,8 +12,8 @@ use Rattle.words.specs.Words.{words_of, words_at, StandsAt}
 use Rattle.words.specs.declared.Words.{Words}
 
 -- the table holds the words of these variables, each once
-pub record Holds (names : List ℕ) (seen : List Bytes) : Type 0 where
-  pub size : length names ≡ 64
+pub record Holds (names : List Words) (seen : List Bytes) : Type 0 where
+  pub size : length names ≡ 32
   pub few : length seen ≤ variable_limit
   pub words : (i : ℕ) → i < length seen → words_at names i ≡ words_of (get_or seen i [])
   pub proper : (i : ℕ) → i < length seen → is_variable (get_or seen i []) ≡ true
@@ -35,11 +35,11 @@ pub record SmallRow (rows : List ℕ) (base : ℕ) : Type 0 where
   pub small : (i : ℕ) → i < variable_limit → get_or rows (base + 1 + i) 0 ≤ line_limit
 
 -- one occurrence more of the variable with these words: it has a place already, or takes the next one, or there is none left
-pub data CountsOne (words : Words) (names₀ : List ℕ) (known : ℕ) (rows₀ : List ℕ) (base : ℕ) : ℕ → List ℕ → List ℕ → Type 0 where
+pub data CountsOne (words : Words) (names₀ : List Words) (known : ℕ) (rows₀ : List ℕ) (base : ℕ) : ℕ → List Words → List ℕ → Type 0 where
   known_already : {rows : List ℕ} (at : ℕ) → at < known → known ≤ variable_limit → StandsAt (words_at names₀) known words at
       → rows ≡ set rows₀ (base + 1 + at) (get_or rows₀ (base + 1 + at) 0 + 1) → CountsOne words names₀ known rows₀ base known names₀ rows
-  one_more_lem : {names : List ℕ} {rows : List ℕ} → known < variable_limit → StandsAt (words_at names₀) known words known
-      → names ≡ set (set names₀ (2 * known) words.first) (2 * known + 1) words.second → rows ≡ set rows₀ (base + 1 + known) (get_or rows₀ (base + 1 + known) 0 + 1)
+  one_more_lem : {names : List Words} {rows : List ℕ} → known < variable_limit → StandsAt (words_at names₀) known words known
+      → names ≡ set names₀ known words → rows ≡ set rows₀ (base + 1 + known) (get_or rows₀ (base + 1 + known) 0 + 1)
       → CountsOne words names₀ known rows₀ base (known + 1) names rows
   none_left : known ≡ variable_limit → StandsAt (words_at names₀) known words known → CountsOne words names₀ known rows₀ base (variable_limit + 1) names₀ rows₀
   past : variable_limit < known → CountsOne words names₀ known rows₀ base (variable_limit + 1) names₀ rows₀
@@ -51,14 +51,14 @@ pub record OccurrencesStand (rows : List ℕ) (base : ℕ) (xs : List Bytes) (t 
 
 -- the table holds the variables of a term after those seen before, r is how many they are, and there is a row for them; or they
 -- are too many
-pub record VariablesTabled (Row : List Bytes → Type 0) (seen : List Bytes) (t : Term) (r : ℕ) (names : List ℕ) : Type 0 where
+pub record VariablesTabled (Row : List Bytes → Type 0) (seen : List Bytes) (t : Term) (r : ℕ) (names : List Words) : Type 0 where
   pub few : length (numbered seen (variables t)) ≤ variable_limit → r ≡ length (numbered seen (variables t))
   pub many : variable_limit < length (numbered seen (variables t)) → r ≡ variable_limit + 1
   pub holds : r ≤ variable_limit → Holds names (numbered seen (variables t))
   pub row : r ≤ variable_limit → Row (numbered seen (variables t))
 
 -- What the second step leaves of a field that is a term, whatever variables the table held before: how often each occurs.
-pub record Counted (field : Bytes) (names₀ : List ℕ) (known : ℕ) (rows₀ : List ℕ) (base r : ℕ) (names : List ℕ) (rows : List ℕ) : Type 0 where
+pub record Counted (field : Bytes) (names₀ : List Words) (known : ℕ) (rows₀ : List ℕ) (base r : ℕ) (names : List Words) (rows : List ℕ) : Type 0 where
   pub high : r ≤ variable_limit + 1
   pub full : variable_limit < known → r ≡ variable_limit + 1
   pub elsewhere : Elsewhere rows₀ base rows

@@ -6,6 +6,7 @@ use Rattle.theory.specs.Terms.{Term, read_term}
 use Rattle.theory.specs.Sizes.{Measure}
 use Rattle.theory.specs.Forms.{form_of}
 use Rattle.theory.specs.Packs.{variable_limit}
+use Rattle.words.specs.declared.Words.{Words}
 use Rattle.terms.specs.Rows.{Holds, VariablesTabled}
 
 -- the row from base on is the form of a term, by a measure, over a rule's variables, zeros after the last
@@ -15,7 +16,7 @@ pub record RowStands (m : Measure) (rows : List ℕ) (base : ℕ) (xs : List Byt
   pub beyond : (i : ℕ) → length xs ≤ i → i < variable_limit → get_or rows (base + 1 + i) 0 ≡ 0
 
 -- What the two steps leave of a field that is a term, whatever variables the table held before: the form by a measure.
-pub record FormTaken (m : Measure) (field : Bytes) (names₀ : List ℕ) (known : ℕ) (rows₀ : List ℕ) (base r : ℕ) (names : List ℕ) (rows : List ℕ) : Type 0 where
+pub record FormTaken (m : Measure) (field : Bytes) (names₀ : List Words) (known : ℕ) (rows₀ : List ℕ) (base r : ℕ) (names : List Words) (rows : List ℕ) : Type 0 where
   pub high : r ≤ variable_limit + 1
   pub full : variable_limit < known → r ≡ variable_limit + 1
   pub size : length rows ≡ length rows₀

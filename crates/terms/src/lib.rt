@@ -2,19 +2,19 @@
 // then the occurrences of the variables. Every size and every coefficient comes of these two steps.
 #![tactic(auto)]
 
-ghost use Rattle.std.specs.Prelude.{◌≡◌, true, ◌+◌, ◌≤◌};
+ghost use Rattle.std.specs.Prelude.{◌≡◌, ◌+◌, ◌≤◌};
 ghost use Rattle.theory.specs.Sizes.{structural};
 ghost use Rattle.theory.specs.Measure.{measure_of};
 ghost use Rattle.theory.specs.Answers.{measured_of};
-ghost use Rattle.tokens.specs.TokenRows.{SmallArities, PlacesStand, TokensRead};
+ghost use Rattle.tokens.specs.TokenRows.{SmallArities, PlacesStand, TokensStand};
 ghost use Rattle.terms.specs.Constants.{AritiesSummed};
 ghost use Rattle.terms.specs.Rows.{Cleared, SmallRow, CountsOne, Counted};
 ghost use Rattle.terms.specs.TermForms.{FormTaken};
 
 use forms::Form;
-use theory::Measurement;
-use tokens::Tokens;
-use words::{Hints, WordTable, Words};
+use theory::TermRefusal;
+use tokens::{TokenRoom, Tokens};
+use words::{ClassTable, Hints, WordTable, Words};
 
 /// The first step of section 1.4: the sum of the arities of a term's symbols. Of a ground term it is the size.
 pub fn sum_of_arities(arities: &[u8; 512], symbols: usize) -> u16
@@ -22,38 +22,28 @@ pub fn sum_of_arities(arities: &[u8; 512], symbols: usize) -> u16
     ensures { AritiesSummed arities.now symbols result }
 {
     let mut sum: u16 = 0;
-    let mut i: usize = 0;
-    while i < symbols {
-        sum += widths::u8_to_u16(arities[i]);
-        i += 1;
+    for arity in &arities[..symbols] {
+        sum += *arity as u16;
     }
     sum
 }
 
-fn sized(size: u16) -> Measurement
-    ensures { result ≡ Measurement.Size size }
-{
-    Measurement::Size(size as u32)
-}
-
 /// The size of a ground term, or why there is none.
-pub fn measure(term: &[u8]) -> Measurement
+pub fn measure(term: &[u8]) -> Result<u32, TermRefusal>
     ensures { measured_of result ≡ measure_of term.now }
 {
     if text::is_unfit(term) {
-        return Measurement::UnfitTerm;
+        return Err(TermRefusal::UnfitTerm);
     }
-    let classes = words::class_table();
-    let mut arities = [0u8; 512];
-    let mut places = [0u16; 512];
-    let read = tokens::read_tokens(term, &classes, &mut arities, &mut places);
-    if !read.fine {
-        return Measurement::NotTerm;
-    }
+    let classes = ClassTable::standard();
+    let mut room = TokenRoom::empty();
+    let Some(read) = tokens::read_tokens(term, &classes, &mut room) else {
+        return Err(TermRefusal::NotTerm);
+    };
     if 0 < read.variables {
-        return Measurement::HasVariable;
+        return Err(TermRefusal::HasVariable);
     }
-    sized(sum_of_arities(&arities, read.symbols))
+    Ok(sum_of_arities(&room.arities, read.symbols) as u32)
 }
 
 /// Rows of 17 numbers, one for each argument of a rule's atoms: its constant, and how often each variable occurs.
@@ -63,10 +53,8 @@ fn clear_row(rows: &mut Rows, base: usize)
     requires { base + 17 ≤ 1224 }
     ensures { Cleared rows.old base rows.new 16 }
 {
-    let mut i: usize = 0;
-    while i < Form::VARIABLES {
+    for i in 0..Form::VARIABLES {
         rows[base + 1 + i] = 0;
-        i += 1;
     }
 }
 
@@ -94,8 +82,7 @@ fn count_variable(
     if at < known {
         return known;
     }
-    names[2 * known] = words.first;
-    names[2 * known + 1] = words.second;
+    names[known] = words;
     known + 1
 }
 
@@ -118,14 +105,12 @@ pub fn count_occurrences(
 {
     clear_row(rows, base);
     let mut many = known;
-    let mut counted: usize = 0;
-    while counted < count {
+    for counted in 0..count {
         let place = places[counted];
         let start = tokens::start_of(place);
         let end = tokens::end_of(place);
         let words = words::words_at(field, start, end);
         many = count_variable(words, names, many, hints, rows, base);
-        counted += 1;
     }
     many
 }
@@ -135,20 +120,19 @@ pub fn count_occurrences(
 pub fn form_of_term(
     field: &[u8],
     read: Tokens,
-    arities: &[u8; 512],
-    places: &[u16; 512],
+    room: &TokenRoom,
     names: &mut WordTable,
     known: usize,
     hints: &mut Hints,
     rows: &mut Rows,
     base: usize,
 ) -> usize
-    requires { (TokensRead field.now read arities.now places.now) × (read.fine ≡ true) × (known ≤ 17) × (base + 17 ≤ 1224) }
+    requires { (TokensStand field.now read room.now) × (known ≤ 17) × (base + 17 ≤ 1224) }
     ensures { FormTaken structural field.now names.old known rows.old base result names.new rows.new }
 {
-    let constant = sum_of_arities(arities, read.symbols);
+    let constant = sum_of_arities(&room.arities, read.symbols);
     let count = read.variables;
-    let many = count_occurrences(field, places, count, names, known, hints, rows, base);
+    let many = count_occurrences(field, &room.places, count, names, known, hints, rows, base);
     rows[base] = constant;
     many
 }

@@ -4,14 +4,17 @@ use mathlib.Core.Bool.{Bool, true, false}
 use Prim.Native.Nat.{ℕ, ◌+◌, ◌-◌, ◌*◌, ◌≤◌, ◌<◌}
 use native.Mathlib.Omega.{arith}
 use lib.ListN.{length, get_or}
-use Rattle.groundwork.proofs.Truth.{Decides, by_truth, never_both, equal-eqb, eqb-different}
+use Rattle.groundwork.proofs.Truth.{Decides, by_truth, never_both}
 use Rattle.theory.specs.Text.{Bytes, is_lower, is_upper, is_digit, is_name_byte, is_word, is_name, is_variable}
 use Rattle.theory.specs.Terms.{symbol_of, no_token, token_of}
 use Rattle.theory.proofs.Reading.Bytes.{between_from, between_low, between_high}
 use Rattle.theory.proofs.Reading.Separators.{is_free, free_from}
 use Rattle.text.specs.Scans.{part, Finds}
 use Rattle.text.proofs.Parts.{part_length, part_at, free_more}
-use Rattle.words.specs.Classes.{Class, EndsWord}
+use mathlib.Core.Logic.{◌⊎◌, inl, inr}
+use Rattle.words.specs.Classes.{class_of, EndsWord}
+use Rattle.words.specs.declared.table.Class.TheVariants.{Small, Capital, Inner, Outside}
+use Rattle.words.proofs.ClassLaws.{is_small, is_capital, lower_is, upper_is}
 use Rattle.words.proofs.Letters.{lower_in_name, upper_in_name}
 use Rattle.tokens.specs.TokenRows.{EndsAt, ArityAt, start_of, end_of, standing_at, VariableAt}
 use Rattle.tokens.proofs.SymbolTokens.{last_byte, front_of, SymbolWritten, symbol_read, other_no_token}
@@ -68,18 +71,12 @@ module _ (s : Bytes) (from : ℕ) (no-variable : (l : ℕ) → l ≤ length s �
 
 -- ---- by the first byte
 
-module _ (s : Bytes) (from : ℕ) (inside : from < length s) (class : ℕ) (is : Class (get_or s from 0) class) where
+module _ (s : Bytes) (from : ℕ) (inside : from < length s) where
   abbrev first : ℕ
   first = get_or s from 0
 
   first_place : (l : ℕ) → from < l → get_or (part s from l) 0 0 ≡ first
   first_place l h = let here : from + 0 ≡ from = omega arith in part_at s from l 0 (omega arith) ∙ ap (λ (n : ℕ). get_or s n 0) here
-
-  no_capital : (class ≡ 2 → ⊥) → is_upper first ≡ false
-  no_capital h = is.upper ∙ eqb-different class 2 h
-
-  no_small : (class ≡ 1 → ⊥) → is_lower first ≡ false
-  no_small h = is.lower ∙ eqb-different class 1 h
 
   -- a word begins with its first byte
   word_begins : (isFirst : ℕ → Bool) → ((b : ℕ) → isFirst b ≡ true → is_name_byte b ≡ true) → (l : ℕ) → l ≤ length s → is_word isFirst (part s from l) ≡ true → (from < l) × (isFirst first ≡ true)
@@ -89,13 +86,17 @@ module _ (s : Bytes) (from : ℕ) (inside : from < length s) (class : ℕ) (is :
       let later : from < l = omega (arith, spelled.any) in
       (later, ap isFirst (sym (first_place l later)) ∙ spelled.first)
 
-  pub letter_refused : (class ≡ 1 → ⊥) → (class ≡ 2 → ⊥) → NoToken s from
-  letter_refused h k =
+  no_letter : is_lower first ≡ false → is_upper first ≡ false → NoToken s from
+  no_letter small capital =
       neither s from
-      (λ l high _ w. never_both (word_begins is_upper upper_in_name l high w).1 (no_capital k))
-      (λ l a w. never_both (word_begins is_lower lower_in_name l (omega (arith, a.inside)) w).1 (no_small h))
+      (λ l high _ w. never_both (word_begins is_upper upper_in_name l high w).1 capital)
+      (λ l a w. never_both (word_begins is_lower lower_in_name l (omega (arith, a.inside)) w).1 small)
 
-module _ (s : Bytes) (from : ℕ) (inside : from < length s) (class : ℕ) (is : Class (get_or s from 0) class) (e : ℕ) (word : EndsWord s (from + 1) e) where
+  pub letter_refused : (class_of first ≡ Inner) ⊎ (class_of first ≡ Outside) → NoToken s from
+  letter_refused (inl e) = no_letter (lower_is first ∙ ap is_small e) (upper_is first ∙ ap is_capital e)
+  letter_refused (inr e) = no_letter (lower_is first ∙ ap is_small e) (upper_is first ∙ ap is_capital e)
+
+module _ (s : Bytes) (from : ℕ) (inside : from < length s) (e : ℕ) (word : EndsWord s (from + 1) e) where
   after : from < e
   after = omega (arith, word.low)
 
@@ -108,7 +109,7 @@ module _ (s : Bytes) (from : ℕ) (inside : from < length s) (class : ℕ) (is :
     word_here : isFirst (get_or s from 0) ≡ true → e ≤ from + 16 → is_word isFirst (part s from e) ≡ true
     word_here h short =
         let wide : length (part s from e) ≡ e - from = part_length s from (e - from) e refl word.high in
-        spelled_word isFirst within (part s from e) (record { any = omega (arith, after); first = ap isFirst (first_place s from inside class is e after) ∙ h; named = (whole h).named; short = omega arith })
+        spelled_word isFirst within (part s from e) (record { any = omega (arith, after); first = ap isFirst (first_place s from inside e after) ∙ h; named = (whole h).named; short = omega arith })
 
     word_free : isFirst (get_or s from 0) ≡ true → is_free 32 (part s from e) ≡ true
     word_free h = free_from is_name_byte 32 space_no_name _ (whole h).named
@@ -118,7 +119,7 @@ module _ (s : Bytes) (from : ℕ) (inside : from < length s) (class : ℕ) (is :
     word_there l high stop h =
         let spelled = word_spelled isFirst within (part s from l) h in
         let wide : length (part s from l) ≡ l - from = part_length s from (l - from) l refl high in
-        let begins = word_begins s from inside class is isFirst within l high h in
+        let begins = word_begins s from inside isFirst within l high h in
         let same : e ≡ l = word_end_once (whole begins.1) (record { low = omega (arith, begins.0); high = high; named = spelled.named; ended = stop }) in
         (same, begins.1, omega (arith, spelled.short))
 
@@ -138,16 +139,16 @@ module _ (s : Bytes) (from : ℕ) (inside : from < length s) (class : ℕ) (is :
     near = omega (arith, after)
 
     -- a small letter
-    module _ (small : class ≡ 1) (arity : Bool) (decides : Decides arity (ArityAt s e)) where
+    module _ (small : class_of (get_or s from 0) ≡ Small) (arity : Bool) (decides : Decides arity (ArityAt s e)) where
       pub arity_refused : arity ≡ false → NoToken s from
-      arity_refused h = refused (λ upper _ _. never_both upper (no_capital s from inside class is (λ k. omega arith))) (λ _ _ a. decides.no h a)
+      arity_refused h = refused (λ upper _ _. never_both upper (upper_is _ ∙ ap is_capital small)) (λ _ _ a. decides.no h a)
 
       module _ (h : arity ≡ true) where
         there : ArityAt s e
         there = decides.yes h
 
         begins : is_lower (get_or s from 0) ≡ true
-        begins = is.lower ∙ equal-eqb class 1 small
+        begins = lower_is _ ∙ ap is_small small
 
         symbol_free : is_free 32 (part s from (e + 2)) ≡ true
         symbol_free =
@@ -175,13 +176,13 @@ module _ (s : Bytes) (from : ℕ) (inside : from < length s) (class : ℕ) (is :
             }
 
     -- a capital
-    module _ (capital : class ≡ 2) (fine : Bool) (decides : Decides fine (EndsAt s e)) where
+    module _ (capital : class_of (get_or s from 0) ≡ Capital) (fine : Bool) (decides : Decides fine (EndsAt s e)) where
       pub variable_refused : fine ≡ false → NoToken s from
-      variable_refused h = refused (λ _ _ end. decides.no h end) (λ lower _ _. never_both lower (no_small s from inside class is (λ k. omega arith)))
+      variable_refused h = refused (λ _ _ end. decides.no h end) (λ lower _ _. never_both lower (lower_is _ ∙ ap is_small capital))
 
       pub variable_found : fine ≡ true → (place : ℕ) → place ≡ from * 16 + (e - from - 1) → VariableFound s from e place
       variable_found h place at =
-          let begins : is_upper (get_or s from 0) ≡ true = is.upper ∙ equal-eqb class 2 capital in
+          let begins : is_upper (get_or s from 0) ≡ true = upper_is _ ∙ ap is_capital capital in
           let starts : start_of place ≡ from = omega (arith, after) in
           let ends : end_of place ≡ e = omega (arith, after) in
           let same : standing_at s place ≡ part s from e = ap₂ (part s) starts ends in

@@ -1,17 +1,16 @@
 -- The loop of `read_tokens`: the arities and the places of the tokens before a place, and how many terms are wanted from there on.
-use mathlib.Core.Path.{◌≡◌, refl, sym, ◌∙◌, ap}
-use mathlib.Core.Bool.{true, false, ◌&&◌, and-true, and-false}
+use mathlib.Core.Path.{◌≡◌, refl, sym, ◌∙◌, ap, subst}
+use mathlib.Core.Bool.{true, false}
 use mathlib.Core.List.{List, [], ◌∷◌, ◌++◌, map, map-append, append_assoc, append-nil}
 use Prim.Native.Nat.{ℕ, zero, suc, ◌+◌, ◌-◌, ◌*◌, ◌≤◌, ◌<◌}
 use native.Mathlib.Decide.{dec_lt, ℕ_discrete}
 use native.Mathlib.Numerals.{add-one}
 use native.Mathlib.Omega.{arith}
 use borrow.Author.Count.{below_more}
-use lib.Dec.{eqb, ltb}
+use lib.Dec.{eqb}
 use lib.ListN.{length, get_or, take, drop, set, length-set, length-map}
 use lib.Seq.{get_or-set_same, get_or-set_other, take-suc-set, length-take-le}
-use Rattle.groundwork.proofs.Truth.{never_both, lt-ltb, ge-ltb}
-use Rattle.theory.specs.Lists.{is_some}
+use Rattle.groundwork.proofs.Truth.{equal-eqb, eqb-different}
 use Rattle.theory.specs.Text.{Bytes, parts_at, is_word, is_variable}
 use Rattle.theory.specs.Terms.{no_token, symbol_in, token_of}
 use Rattle.theory.specs.Faults.{is_term}
@@ -20,8 +19,10 @@ use Rattle.theory.proofs.Reading.Tokens.{token_of_variable}
 use Rattle.text.specs.Scans.{part, Finds, parts_from}
 use Rattle.text.proofs.Cuts.{parts_all, parts_done, parts_step}
 use Rattle.text.proofs.Parts.{free_none, free_more}
+use Rattle.std.specs.Prelude.{Some, None}
 use Rattle.tokens.specs.declared.Tokens.{Tokens}
-use Rattle.tokens.specs.TokenRows.{standing_at, VariableAt, TokensRead}
+use Rattle.tokens.specs.declared.TokenRoom.{TokenRoom}
+use Rattle.tokens.specs.TokenRows.{standing_at, VariableAt, TokensStand, TokensRead}
 use Rattle.tokens.proofs.TokenKinds.{symbol_token_lem}
 use Rattle.tokens.proofs.Scan.{scan, scan_unwanted, scan_no_token, scan_takes_variable, scan_takes_symbol, scan_end, scan_is_term}
 use Rattle.tokens.proofs.TermTokens.{token_arities, variable_tokens, arities_symbol, arities_variable, variable_first, other_first, term_tokens}
@@ -72,10 +73,16 @@ empty_no_token : token_of [] ≡ no_token
 unfolding token_of is_word parts_at symbol_in
 empty_no_token = refl
 
-module _ (field : Bytes) (arities places : List ℕ) (wanted symbols variables from : ℕ) (reading : Reading field arities places wanted symbols variables from) where
-  pub refused : false ≡ is_term field → (r : Tokens) → r.fine ≡ false → TokensRead field r arities places
-  unfolding is_some
-  refused none r h = record { fine = h ∙ none; arity_size = reading.arity_size; place_size = reading.place_size; stand = λ k. never_both k h; many = λ t e. never_both (ap is_some e) (sym none) }
+-- a field that is no term, whatever the room holds
+pub no_term_read : (field : Bytes) → false ≡ is_term field → (room : TokenRoom) → TokensRead field None room
+no_term_read field none_there room = record { fine = none_there; stand = λ read e. let never : ◌≡◌ {A = ℕ} 0 1 = cc in absurd (omega arith) }
+
+module _ (field : Bytes) (room : TokenRoom) (wanted symbols variables from : ℕ) (reading : Reading field room.arities room.places wanted symbols variables from) where
+  abbrev arities : List ℕ
+  arities = room.arities
+
+  abbrev places : List ℕ
+  places = room.places
 
   module _ (more : from ≤ length field) where
     -- with the next token in front
@@ -91,11 +98,11 @@ module _ (field : Bytes) (arities places : List ℕ) (wanted symbols variables f
     near : from ≤ length field
     near = omega arith
 
-    pub read_unwanted : wanted ≡ 0 → (r : Tokens) → r.fine ≡ false → TokensRead field r arities places
-    read_unwanted e = let next = token_end field from (omega arith) in refused (sym (rw e (scan_unwanted _ _)) ∙ reading_at near next.0 next.1)
+    pub read_unwanted : wanted ≡ 0 → (left : TokenRoom) → TokensRead field None left
+    read_unwanted e = let next = token_end field from (omega arith) in no_term_read field (sym (rw e (scan_unwanted _ _)) ∙ reading_at near next.0 next.1)
 
-    pub read_no_token : NoToken field from → (r : Tokens) → r.fine ≡ false → TokensRead field r arities places
-    read_no_token nothing = refused (no_term_here near nothing)
+    pub read_no_token : NoToken field from → (left : TokenRoom) → TokensRead field None left
+    read_no_token nothing = no_term_read field (no_term_here near nothing)
 
     module _ (short : length field ≤ 1024) (any : wanted ≡ 0 → ⊥) (e : ℕ) where
       pub reading_symbol : (arity wide : ℕ) → SymbolFound field from e arity → wide ≡ arity → Reading field (set arities symbols arity) places (wanted - 1 + wide) (symbols + 1) variables (e + 3)
@@ -149,30 +156,39 @@ module _ (field : Bytes) (arities places : List ℕ) (wanted symbols variables f
 
   -- ---- after the last token
 
-  pub read_all : length field ≤ 1024 → length field ≤ from → TokensRead field record { symbols = symbols; variables = variables; fine = eqb wanted 0 && ltb (length field) from } arities places
-  unfolding variable_tokens token_arities
-  read_all short past = by (dec_lt (length field) from)
+  module _ (past : length field < from) where
+    none_after : parts_from 32 field from ≡ []
+    none_after = parts_done 32 field from past
+
+    all_read : eqb wanted 0 ≡ is_term field
+    all_read = sym (scan_end wanted) ∙ rw (← none_after) reading.rest
+
+    wanting_past : (wanted ≡ 0 → ⊥) → (left : TokenRoom) → TokensRead field None left
+    wanting_past more = no_term_read field (sym (eqb-different wanted 0 more) ∙ all_read)
+
+    pub read_all : length field ≤ 1024 → wanted ≡ 0 → TokensRead field (Some record { symbols = symbols; variables = variables }) room
+    unfolding variable_tokens token_arities
+    read_all short e =
+        let few : symbols + variables ≤ 512 = omega (arith, reading.room, reading.high) in
+        let found : map (standing_at field) (take variables places) ≡ variable_tokens (parts_at 32 field) = sym (append-nil _) ∙ rw none_after at reading.all in
+        let many : length (variable_tokens (parts_at 32 field)) ≡ variables = ap length (sym found) ∙ length-map (take variables places) (standing_at field) ∙ length-take-le variables places (omega (arith, reading.place_size)) in
+        let stand : TokensStand field record { symbols = symbols; variables = variables } room = record {
+          symbols = record { digits = record { few = omega arith; small = reading.digits }; all = λ t e. sym (term_tokens field t e).numbers ∙ sym (sym (append-nil _) ∙ rw none_after at reading.numbers) };
+          places = record { few = omega arith; wide = reading.place_size; each = reading.each; all = λ t e. sym (found ∙ (term_tokens field t e).names) };
+          many = λ t e. sym (ap length (sym (term_tokens field t e).names) ∙ many);
+        } in
+        record { fine = sym (equal-eqb wanted 0 e) ∙ all_read; stand = λ read is. let same : record { symbols = symbols; variables = variables } ≡ read = cc in subst (λ (r : Tokens). TokensStand field r room) same stand }
+
+  -- the last token is empty
+  pub read_open : length field ≤ from → from ≤ length field → (left : TokenRoom) → TokensRead field None left
+  read_open past ahead =
+      no_term_read field
+      (no_term_here ahead (record { none = λ end found. let nothing : end - from ≡ 0 = omega (arith, found.high) in ap (λ (n : ℕ). token_of (take n (drop from field))) nothing ∙ empty_no_token }))
+
+  -- terms are wanted yet
+  pub read_wanting : length field ≤ from → (wanted ≡ 0 → ⊥) → (left : TokenRoom) → TokensRead field None left
+  read_wanting past more = by (dec_lt (length field) from)
     where
-      by : Dec (length field < from) → TokensRead field record { symbols = symbols; variables = variables; fine = eqb wanted 0 && ltb (length field) from } arities places
-      by (yes beyond) =
-          let none : parts_from 32 field from ≡ [] = parts_done 32 field from beyond in
-          let few : symbols + variables ≤ 512 = omega (arith, reading.room, reading.high) in
-          let found : map (standing_at field) (take variables places) ≡ variable_tokens (parts_at 32 field) = sym (append-nil _) ∙ rw none at reading.all in
-          let many : length (variable_tokens (parts_at 32 field)) ≡ variables = ap length (sym found) ∙ length-map (take variables places) (standing_at field) ∙ length-take-le variables places (omega (arith, reading.place_size)) in
-          record {
-            fine = simp (lt-ltb (length field) from beyond, and-true) (sym (scan_end wanted) ∙ rw (← none) reading.rest);
-            arity_size = reading.arity_size;
-            place_size = reading.place_size;
-            stand = λ _. (
-              record { digits = record { few = omega arith; small = reading.digits }; all = λ t e. sym (term_tokens field t e).numbers ∙ sym (sym (append-nil _) ∙ rw none at reading.numbers) },
-              record { few = omega arith; wide = reading.place_size; each = reading.each; all = λ t e. sym (found ∙ (term_tokens field t e).names) },
-            );
-            many = λ t e. sym (ap length (sym (term_tokens field t e).names) ∙ many);
-          }
-      by (no ahead) =
-          let at_end_lem : from ≤ length field = omega arith in
-          let fails : ltb (length field) from ≡ false = ge-ltb (length field) from at_end_lem in
-          refused
-          (no_term_here at_end_lem (record { none = λ end found. let nothing : end - from ≡ 0 = omega (arith, found.high) in ap (λ (n : ℕ). token_of (take n (drop from field))) nothing ∙ empty_no_token }))
-          record { symbols = symbols; variables = variables; fine = eqb wanted 0 && ltb (length field) from }
-          (simp (fails, and-false))
+      by : Dec (length field < from) → (left : TokenRoom) → TokensRead field None left
+      by (yes beyond) = wanting_past beyond more
+      by (no ahead) = read_open past (omega arith)

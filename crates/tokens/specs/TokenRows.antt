@@ -1,5 +1,5 @@
 -- A term's tokens read once, into two rows for the two steps of its size: the arities of its symbols and the places of its variables.
-use Rattle.std.specs.Prelude.{◌≡◌, true, List, map, ℕ, ◌+◌, ◌/◌, ◌%◌, ◌≤◌, ◌<◌, length, get_or, take}
+use Rattle.std.specs.Prelude.{◌≡◌, true, Option, Some, is_some, List, map, ℕ, ◌+◌, ◌/◌, ◌%◌, ◌≤◌, ◌<◌, length, get_or, take}
 use Rattle.std.proofs.Math.Option.{some}
 use Rattle.theory.specs.Text.{Bytes, is_digit, is_variable}
 use Rattle.theory.specs.Terms.{Term, read_term, variables}
@@ -7,6 +7,7 @@ use Rattle.theory.specs.Sizes.{arities_of}
 use Rattle.theory.specs.Faults.{is_term}
 use Rattle.text.specs.Scans.{part}
 use Rattle.tokens.specs.declared.Tokens.{Tokens}
+use Rattle.tokens.specs.declared.TokenRoom.{TokenRoom}
 
 -- a space or nothing stands at a place
 pub record EndsAt (s : Bytes) (at : ℕ) : Type 0 where
@@ -50,13 +51,13 @@ pub record PlacesStand (field : Bytes) (places : List ℕ) (count : ℕ) : Type 
   pub each : (i : ℕ) → i < count → VariableAt field (get_or places i 0)
   pub all : (t : Term) → read_term field ≡ some t → variables t ≡ map (standing_at field) (take count places)
 
-pub record TokensRead (field : Bytes) (r : Tokens) (arities places : List ℕ) : Type 0 where
-  pub fine : r.fine ≡ is_term field
-  pub arity_size : length arities ≡ 512
-  pub place_size : length places ≡ 512
-  pub stand : r.fine ≡ true → SymbolsStand field arities r.symbols × PlacesStand field places r.variables
-  pub many : (t : Term) → read_term field ≡ some t → r.variables ≡ length (variables t)
+-- what the room holds of a field that is a term
+pub record TokensStand (field : Bytes) (read : Tokens) (room : TokenRoom) : Type 0 where
+  pub symbols : SymbolsStand field room.arities read.symbols
+  pub places : PlacesStand field room.places read.variables
+  pub many : (t : Term) → read_term field ≡ some t → read.variables ≡ length (variables t)
 
--- the same of a field that begins with a capital: there are no symbols to read
-pub record VariableRead (field : Bytes) (r : Tokens) (places : List ℕ) : Type 0 where
-  pub is : (arities : List ℕ) → length arities ≡ 512 → TokensRead field r arities places
+-- a field is read exactly if it is a term
+pub record TokensRead (field : Bytes) (r : Option Tokens) (room : TokenRoom) : Type 0 where
+  pub fine : is_some r ≡ is_term field
+  pub stand : (read : Tokens) → r ≡ Some read → TokensStand field read room

@@ -3,9 +3,11 @@
 
 ghost use Rattle.std.specs.Prelude.{◌≡◌, false, ◌+◌, ◌-◌, ◌*◌, ◌≤◌, ◌<◌, length, get_or};
 ghost use Rattle.theory.specs.Text.{is_digit};
-ghost use Rattle.words.specs.Classes.{Class, Classes};
+ghost use Rattle.words.specs.Classes.{class_of};
 ghost use Rattle.groundwork.proofs.Truth.{Decides};
-ghost use Rattle.tokens.specs.TokenRows.{EndsAt, ArityAt, VariableRead, TokensRead, start_of, end_of};
+ghost use Rattle.tokens.specs.TokenRows.{EndsAt, ArityAt, TokensRead, start_of, end_of};
+
+use words::{Class, ClassTable};
 
 fn is_digit(b: u8) -> bool
     ensures { result ≡ is_digit b }
@@ -69,7 +71,7 @@ fn place_of(start: usize, end: usize) -> u16
     requires { (start < 1024) × (start < end) × (end ≤ start + 16) }
     ensures { result ≡ start * 16 + (end - start - 1) }
 {
-    widths::usize_to_u16(start * 16 + (end - start - 1))
+    (start * 16 + (end - start - 1)) as u16
 }
 
 /// Where the variable at a place starts.
@@ -86,36 +88,35 @@ pub fn end_of(place: u16) -> usize
     (place / 16 + place % 16 + 1) as usize
 }
 
-/// What was read of a field: how many symbols and variables, and whether it is a term.
+/// What was read of a field that is a term: how many symbols and variables.
 #[derive(Clone, Copy)]
 pub struct Tokens {
     pub symbols: usize,
     pub variables: usize,
-    pub fine: bool,
 }
 
-fn no_term() -> Tokens
-    ensures { result.fine ≡ false }
-{
-    Tokens {
-        symbols: 0,
-        variables: 0,
-        fine: false,
+/// Room for what the tokens of a field say: the arities of its symbols, and the places of its variables.
+#[derive(Drop)]
+pub struct TokenRoom {
+    pub arities: [u8; 512],
+    pub places: [u16; 512],
+}
+
+impl TokenRoom {
+    pub fn empty() -> TokenRoom {
+        TokenRoom {
+            arities: [0; 512],
+            places: [0; 512],
+        }
     }
 }
 
-/// Reads the tokens of a field, and whether it is a term: each token in turn fills one place and opens as many as its arity,
-/// and none is left at the end. Of a term, `arities` then begins with the arities of its symbols, and `places` with the
-/// places of its variables. A word's end is looked for in two places, one for each kind of token: the loops are then
-/// predicted better.
-pub fn read_tokens(
-    field: &[u8],
-    classes: &[u8; 256],
-    arities: &mut [u8; 512],
-    places: &mut [u16; 512],
-) -> Tokens
-    requires { (length field.now ≤ 1024) × Classes classes.now × (length arities.old ≡ 512) × (length places.old ≡ 512) }
-    ensures { TokensRead field.now result arities.new places.new }
+/// Reads the tokens of a field, if it is a term: each token in turn fills one place and opens as many as its arity, and none is
+/// left at the end. Of a term, the room's `arities` then begin with the arities of its symbols, and `places` with the places of
+/// its variables. A word's end is looked for in two places, one for each kind of token: the loops are then predicted better.
+pub fn read_tokens(field: &[u8], classes: &ClassTable, room: &mut TokenRoom) -> Option<Tokens>
+    requires { length field.now ≤ 1024 }
+    ensures { TokensRead field.now result room.new }
 {
     let mut wanted: usize = 1;
     let mut symbols: usize = 0;
@@ -123,81 +124,69 @@ pub fn read_tokens(
     let mut from: usize = 0;
     while from < field.len() {
         if wanted == 0 {
-            return no_term();
+            return None;
         }
-        let class = words::class_of(field[from], classes);
-        if class == 1 {
-            let end = words::word_end(field, from + 1, classes);
-            if 16 < end - from {
-                return no_term();
+        match classes.class_of(field[from]) {
+            Class::Small => {
+                let end = classes.word_end(field, from + 1);
+                if 16 < end - from || !has_arity(field, end) {
+                    return None;
+                }
+                let arity = digit_of(field[end + 1]);
+                room.arities[symbols] = arity;
+                symbols += 1;
+                wanted = wanted - 1 + arity as usize;
+                from = end + 3;
             }
-            if !has_arity(field, end) {
-                return no_term();
+            Class::Capital => {
+                let end = classes.word_end(field, from + 1);
+                if 16 < end - from || !is_end(field, end) {
+                    return None;
+                }
+                room.places[variables] = place_of(from, end);
+                variables += 1;
+                wanted -= 1;
+                from = end + 1;
             }
-            let arity = digit_of(field[end + 1]);
-            arities[symbols] = arity;
-            symbols += 1;
-            wanted = wanted - 1 + widths::u8_to_usize(arity);
-            from = end + 3;
-        } else {
-            if class != 2 {
-                return no_term();
-            }
-            let end = words::word_end(field, from + 1, classes);
-            if 16 < end - from {
-                return no_term();
-            }
-            if !is_end(field, end) {
-                return no_term();
-            }
-            places[variables] = place_of(from, end);
-            variables += 1;
-            wanted -= 1;
-            from = end + 1;
+            Class::Inner | Class::Outside => return None,
         }
     }
-    Tokens {
-        symbols,
-        variables,
-        fine: (wanted == 0) & (field.len() < from),
+    if wanted == 0 && field.len() < from {
+        Some(Tokens { symbols, variables })
+    } else {
+        None
     }
 }
 
 /// As `read_tokens`, of a field that begins with a capital: it is one variable or no term.
-fn read_variable(field: &[u8], classes: &[u8; 256], places: &mut [u16; 512]) -> Tokens
-    requires { (0 < length field.now) × (length field.now ≤ 1024) × (Class (get_or field.now 0 0) 2) × Classes classes.now × (length places.old ≡ 512) }
-    ensures { VariableRead field.now result places.new }
+fn read_variable(field: &[u8], classes: &ClassTable, room: &mut TokenRoom) -> Option<Tokens>
+    requires { (0 < length field.now) × (length field.now ≤ 1024) × (class_of (get_or field.now 0 0) ≡ Class.Capital) }
+    ensures { TokensRead field.now result room.new }
 {
-    let end = words::word_end(field, 1, classes);
+    let end = classes.word_end(field, 1);
     if end < field.len() {
-        return no_term();
+        return None;
     }
     if 16 < end {
-        return no_term();
+        return None;
     }
-    places[0] = place_of(0, end);
-    Tokens {
+    room.places[0] = place_of(0, end);
+    Some(Tokens {
         symbols: 0,
         variables: 1,
-        fine: true,
-    }
+    })
 }
 
 /// As `read_tokens`, of an argument of an atom: most are one variable.
-pub fn read_argument(
-    field: &[u8],
-    classes: &[u8; 256],
-    arities: &mut [u8; 512],
-    places: &mut [u16; 512],
-) -> Tokens
-    requires { (length field.now ≤ 1024) × Classes classes.now × (length arities.old ≡ 512) × (length places.old ≡ 512) }
-    ensures { TokensRead field.now result arities.new places.new }
+pub fn read_argument(field: &[u8], classes: &ClassTable, room: &mut TokenRoom) -> Option<Tokens>
+    requires { length field.now ≤ 1024 }
+    ensures { TokensRead field.now result room.new }
 {
-    if field.len() == 0 {
-        return no_term();
+    let [first, ..] = field else {
+        return None;
+    };
+    if classes.class_of(*first) == Class::Capital {
+        return read_variable(field, classes, room);
     }
-    if words::class_of(field[0], classes) == 2 {
-        return read_variable(field, classes, places);
-    }
-    read_tokens(field, classes, arities, places)
+    read_tokens(field, classes, room)
 }

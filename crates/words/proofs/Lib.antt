@@ -3,7 +3,7 @@ pub mod WordLaws
 pub mod WordKinds
 pub mod Letters
 -- What the functions' proofs cite.
-pub mod Entries
+pub mod ClassLaws
 pub mod WordEnds
 pub mod FewBytes
 pub mod WordBytes

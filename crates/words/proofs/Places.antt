@@ -1,13 +1,10 @@
 -- The loop of `place`: the words do not stand at the places passed. And what `place_by` finds by a hint.
-use mathlib.Core.Path.{◌≡◌, ap, ap₂}
-use mathlib.Core.List.{List}
-use Prim.Native.Nat.{ℕ, ◌+◌, ◌*◌, ◌≤◌, ◌<◌}
+use mathlib.Core.Path.{◌≡◌}
+use Prim.Native.Nat.{ℕ, ◌+◌, ◌≤◌, ◌<◌}
 use borrow.Author.Count.{below_more}
 use native.Mathlib.Omega.{arith}
 use lib.Bits.{bit_and, mask_lt}
-use lib.ListN.{get_or}
-use Rattle.words.specs.Words.{words_at, StandsAt}
-use Rattle.words.specs.declared.Words.{Words}
+use Rattle.words.specs.Words.{StandsAt}
 
 pub hash_small : (x : ℕ) → bit_and x 127 < 128
 hash_small x = mask_lt x 7
@@ -31,15 +28,3 @@ module _ {A : Type 0} (at : ℕ → A) (known : ℕ) (x : A) where
 
   pub stands_here : (i : ℕ) → i < known → at i ≡ x → StandsAt at known x i
   stands_here i h here = record { high = omega arith; found = λ _. here; nowhere = λ k. absurd (omega arith) }
-
--- ---- words, which are two numbers
-
-module _ (names : List ℕ) (words : Words) (i : ℕ) where
-  pub same_words : get_or names (2 * i) 0 ≡ words.first → get_or names (2 * i + 1) 0 ≡ words.second → words_at names i ≡ words
-  same_words first second = ap₂ (λ f s. record { first = f; second = s }) first second
-
-  pub other_first : (get_or names (2 * i) 0 ≡ words.first → ⊥) → words_at names i ≡ words → ⊥
-  other_first other e = other (ap (λ w. w.first) e)
-
-  pub other_second : (get_or names (2 * i + 1) 0 ≡ words.second → ⊥) → words_at names i ≡ words → ⊥
-  other_second other e = other (ap (λ w. w.second) e)

@@ -1,15 +1,24 @@
 -- The loop of `word_end`: the bytes passed are those of a name.
-use mathlib.Core.Path.{◌≡◌, ◌∙◌}
-use mathlib.Core.Bool.{true}
+use mathlib.Core.Path.{◌≡◌, refl, ◌∙◌, ap}
+use mathlib.Core.Bool.{true, false, not}
 use Prim.Native.Nat.{ℕ, ◌+◌, ◌≤◌, ◌<◌}
 use native.Mathlib.Omega.{arith}
 use lib.ListN.{length, get_or}
-use Rattle.groundwork.proofs.Truth.{equal-eqb, eqb-different}
 use Rattle.theory.specs.Lists.{every}
 use Rattle.theory.specs.Text.{Bytes, is_name_byte}
 use Rattle.text.specs.Scans.{part}
 use Rattle.text.proofs.Parts.{every_none, every_more}
-use Rattle.words.specs.Classes.{Class, EndsWord}
+use Rattle.words.specs.Classes.{class_of, EndsWord}
+use Rattle.words.specs.declared.table.Class.{Class}
+use Rattle.words.specs.declared.table.Class.TheVariants.{Outside, Small, Capital, Inner}
+use Rattle.words.proofs.ClassLaws.{is_outside, named_is}
+
+-- a byte that is not outside names
+inside : (c : Class) → (c ≡ Outside → ⊥) → is_outside c ≡ false
+inside Outside other = absurd (other refl)
+inside Small other = refl
+inside Capital other = refl
+inside Inner other = refl
 
 -- the bytes from `from` up to i are all of a name
 pub record Named (s : Bytes) (from i : ℕ) : Type 0 where
@@ -22,15 +31,17 @@ module _ (s : Bytes) (from : ℕ) where
   named_none h = record { low = omega arith; high = h; named = every_none s is_name_byte from }
 
   module _ (i : ℕ) (n : Named s from i) where
-    pub named_more : i < length s → (class : ℕ) → Class (get_or s i 0) class → (class ≡ 0 → ⊥) → Named s from (i + 1)
-    named_more h class is other = record {
+    pub named_more : i < length s → (class_of (get_or s i 0) ≡ Outside → ⊥) → Named s from (i + 1)
+    named_more h other = record {
       low = omega (arith, n.low);
       high = omega arith;
-      named = every_more s is_name_byte from i n.low h n.named (is.named ∙ rw (eqb-different class 0 other));
+      named = every_more s is_name_byte from i n.low h n.named (named_is (get_or s i 0) ∙ ap not (inside (class_of (get_or s i 0)) other));
     }
 
-    pub named_ended : (class : ℕ) → Class (get_or s i 0) class → class ≡ 0 → EndsWord s from i
-    named_ended class is none = record { low = n.low; high = n.high; named = n.named; ended = λ _. is.named ∙ rw (equal-eqb class 0 none) }
+    pub named_ended : class_of (get_or s i 0) ≡ Outside → EndsWord s from i
+    named_ended none = record { low = n.low; high = n.high; named = n.named; ended = λ _. named_is (get_or s i 0) ∙ ap (λ (c : Class). not (is_outside c)) none }
 
-    pub named_all : length s ≤ i → EndsWord s from i
-    named_all h = record { low = n.low; high = n.high; named = n.named; ended = λ k. absurd (omega arith) }
+    pub named_all : length s ≤ i → EndsWord s from (length s)
+    named_all h =
+        let end : i ≡ length s = omega (arith, n.high) in
+        record { low = omega (arith, n.low); high = omega arith; named = rw (← end) n.named; ended = λ k. absurd (omega arith) }

@@ -1,5 +1,5 @@
 -- A name or a variable as two words of eight bytes, so that two are compared at once.
-use Rattle.std.specs.Prelude.{◌≡◌, true, false, List, ℕ, ◌+◌, ◌*◌, ◌≤◌, ◌<◌, get_or, take, drop}
+use Rattle.std.specs.Prelude.{◌≡◌, true, false, List, ℕ, ◌≤◌, ◌<◌, get_or, take, drop}
 use Rattle.theory.specs.Text.{Bytes, is_name, is_variable}
 use Rattle.text.specs.ByteNumbers.{number}
 use Rattle.words.specs.declared.Words.{Words}
@@ -16,9 +16,9 @@ pub data WordRead (bs : Bytes) : Word → Type 0 where
   variable : is_variable bs ≡ true → WordRead bs (Variable (words_of bs))
   neither : is_name bs ≡ false → is_variable bs ≡ false → WordRead bs Neither
 
--- a table of words, two numbers for each: the words at a place
-abbrev pub words_at : List ℕ → ℕ → Words
-words_at names i = record { first = get_or names (2 * i) 0; second = get_or names (2 * i + 1) 0 }
+-- the words at a place of a table, and two numbers 0 past its end
+abbrev pub words_at : List Words → ℕ → Words
+words_at names i = get_or names i record { first = 0; second = 0 }
 
 -- of what stands at places: r is a place of x among the first `known`, or `known` where it stands at none of those
 pub record StandsAt {A : Type 0} (at : ℕ → A) (known : ℕ) (x : A) (r : ℕ) : Type 0 where

@@ -66,7 +66,7 @@ fn few_bytes(bytes: &[u8]) -> u64
         return to_four(bytes);
     }
     if count == 1 {
-        return widths::u8_to_u64(bytes[0]);
+        return bytes[0] as u64;
     }
     0
 }

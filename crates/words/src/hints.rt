@@ -21,18 +21,12 @@ pub fn place_by(names: &WordTable, known: usize, words: Words, hints: &mut Hints
     requires { known ≤ 32 }
     ensures { StandsAt (words_at names.now) known words result }
 {
-    let first = words.first;
-    let second = words.second;
     let key = hash(words, 0);
-    let hint = widths::u8_to_usize(hints[key]);
-    if hint < known {
-        if names[2 * hint] == first {
-            if names[2 * hint + 1] == second {
-                return hint;
-            }
-        }
+    let hint = hints[key] as usize;
+    if hint < known && names[hint] == words {
+        return hint;
     }
     let at = super::place(names, known, words);
-    hints[key] = widths::usize_to_u8(at);
+    hints[key] = at as u8;
     at
 }

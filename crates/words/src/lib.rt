@@ -10,10 +10,10 @@ mod table;
 
 pub use few::{words_at, words_of};
 pub use hints::{Hints, hash, place_by};
-pub use table::{class_of, class_table, word_end, word_of};
+pub use table::{Class, ClassTable};
 
 /// A name or a variable as two words of eight bytes.
-#[derive(Clone, Copy)]
+#[derive(Clone, Copy, PartialEq, Eq)]
 pub struct Words {
     pub first: u64,
     pub second: u64,
@@ -27,24 +27,18 @@ pub enum Word {
     Neither,
 }
 
-/// The words of up to 32 names or variables, two numbers each.
-pub type WordTable = [u64; 64];
+/// The words of up to 32 names or variables.
+pub type WordTable = [Words; 32];
 
 /// Where words stand among the first of a table, or how many those are.
 pub fn place(names: &WordTable, known: usize, words: Words) -> usize
     requires { known ≤ 32 }
     ensures { StandsAt (words_at names.now) known words result }
 {
-    let first = words.first;
-    let second = words.second;
-    let mut i: usize = 0;
-    while i < known {
-        if names[2 * i] == first {
-            if names[2 * i + 1] == second {
-                return i;
-            }
+    for i in 0..known {
+        if names[i] == words {
+            return i;
         }
-        i += 1;
     }
-    i
+    known
 }

@@ -1,75 +1,87 @@
 // The classes of bytes as a table, so that the test of a name byte is one look, and what is read by it.
-ghost use Rattle.std.specs.Prelude.{◌≤◌, length};
-ghost use Rattle.words.specs.Classes.{Class, Classes, EndsWord};
+ghost use Rattle.std.specs.Prelude.{◌≡◌, ◌≤◌, length};
+ghost use Rattle.words.specs.Classes.{class_of, ClassesStand, EndsWord};
 ghost use Rattle.words.specs.Words.{WordRead};
 
 use super::Word;
 
-/// Of each byte: 1 for a small letter, 2 for a capital, 3 for a digit or an underscore, 0 for what no name has.
-const CLASSES: [u8; 256] = [
-    0, 0, 0, 0, 0, 0, 0, 0, 0, 0, 0, 0, 0, 0, 0, 0, 0, 0, 0, 0, 0, 0, 0, 0, 0, 0, 0, 0, 0, 0, 0, 0,
-    0, 0, 0, 0, 0, 0, 0, 0, 0, 0, 0, 0, 0, 0, 0, 0, 3, 3, 3, 3, 3, 3, 3, 3, 3, 3, 0, 0, 0, 0, 0, 0,
-    0, 2, 2, 2, 2, 2, 2, 2, 2, 2, 2, 2, 2, 2, 2, 2, 2, 2, 2, 2, 2, 2, 2, 2, 2, 2, 2, 0, 0, 0, 0, 3,
-    0, 1, 1, 1, 1, 1, 1, 1, 1, 1, 1, 1, 1, 1, 1, 1, 1, 1, 1, 1, 1, 1, 1, 1, 1, 1, 1, 0, 0, 0, 0, 0,
-    0, 0, 0, 0, 0, 0, 0, 0, 0, 0, 0, 0, 0, 0, 0, 0, 0, 0, 0, 0, 0, 0, 0, 0, 0, 0, 0, 0, 0, 0, 0, 0,
-    0, 0, 0, 0, 0, 0, 0, 0, 0, 0, 0, 0, 0, 0, 0, 0, 0, 0, 0, 0, 0, 0, 0, 0, 0, 0, 0, 0, 0, 0, 0, 0,
-    0, 0, 0, 0, 0, 0, 0, 0, 0, 0, 0, 0, 0, 0, 0, 0, 0, 0, 0, 0, 0, 0, 0, 0, 0, 0, 0, 0, 0, 0, 0, 0,
-    0, 0, 0, 0, 0, 0, 0, 0, 0, 0, 0, 0, 0, 0, 0, 0, 0, 0, 0, 0, 0, 0, 0, 0, 0, 0, 0, 0, 0, 0, 0, 0,
+/// What a byte is in a name or a variable: a small letter, a capital, another byte that may stand there, or none that may.
+#[derive(Clone, Copy, PartialEq, Eq)]
+pub enum Class {
+    Outside,
+    Small,
+    Capital,
+    Inner,
+}
+
+const O: Class = Class::Outside;
+
+const S: Class = Class::Small;
+
+const C: Class = Class::Capital;
+
+const I: Class = Class::Inner;
+
+/// The class of each byte.
+const CLASSES: [Class; 256] = [
+    O, O, O, O, O, O, O, O, O, O, O, O, O, O, O, O, O, O, O, O, O, O, O, O, O, O, O, O, O, O, O, O,
+    O, O, O, O, O, O, O, O, O, O, O, O, O, O, O, O, I, I, I, I, I, I, I, I, I, I, O, O, O, O, O, O,
+    O, C, C, C, C, C, C, C, C, C, C, C, C, C, C, C, C, C, C, C, C, C, C, C, C, C, C, O, O, O, O, I,
+    O, S, S, S, S, S, S, S, S, S, S, S, S, S, S, S, S, S, S, S, S, S, S, S, S, S, S, O, O, O, O, O,
+    O, O, O, O, O, O, O, O, O, O, O, O, O, O, O, O, O, O, O, O, O, O, O, O, O, O, O, O, O, O, O, O,
+    O, O, O, O, O, O, O, O, O, O, O, O, O, O, O, O, O, O, O, O, O, O, O, O, O, O, O, O, O, O, O, O,
+    O, O, O, O, O, O, O, O, O, O, O, O, O, O, O, O, O, O, O, O, O, O, O, O, O, O, O, O, O, O, O, O,
+    O, O, O, O, O, O, O, O, O, O, O, O, O, O, O, O, O, O, O, O, O, O, O, O, O, O, O, O, O, O, O, O,
 ];
 
-/// The table, to be kept in a local and lent: an index into the constant itself writes all of it out anew.
-pub fn class_table() -> [u8; 256]
-    ensures { Classes result }
-{
-    CLASSES
+/// The table of the classes of all bytes, to be kept in a local and lent: an index into the constant itself writes all of it
+/// out anew.
+#[derive(Drop)]
+pub struct ClassTable {
+    classes: [Class; 256],
+    ghost right: { ClassesStand classes },
 }
 
-/// The class of a byte, by the table.
-pub fn class_of(b: u8, classes: &[u8; 256]) -> u8
-    requires { Classes classes.now }
-    ensures { Class b result }
-{
-    classes[widths::u8_to_usize(b)]
-}
+impl ClassTable {
+    pub fn standard() -> ClassTable {
+        ClassTable { classes: CLASSES }
+    }
 
-/// The first place at or after `from` whose byte no name has, or the length.
-pub fn word_end(bytes: &[u8], from: usize, classes: &[u8; 256]) -> usize
-    requires { (from ≤ length bytes.now) × Classes classes.now }
-    ensures { EndsWord bytes.now from result }
-{
-    let mut i = from;
-    while i < bytes.len() {
-        if class_of(bytes[i], classes) == 0 {
-            return i;
+    /// The class of a byte.
+    pub fn class_of(&self, b: u8) -> Class
+        ensures { result ≡ class_of b }
+    {
+        self.classes[b as usize]
+    }
+
+    /// The first place at or after `from` whose byte no name has, or the length.
+    pub fn word_end(&self, bytes: &[u8], from: usize) -> usize
+        requires { from ≤ length bytes.now }
+        ensures { EndsWord bytes.now from result }
+    {
+        for i in from..bytes.len() {
+            if self.class_of(bytes[i]) == Class::Outside {
+                return i;
+            }
         }
-        i += 1;
+        bytes.len()
     }
-    i
-}
 
-/// A field as a word: a name, a variable or neither.
-#[tactic(auto, using(crate::proofs::FieldWords::field_long))]
-pub fn word_of(field: &[u8], classes: &[u8; 256]) -> Word
-    requires { Classes classes.now }
-    ensures { WordRead field.now result }
-{
-    let count = field.len();
-    if count == 0 {
-        return Word::Neither;
+    /// A field as a word: a name, a variable or neither.
+    pub fn word_of(&self, field: &[u8]) -> Word
+        ensures { WordRead field.now result }
+    {
+        let [first, ..] = field else {
+            return Word::Neither;
+        };
+        if 16 < field.len() || self.word_end(field, 0) < field.len() {
+            return Word::Neither;
+        }
+        let words = super::words_of(field);
+        match self.class_of(*first) {
+            Class::Small => Word::Name(words),
+            Class::Capital => Word::Variable(words),
+            Class::Inner | Class::Outside => Word::Neither,
+        }
     }
-    if 16 < count {
-        return Word::Neither;
-    }
-    if word_end(field, 0, classes) < count {
-        return Word::Neither;
-    }
-    let words = super::words_of(field);
-    let class = class_of(field[0], classes);
-    if class == 1 {
-        return Word::Name(words);
-    }
-    if class == 2 {
-        return Word::Variable(words);
-    }
-    Word::Neither
 }

@@ -1,9 +1,5 @@
-use Prim.Native.Nat.{◌-◌}
 use Rattle.terms.proofs.PlaceLoop.{Counting}
 use Rattle.terms.proofs.count_occurrences.Given as goal
 
 abbrev pub invariant-loop-counted : goal.invariant-loop-counted
 invariant-loop-counted l = Counting l.field l.places l.count l.initial.names l.known l.initial.rows l.base l.counted l.many l.names l.rows
-
-abbrev pub decreases-loop-counted : goal.decreases-loop-counted
-decreases-loop-counted l = l.count - l.counted

@@ -3,14 +3,14 @@ use Rattle.terms.proofs.AritySums.{summing_none, summing_more, summing_all, summ
 use borrow.Author.Rules.{rules}
 use Rattle.terms.proofs.sum_of_arities.Goals as goal
 
-pub loop-i-init : goal.loop-i-init
-loop-i-init c = search (rules, summing_none)
+pub loop-arity-init : goal.loop-arity-init
+loop-arity-init c = search (rules, summing_none)
 
 pub overflow_add-sum : goal.overflow_add-sum
 overflow_add-sum c = search (rules, summing_fits)
 
-pub loop-i-preserved : goal.loop-i-preserved
-loop-i-preserved c = search (rules, summing_more)
+pub loop-arity-preserved : goal.loop-arity-preserved
+loop-arity-preserved c = search (rules, summing_more)
 
 pub returns : goal.returns
 returns c = search (rules, summing_all)
