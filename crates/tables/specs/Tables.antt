@@ -25,11 +25,11 @@ use Rattle.tables.specs.declared.State.{State}
 pub record Tables : Type 0 where
   pub signatures : List Signature
   pub claims : List ℤ
-  pub variables : List ℕ
+  pub variables : List Words
   pub rows : List ℕ
   pub slots : List ℕ
 
-abbrev pub tables : List Signature → List ℤ → List ℕ → List ℕ → List ℕ → Tables
+abbrev pub tables : List Signature → List ℤ → List Words → List ℕ → List ℕ → Tables
 tables f c v r s = record { signatures = f; claims = c; variables = v; rows = r; slots = s }
 
 -- where the numbers of a claim on a predicate begin, and where the row of an atom's argument does
@@ -42,7 +42,7 @@ row_place atom argument = (atom * 8 + argument) * 17
 pub record Sizes (t : Tables) : Type 0 where
   pub signatures : length t.signatures ≡ 32
   pub claims : length t.claims ≡ 4608
-  pub variables : length t.variables ≡ 64
+  pub variables : length t.variables ≡ 32
   pub rows : length t.rows ≡ 1224
   pub slots : length t.slots ≡ 256
 

@@ -48,7 +48,7 @@ pub type Signatures = [Signature; 32];
 /// Claim j on the predicate at place i: nine numbers from `claim_place(i, j)` on, zeros after the last.
 pub type Claims = [i16; 4608];
 
-/// The names of the last rule's variables, two words each.
+/// The names of the last rule's variables.
 pub type Variables = words::WordTable;
 
 /// The forms of the last rule's arguments, rows of 17 numbers: argument k of atom a from `row_place(a, k)` on. The head is
@@ -68,6 +68,7 @@ pub type Hints = words::Hints;
 pub const UNKNOWN_SIZE: u32 = 65536;
 
 /// The tables that outlive the lines of a pack: what queries and the sheet ask after its last line.
+#[derive(Drop)]
 pub struct Tables {
     pub signatures: Signatures,
     pub claims: Claims,
