@@ -2,18 +2,11 @@
 // them. Spaces fill all that is lent.
 #![tactic(auto)]
 
-ghost use Rattle.std.specs.Prelude.{◌≡◌, [], ◌∷◌, ◌++◌, ◌+◌, ◌-◌, ◌≤◌, ◌<◌, length};
+ghost use Rattle.std.specs.Prelude.{◌≡◌, [], ◌∷◌, ◌++◌, ◌+◌, ◌-◌, ◌≤◌, length};
 ghost use Rattle.theory.specs.Text.{decimal};
 ghost use Rattle.theory.specs.Sheet.{spaces};
 ghost use Rattle.text.specs.Scans.{part};
-ghost use Rattle.pages.specs.Pages.{Puts, PutAt};
-
-fn digit(n: u64) -> u8
-    requires { n < 10 }
-    ensures { result ≡ 48 + n }
-{
-    b'0' + n as u8
-}
+ghost use Rattle.pages.specs.Pages.{PutAt};
 
 /// How many digits a number has.
 pub fn digits(n: u64) -> usize
@@ -28,29 +21,14 @@ pub fn digits(n: u64) -> usize
     many
 }
 
-/// Writes a number in decimal at the front of a page, and gives how many digits it has.
-fn put_decimal(page: &mut [u8], n: u64) -> usize
-    requires { length (decimal n) ≤ length page.old }
-    ensures { Puts (decimal n) page.old page.new result }
-{
-    let many = digits(n);
-    let mut left = n;
-    let mut at = many - 1;
-    while 10 <= left {
-        page[at] = digit(left % 10);
-        left = left / 10;
-        at -= 1;
-    }
-    page[at] = digit(left);
-    many
-}
-
 /// Writes a number in decimal at a place, and gives the place after it.
 pub fn put_number(number: u64, page: &mut [u8], to: usize) -> usize
     requires { to + length (decimal number) ≤ length page.old }
     ensures { PutAt (decimal number) (length (decimal number)) page.old page.new to result }
 {
-    to + put_decimal(&mut page[to..], number)
+    let end = to + digits(number);
+    itoa::write_digits(number, page, end);
+    end
 }
 
 /// Writes a byte at a place, and gives the place after it.
@@ -76,10 +54,8 @@ pub fn copy_over(source: &[u8], room: &mut [u8])
     requires { length room.old ≡ length source.now }
     ensures { room.new ≡ source.now }
 {
-    let mut at: usize = 0;
-    while at < source.len() {
-        room[at] = source[at];
-        at += 1;
+    for (at, byte) in source.iter().enumerate() {
+        room[at] = *byte;
     }
 }
 
@@ -94,12 +70,9 @@ pub fn put_part(text: &[u8], start: usize, end: usize, page: &mut [u8], to: usiz
 }
 
 /// Fills a page with spaces.
+#[tactic(auto, unfolding(theory::specs::Sheet::spaces))]
 pub fn put_spaces(page: &mut [u8])
     ensures { page.new ≡ spaces (length page.old) }
 {
-    let mut at: usize = 0;
-    while at < page.len() {
-        page[at] = b' ';
-        at += 1;
-    }
+    page.fill(b' ');
 }

@@ -18,11 +18,8 @@ pub fn run_of(text: &[u8], letter: u8, from: usize) -> Run
 {
     let mut lines: usize = 0;
     let mut at = from;
-    while at < text.len() {
-        if text[at] != letter {
-            return Run { lines, after: at };
-        }
-        at = text::find_far(text, b'\n', at) + 1;
+    while at < text.len() && text[at] == letter {
+        at = text::find(text, b'\n', at) + 1;
         lines += 1;
     }
     Run { lines, after: at }
@@ -51,7 +48,7 @@ pub fn rule_at(text: &[u8], at: usize) -> RuleLines
     requires { StandsSomeRule text.now at }
     ensures { RuleFound text.now at result }
 {
-    let end = text::find_far(text, b'\n', at);
+    let end = text::find(text, b'\n', at);
     let name_end = at + reader::field_end(&text[at..end], 2);
     let subgoals = run_of(text, b'B', end + 1);
     let multipliers = run_of(text, b'M', subgoals.after);

@@ -1,11 +1,6 @@
-use mathlib.Core.Path.{◌≡◌}
-use mathlib.Core.List.{◌++◌}
-use Prim.Native.Nat.{◌-◌, ◌≤◌}
-use lib.ListN.{length, take, drop}
+use Rattle.std.proofs.Common.{◌≡◌, ◌++◌, take, drop}
 use Rattle.pages.proofs.copy_over.Given as goal
 
+-- the first bytes are the source's, and the others are as they were
 abbrev pub invariant-loop-at : goal.invariant-loop-at
-invariant-loop-at l = (l.room ≡ take l.at l.source ++ drop l.at l.initial.room) × (l.at ≤ length l.source) × (length l.room ≡ length l.source)
-
-abbrev pub decreases-loop-at : goal.decreases-loop-at
-decreases-loop-at l = length l.source - l.at
+invariant-loop-at l = l.room ≡ take l.at l.source ++ drop l.at l.initial.room

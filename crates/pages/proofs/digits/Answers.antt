@@ -6,12 +6,6 @@ use Rattle.pages.proofs.digits.Goals as goal
 pub loop-left-init : goal.loop-left-init
 loop-left-init c = omega (arith, digits_few 19 c.args.n (omega arith))
 
-pub overflow_add-many : goal.overflow_add-many
-overflow_add-many c = omega arith
-
-pub loop-left-smaller : goal.loop-left-smaller
-loop-left-smaller c = omega arith
-
 pub loop-left-preserved : goal.loop-left-preserved
 loop-left-preserved c = omega (arith, digits_more c.loop-left.left c.loop-left-test.true)
 

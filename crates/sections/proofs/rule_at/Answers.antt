@@ -3,8 +3,8 @@ use borrow.Author.Rules.{rules}
 use Rattle.sections.proofs.HeadLines.{some_inside, some_long, lines_found}
 use Rattle.sections.proofs.rule_at.Goals as goal
 
-pub find_far-end-requires : goal.find_far-end-requires
-find_far-end-requires c = search (rules, some_inside)
+pub find-end-requires : goal.find-end-requires
+find-end-requires c = search (rules, some_inside)
 
 pub field_end-requires : goal.field_end-requires
 field_end-requires c = search (rules, some_long)

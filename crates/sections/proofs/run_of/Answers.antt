@@ -6,11 +6,11 @@ use Rattle.sections.proofs.run_of.Goals as goal
 pub loop-at-init : goal.loop-at-init
 loop-at-init c = search (rules, walked_none)
 
-pub returns-then-text-at : goal.returns-then-text-at
-returns-then-text-at c = search (rules, walked_other)
+pub returns-else-text-at : goal.returns-else-text-at
+returns-else-text-at c = search (rules, walked_other)
 
 pub loop-at-preserved : goal.loop-at-preserved
 loop-at-preserved c = search (rules, walked_more)
 
-pub returns : goal.returns
-returns c = search (rules, walked_all)
+pub returns-after-loop-at : goal.returns-after-loop-at
+returns-after-loop-at c = search (rules, walked_all)
