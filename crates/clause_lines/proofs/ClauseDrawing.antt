@@ -6,7 +6,7 @@ use mathlib.Core.List.{List, [], ◌∷◌, ◌++◌, head-eq_of_cons-eq, tail-e
 use mathlib.Core.Option.{some}
 use Prim.Native.Nat.{ℕ, suc, ◌+◌, ◌-◌, ◌≤◌, ◌<◌}
 use native.Mathlib.Omega.{arith}
-use lib.ListN.{length}
+use lib.ListN.{length, drop}
 use Rattle.std.specs.Prelude.{Some, None}
 use Rattle.std.specs.Prelude as Rust
 use Rattle.groundwork.proofs.Truth.{never_both}
@@ -33,9 +33,9 @@ use Rattle.clause_variables.specs.FreshNumbers.{Tabled, NextFree}
 use Rattle.clause_variables.specs.Variables.{Gathered}
 use Rattle.clause_variables.proofs.Gathering.{gathered_few, gathered_tabled}
 use Rattle.clause_variables.proofs.Stopping.{is_stop_token, EndsByStop, step_by}
-use Rattle.term_lines.specs.declared.Drawn.{Drawn}
+use Rattle.term_lines.specs.declared.Pen.{Pen}
 use Rattle.term_lines.specs.Texts.{done_text, open_text, last_text, drawn_text, Moves, atoms_of, lines_of, current, StateFits}
-use Rattle.term_lines.specs.Drawings.{Drawing, DrawnNext, drawn_on, passes, Shows, shows_name, shows_variable, shows_lone, shows_sign, Drawable, Draws}
+use Rattle.term_lines.specs.Drawings.{Begun, Drawing, DrawnNext, drawn_on, passes, Shows, shows_name, shows_variable, shows_lone, shows_sign, Drawable, Draws}
 use Rattle.clause_lines.specs.WholeClauses.{NumberAfter, ClausePut, clause_put, not_put, ClauseReady, LinesPut}
 use Rattle.term_lines.proofs.Moving.{step_goes, step_ends}
 use Rattle.term_lines.proofs.DrawnLimits.{whole_text, whole_fits, fits_whole, run_fits, run_grows}
@@ -136,7 +136,7 @@ module _ {v : Variables} {number r : ℕ} (c : Clause) (others : List T.Mark) (i
 -- ---- the loop
 
 -- of a clause: the lines are written up to a state, these tokens are left of it, and so many `_` were passed
-pub record LeftOf (text page₀ page : Bytes) (digits : List ℕ) (d : Drawn) (number at : ℕ) (c : Clause) : Type 0 where
+pub record LeftOf (text page₀ page : Bytes) (d : Pen) (number at : ℕ) (c : Clause) : Type 0 where
   pub left : List T.Mark
   pub after : List T.Mark
   pub passed : ℕ
@@ -145,38 +145,36 @@ pub record LeftOf (text page₀ page : Bytes) (digits : List ℕ) (d : Drawn) (n
   pub there : marks_at text at ≡ left ++ after
   pub counts : passed + lones (mark_variables left) ≡ lones (clause_variables c)
   pub fresh : FreshAt c passed number
-  pub drawing : Drawing reached d page₀ page digits
+  pub drawing : Drawing reached d page₀ page
 
 -- nothing is written
-nothing_drawn : (page : Bytes) (digits : List ℕ) → Drawing begin (record { to = 0; line = 0; depth = 0; atoms = 0; arguments = 0 }) page page digits
+nothing_drawn : (page : Bytes) {d : Pen} → Begun d → Drawing begin d page page
 unfolding begin drawn_text done_text open_text last_text atoms_of lines_of current
-nothing_drawn page digits =
+nothing_drawn page begun =
     record {
-      puts = record { many = refl; is = refl };
-      room = omega arith;
-      line = refl;
-      depth = refl;
-      atoms = refl;
+      puts = record { many = begun.to; is = ap (λ (i : ℕ). drop i page) (sym begun.to) };
+      room = omega (arith, begun.to);
+      line = begun.line;
+      depth = begun.depth;
+      atoms = begun.atoms;
       arguments = tt;
       stand = tt;
       fits = record { atoms = λ a m. absurd (Memᴰ.not-nil m); lines = λ l m. absurd (Memᴰ.not-nil m); count = omega arith; opens_fit = tt; last_fits = tt; line = omega arith };
     }
 
 module _ (text : Bytes) (from : ℕ) (v : Variables) (page₀ : Bytes) where
-  pub record Progress (page : Bytes) (digits : List ℕ) (d : Drawn) (number at : ℕ) : Type 0 where
+  pub record Progress (page : Bytes) (d : Pen) (number at : ℕ) : Type 0 where
     pub ready : ClauseReady text from v
     pub size : length page ≡ length page₀
-    pub table : length digits ≡ 256
     pub high : at ≤ length text
-    pub rest : (r : ClauseReady text from v) → LeftOf text page₀ page digits d number at r.clause
+    pub rest : (r : ClauseReady text from v) → LeftOf text page₀ page d number at r.clause
 
-  pub progress_none : {digits : List ℕ} → from ≤ length text → length digits ≡ 256 → ClauseReady text from v
-      → Progress page₀ digits (record { to = 0; line = 0; depth = 0; atoms = 0; arguments = 0 }) 0 from
-  progress_none {digits} high table ready =
+  pub progress_none : {d : Pen} → Begun d → from ≤ length text → ClauseReady text from v
+      → Progress page₀ d 0 from
+  progress_none {d} begun high ready =
       record {
         ready = ready;
         size = refl;
-        table = table;
         high = high;
         rest = λ r.
             let c = r.clause in
@@ -189,11 +187,11 @@ module _ (text : Bytes) (from : ℕ) (v : Variables) (page₀ : Bytes) where
               there = r.stands.marks;
               counts = omega (arith, ap lones (clause_variables_lem c));
               fresh = fresh_none c;
-              drawing = nothing_drawn page₀ digits;
+              drawing = nothing_drawn page₀ begun;
             };
       }
 
-  module _ {page : Bytes} {digits : List ℕ} {d : Drawn} {number at : ℕ} (g : Progress page digits d number at) where
+  module _ {page : Bytes} {d : Pen} {number at : ℕ} (g : Progress page d number at) where
     -- nothing comes, so no clause stands there
     no_clause : tokens_at text at ≡ [] → ClauseReady text from v → ⊥
     no_clause none r =
@@ -213,7 +211,7 @@ module _ (text : Bytes) (from : ℕ) (v : Variables) (page₀ : Bytes) where
         omega (arith, fresh_low rest.fresh, rest.counts, gathered.named_is, gathered.lones_is, v.few)
 
     module _ {t : Found} (next : NextToken text at t) {r : ℕ} (numbered : NumberAfter t.mark v number r) where
-      x : Bytes
+      abbrev x : Bytes
       x = part text t.start t.end
 
       -- the token of a clause at this place
@@ -229,11 +227,10 @@ module _ (text : Bytes) (from : ℕ) (v : Variables) (page₀ : Bytes) where
         there : marks_at text t.end ≡ others ++ after
         counts : passed + lones (mark_variables others) ≡ lones (clause_variables c)
         fresh : FreshAt c passed r
-        drawing : Drawing reached d page₀ page digits
+        drawing : Drawing reached d page₀ page
         inside : (at ≤ t.start) × (t.start < t.end) × (t.end ≤ length text)
 
       coming : (ready : ClauseReady text from v) → Coming ready.clause
-      unfolding x
       coming ready = at_next next
         where
           at_next : NextToken text at t → Coming ready.clause
@@ -258,14 +255,13 @@ module _ (text : Bytes) (from : ℕ) (v : Variables) (page₀ : Bytes) where
                 inside = (low, wide, high);
               }
 
-      drawable : {c : Clause} (k : Coming c) {to : State} → Moves k.reached k.token to → Drawable text t.mark t.start t.end r d page digits
-      unfolding x
+      drawable : {c : Clause} (k : Coming c) {to : State} → Moves k.reached k.token to → Drawable x t.mark r d page
       drawable k {to} moves = record { page₀ = page₀; state = k.reached; next = to; token = k.token; drawing = k.drawing; shows = k.shows; moves = moves }
 
-      pub progress_drawable : Drawable text t.mark t.start t.end r d page digits
+      pub progress_drawable : Drawable x t.mark r d page
       progress_drawable = by (coming g.ready).takes
         where
-          by : {ms : List T.Mark} → NextStep (coming g.ready).reached (coming g.ready).token ms (filled g.ready.clause) → Drawable text t.mark t.start t.end r d page digits
+          by : {ms : List T.Mark} → NextStep (coming g.ready).reached (coming g.ready).token ms (filled g.ready.clause) → Drawable x t.mark r d page
           by (last_step s) = drawable (coming g.ready) (step_ends s)
           by (more_steps s runs) = drawable (coming g.ready) (step_goes s)
 
@@ -278,11 +274,11 @@ module _ (text : Bytes) (from : ℕ) (v : Variables) (page₀ : Bytes) where
       pub progress_less : length text - t.end < length text - at
       progress_less = omega (arith, (coming g.ready).inside.0, (coming g.ready).inside.1, (coming g.ready).inside.2)
 
-      module _ {e : Rust.Option Drawn} {after : Bytes} {digits₁ : List ℕ} (draws : Draws text t.mark t.start t.end r d page digits e after digits₁) where
+      module _ {e : Rust.Option (Unit {0})} {f : Pen} {after : Bytes} (draws : Draws x t.mark r d page e f after) where
         -- what the token leaves: the whole clause, or one of which some tokens are left
         data Left (c : Clause) (k : Coming c) : Type 0 where
-          none_more : is_stop_mark t.mark ≡ true → DrawnNext (state (some (filled c)) [] due) page₀ after digits₁ e → Left c k
-          some_more : {to : State} → is_stop_mark t.mark ≡ false → Runs to (filled_marks (fresh_of c) k.passed k.others) (filled c) → DrawnNext to page₀ after digits₁ e → Left c k
+          none_more : is_stop_mark t.mark ≡ true → DrawnNext (state (some (filled c)) [] due) f page₀ after e → Left c k
+          some_more : {to : State} → is_stop_mark t.mark ≡ false → Runs to (filled_marks (fresh_of c) k.passed k.others) (filled c) → DrawnNext to f page₀ after e → Left c k
 
         left_after : {c : Clause} (k : Coming c) → Left c k
         unfolding drawable
@@ -299,22 +295,22 @@ module _ (text : Bytes) (from : ℕ) (v : Variables) (page₀ : Bytes) where
         pub progress_over : {a : Rust.Option ℕ} → e ≡ None → a ≡ None → LinesPut text from v page₀ a after
         progress_over {a} refused none = record { size = progress_size; put = λ ready. subst (ClausePut ready.clause page₀ after) (sym none) (not_put (λ fits. over (coming ready) fits (left_after (coming ready)))) }
           where
-            short : {to : State} → DrawnNext to page₀ after digits₁ None → StateFits to → length page₀ < length (drawn_text to)
+            short : {to : State} → DrawnNext to f page₀ after None → StateFits to → length page₀ < length (drawn_text to)
             short (passes lacks) = lacks
 
-            by_none : {to : State} → DrawnNext to page₀ after digits₁ e → StateFits to → length page₀ < length (drawn_text to)
-            by_none {to} drawn = short (subst (DrawnNext to page₀ after digits₁) refused drawn)
+            by_none : {to : State} → DrawnNext to f page₀ after e → StateFits to → length page₀ < length (drawn_text to)
+            by_none {to} drawn = short (subst (DrawnNext to f page₀ after) refused drawn)
 
             over : {c : Clause} (k : Coming c) → clause_fits (filled c) ≡ true → Left c k → length page₀ < length (text_of (clause_lines (filled c)))
             over {c} k fits (none_more is drawn) = omega (arith, by_none drawn (whole_fits (filled c) fits), ap length (whole_text (filled c)))
             over {c} k fits (some_more is runs drawn) = omega (arith, by_none drawn (run_fits runs fits), run_grows runs fits)
 
-        module _ (stops : Bool) (told : stops ≡ is_stop_mark t.mark) {f : Drawn} (accepted : e ≡ Some f) where
-          written : {to : State} → DrawnNext to page₀ after digits₁ (Some f) → Drawing to f page₀ after digits₁
+        module _ (stops : Bool) (told : stops ≡ is_stop_mark t.mark) {u : Unit {0}} (accepted : e ≡ Some u) where
+          written : {to : State} → DrawnNext to f page₀ after (Some u) → Drawing to f page₀ after
           written (drawn_on drawing) = drawing
 
-          drawn_up_to : {to : State} → DrawnNext to page₀ after digits₁ e → Drawing to f page₀ after digits₁
-          drawn_up_to {to} drawn = written (subst (DrawnNext to page₀ after digits₁) accepted drawn)
+          drawn_up_to : {to : State} → DrawnNext to f page₀ after e → Drawing to f page₀ after
+          drawn_up_to {to} drawn = written (subst (DrawnNext to f page₀ after) accepted drawn)
 
           -- the clause is at its end
           pub progress_whole : stops ≡ true → LinesPut text from v page₀ (Some f.to) after
@@ -328,11 +324,11 @@ module _ (text : Bytes) (from : ℕ) (v : Variables) (page₀ : Bytes) where
                   clause_put (fits_whole (filled c) drawing.fits (gathered_few c ready.gathered)) drawing.room (subst (λ (bs : Bytes). Puts bs page₀ after f.to) (whole_text (filled c)) drawing.puts)
 
           -- it goes on
-          pub progress_more : stops ≡ false → Progress after digits₁ f r t.end
+          pub progress_more : stops ≡ false → Progress after f r t.end
           progress_more is =
-              record { ready = g.ready; size = progress_size; table = draws.kept ∙ g.table; high = progress_inside; rest = λ ready. onwards (coming ready) (left_after (coming ready)) }
+              record { ready = g.ready; size = progress_size; high = progress_inside; rest = λ ready. onwards (coming ready) (left_after (coming ready)) }
             where
-              onwards : {c : Clause} (k : Coming c) → Left c k → LeftOf text page₀ after digits₁ f r t.end c
+              onwards : {c : Clause} (k : Coming c) → Left c k → LeftOf text page₀ after f r t.end c
               onwards k (none_more ended drawn) = never_both ended (sym told ∙ is)
               onwards k (some_more {to = to} goes_on runs drawn) =
                   record {

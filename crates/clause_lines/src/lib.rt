@@ -2,64 +2,51 @@
 #![tactic(auto)]
 
 ghost use Rattle.std.specs.Prelude.{◌≡◌, ◌+◌, ◌≤◌, ◌<◌, length};
-ghost use Rattle.words.specs.Classes.{Classes};
 ghost use Rattle.clause_variables.specs.FreshNumbers.{Tabled};
 ghost use Rattle.clause_lines.specs.WholeClauses.{NumberAfter, ClauseReady, LinesPut};
 
 use clause_tokens::Mark;
 use clause_variables::Variables;
-use term_lines::Drawn;
+use term_lines::Pen;
+use words::ClassTable;
 
 /// The number of the last fresh variable after one more token.
 fn number_after(mark: Mark, variables: &Variables, number: usize) -> usize
     requires { Tabled variables.now × (number + 1 + variables.now.named < 100) }
     ensures { NumberAfter mark variables.now number result }
 {
-    match mark {
-        Mark::Lone => variables.fresh_number(number + 1),
-        _ => number,
+    if mark == Mark::Lone {
+        variables.fresh_number(number + 1)
+    } else {
+        number
     }
 }
 
 /// Writes the lines of the clause that starts at a place and whose variables are gathered, and gives how many bytes they take.
 /// Where it passes a limit, or the page has no room for them, there are none, and what the page holds then does not matter.
-/// `digits` is room for the places of the arities.
+/// `pen` may be any, so that one serves for all clauses.
 pub fn put_clause(
     text: &[u8],
     from: usize,
-    classes: &[u8; 256],
+    classes: &ClassTable,
     variables: &Variables,
-    digits: &mut [usize; 256],
+    pen: &mut Pen,
     page: &mut [u8],
 ) -> Option<usize>
-    requires { (from ≤ length text.now) × Classes classes.now × (length digits.old ≡ 256) × ClauseReady text.now from variables.now }
-    ensures { (length digits.new ≡ 256) × LinesPut text.now from variables.now page.old result page.new }
+    requires { (from ≤ length text.now) × ClauseReady text.now from variables.now }
+    ensures { LinesPut text.now from variables.now page.old result page.new }
 {
-    let mut drawn = Drawn {
-        to: 0,
-        line: 0,
-        depth: 0,
-        atoms: 0,
-        arguments: 0,
-    };
+    pen.begin();
     let mut number: usize = 0;
     let mut at = from;
     while at < text.len() {
         let token = clause_tokens::next(text, at, classes);
         let mark = token.mark;
         number = number_after(mark, variables, number);
-        drawn = token_lines::put_token(
-            text,
-            mark,
-            token.start,
-            token.end,
-            number,
-            drawn,
-            page,
-            digits,
-        )?;
+        let bytes = &text[token.start..token.end];
+        token_lines::put_token(mark, bytes, number, pen, page)?;
         if mark == Mark::Stop {
-            return Some(drawn.to);
+            return Some(pen.to);
         }
         at = token.end;
     }

@@ -2,10 +2,9 @@
 // them. Spaces fill all that is lent.
 #![tactic(auto)]
 
-ghost use Rattle.std.specs.Prelude.{◌≡◌, [], ◌∷◌, ◌++◌, ◌+◌, ◌-◌, ◌≤◌, length};
+ghost use Rattle.std.specs.Prelude.{◌≡◌, [], ◌∷◌, ◌++◌, ◌+◌, ◌≤◌, length};
 ghost use Rattle.theory.specs.Text.{decimal};
 ghost use Rattle.theory.specs.Sheet.{spaces};
-ghost use Rattle.text.specs.Scans.{part};
 ghost use Rattle.pages.specs.Pages.{PutAt};
 
 /// How many digits a number has.
@@ -59,14 +58,14 @@ pub fn copy_over(source: &[u8], room: &mut [u8])
     }
 }
 
-/// Copies a part of a text to a place on the page, and gives the place after it.
-pub fn put_part(text: &[u8], start: usize, end: usize, page: &mut [u8], to: usize) -> usize
-    requires { (start ≤ end) × (end ≤ length text.now) × (to + (end - start) ≤ length page.old) }
-    ensures { PutAt (part text.now start end) (end - start) page.old page.new to result }
+/// Copies a text to a place on the page, and gives the place after it.
+pub fn put_text(text: &[u8], page: &mut [u8], to: usize) -> usize
+    requires { to + length text.now ≤ length page.old }
+    ensures { PutAt text.now (length text.now) page.old page.new to result }
 {
-    let length = end - start;
-    copy_over(&text[start..end], &mut page[to..to + length]);
-    to + length
+    let end = to + text.len();
+    copy_over(text, &mut page[to..end]);
+    end
 }
 
 /// Fills a page with spaces.

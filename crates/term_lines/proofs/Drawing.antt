@@ -15,14 +15,12 @@ use Rattle.theory.specs.Terms as Terms
 use Rattle.clause_theory.specs.ClauseTokens as T
 use Rattle.clause_theory.specs.Clauses.{Clause, Open, Last, due, read, State, state, atom_of}
 use Rattle.clause_theory.specs.Import.{numbered_variable, term_fits}
-use Rattle.text.specs.Scans.{part}
-use Rattle.text.proofs.Parts.{part_length}
 use Rattle.pages.specs.Pages.{Puts, PutAt}
 use Rattle.pages.proofs.Puts.{puts_size, puts_more}
 use Rattle.clause_tokens.specs.declared.Mark.{Mark}
 use Rattle.clause_tokens.specs.declared.Mark.TheVariants.{Name, Variable, Lone}
 use Rattle.clause_variables.proofs.FreshSearch.{numbered_variable_lem}
-use Rattle.term_lines.specs.declared.Drawn.{Drawn}
+use Rattle.term_lines.specs.declared.Pen.{Pen}
 use Rattle.term_lines.specs.Texts.{line_front, line_text, drawn_text, Moves, names_atom, names_symbol, reads_variable, ends_line, atoms_of, OpenedFit, LastFits, current, StateFits}
 use Rattle.term_lines.specs.Drawings.{DigitsStand, ArgumentsBegun, Drawing, DrawnNext, drawn_on, passes, Shows, shows_name, shows_variable, shows_lone, shows_sign, Drawable, Draws, RoomTold, LetterIs}
 use Rattle.term_lines.proofs.DrawnTexts.{drawn_atom_name, drawn_symbol, drawn_variable}
@@ -57,7 +55,7 @@ letter_subgoal {atoms} many = record { front = go }
 
 -- ---- what is known before a token
 
-module _ {s : State} {d : Drawn} {page₀ page : Bytes} {digits : List ℕ} (g : Drawing s d page₀ page digits) where
+module _ {s : State} {d : Pen} {page₀ page : Bytes} (g : Drawing s d page₀ page) where
   pub page_size : length page ≡ length page₀
   page_size = puts_size g.puts g.room
 
@@ -65,7 +63,7 @@ module _ {s : State} {d : Drawn} {page₀ page : Bytes} {digits : List ℕ} (g :
   pub to_is : d.to ≡ d.line + length (line_text s.before s.opened s.last)
   to_is = g.puts.many ∙ drawn_length s.before s.opened s.last ∙ ap (λ n. n + length (line_text s.before s.opened s.last)) (sym g.line)
 
-module _ {text : Bytes} {mark : Mark} {start end number : ℕ} {d : Drawn} {page : Bytes} {digits : List ℕ} (w : Drawable text mark start end number d page digits) where
+module _ {x : Bytes} {mark : Mark} {number : ℕ} {d : Pen} {page : Bytes} (w : Drawable x mark number d page) where
   pub to_within : d.to ≤ length page
   to_within = omega (arith, page_size w.drawing, w.drawing.room)
 
@@ -88,9 +86,9 @@ module _ {text : Bytes} {mark : Mark} {start end number : ℕ} {d : Drawn} {page
   room_on_page used count lacks told is = omega (arith, (told.enough is).0, to_within)
 
 -- a limit is passed: nothing changes
-module _ {text : Bytes} {mark : Mark} {start end number : ℕ} {d : Drawn} {page : Bytes} {digits : List ℕ} where
-  pub draws_none : ((w : Drawable text mark start end number d page digits) → StateFits w.next → length w.page₀ < length (drawn_text w.next)) → Draws text mark start end number d page digits None page digits
-  draws_none over = record { size = refl; kept = refl; drawn = λ w. passes (over w) }
+module _ {x : Bytes} {mark : Mark} {number : ℕ} {d : Pen} {page : Bytes} where
+  pub draws_none : ((w : Drawable x mark number d page) → StateFits w.next → length w.page₀ < length (drawn_text w.next)) → Draws x mark number d page None d page
+  draws_none over = record { size = refl; drawn = λ w. passes (over w) }
 
 -- ---- names
 
@@ -127,54 +125,47 @@ by_symbol P x (shows_name told) (names_symbol {before = before} {o = o} {opened 
 by_symbol P x (shows_name told) (ends_line e) inside p = elim e [ ]
 by_symbol P x (shows_sign s) _ inside p = elim s [ ]
 
-part_size : (text : Bytes) (start end : ℕ) → end ≤ length text → length (part text start end) ≡ end - start
-part_size text start end within = part_length text start (end - start) end refl within
+module _ {x : Bytes} {d : Pen} {page : Bytes} where
+  pub name_long : 16 < length x → Draws x Name 0 d page None d page
+  name_long long = draws_none (λ w fits. absurd (long_name x w.shows w.moves (omega arith) fits))
 
-module _ {text : Bytes} {start end : ℕ} {d : Drawn} {page : Bytes} {digits : List ℕ} (within : end ≤ length text) where
-  pub name_long : 16 < end - start → Draws text Name start end 0 d page digits None page digits
-  name_long long = draws_none (λ w fits. absurd (long_name (part text start end) w.shows w.moves (omega (arith, part_size text start end within)) fits))
-
-  module _ (shut : d.depth ≡ 0) where
-    pub atoms_many : 8 < d.atoms → Draws text Name start end 0 d page digits None page digits
+  module _ (shut : d.compounds.depth ≡ 0) where
+    pub atoms_many : 8 < d.atoms → Draws x Name 0 d page None d page
     unfolding current
-    atoms_many many = draws_none (λ w. by_atom (λ s next. Drawing s d w.page₀ page digits → StateFits next → length w.page₀ < length (drawn_text next)) (part text start end) w.shows w.moves
+    atoms_many many = draws_none (λ w. by_atom (λ s next. Drawing s d w.page₀ page → StateFits next → length w.page₀ < length (drawn_text next)) x w.shows w.moves
         (omega (arith, w.drawing.depth, shut)) (λ before told g fits. absurd (omega (arith, g.atoms, fits.count))) w.drawing)
 
-    pub atom_no_room : (lacks : Bool) → RoomTold (length page - d.to) 0 (end - start + 2) lacks → lacks ≡ true → Draws text Name start end 0 d page digits None page digits
-    atom_no_room lacks told is = draws_none (λ w. by_atom (λ s next. Drawing s d w.page₀ page digits → StateFits next → length w.page₀ < length (drawn_text next)) (part text start end) w.shows w.moves
+    pub atom_no_room : (lacks : Bool) → RoomTold (length page - d.to) 0 (length x + 2) lacks → lacks ≡ true → Draws x Name 0 d page None d page
+    atom_no_room lacks told is = draws_none (λ w. by_atom (λ s next. Drawing s d w.page₀ page → StateFits next → length w.page₀ < length (drawn_text next)) x w.shows w.moves
         (omega (arith, w.drawing.depth, shut))
-        (λ before word g. no_room w 0 (end - start + 2) (state before [] (read (symbol (part text start end) nil))) lacks told is
-        (omega (arith, ap length (drawn_atom_name before (part text start end)), length-append (drawn_text (state before [] due)) (line_front before ++ part text start end), length-append (line_front before) (part text start end), front_length before, part_size text start end within, g.puts.many))
-        (omega (arith, line_atom_name before (part text start end), no_line before, length-append (line_front before) (part text start end), front_length before, part_size text start end within)))
+        (λ before word g. no_room w 0 (length x + 2) (state before [] (read (symbol x nil))) lacks told is
+        (omega (arith, ap length (drawn_atom_name before x), length-append (drawn_text (state before [] due)) (line_front before ++ x), length-append (line_front before) x, front_length before, g.puts.many))
+        (omega (arith, line_atom_name before x, no_line before, length-append (line_front before) x, front_length before)))
         w.drawing)
 
-    pub atom_put : {after : Bytes} {q l : ℕ} (lacks : Bool) → end - start ≤ 16 → d.atoms ≤ 8 → RoomTold (length page - d.to) 0 (end - start + 2) lacks → lacks ≡ false → LetterIs d.atoms l
-        → PutAt (l ∷ 44 ∷ part text start end) (end - start + 2) page after d.to q
-        → Draws text Name start end 0 d page digits (Some (record { to = q; line = d.to; depth = 0; atoms = d.atoms; arguments = 0 })) after digits
+    pub atom_put : {after : Bytes} {q l : ℕ} (lacks : Bool) → length x ≤ 16 → d.atoms ≤ 8 → RoomTold (length page - d.to) 0 (length x + 2) lacks → lacks ≡ false → LetterIs d.atoms l
+        → PutAt (l ∷ 44 ∷ x) (length x + 2) page after d.to q
+        → Draws x Name 0 d page (Some tt) (record { to = q; line = d.to; atoms = d.atoms; arguments = 0; compounds = d.compounds }) after
     unfolding current atom_of
     atom_put {after} {q} {l} lacks short few told is front copied =
         record {
           size = copied.size;
-          kept = refl;
-          drawn = λ w. by_atom (λ s next. Drawing s d w.page₀ page digits → DrawnNext next w.page₀ after digits (Some (record { to = q; line = d.to; depth = 0; atoms = d.atoms; arguments = 0 }))) (part text start end) w.shows w.moves
+          drawn = λ w. by_atom (λ s next. Drawing s d w.page₀ page → DrawnNext next (record { to = q; line = d.to; atoms = d.atoms; arguments = 0; compounds = d.compounds }) w.page₀ after (Some tt)) x w.shows w.moves
               (omega (arith, w.drawing.depth, shut)) (λ before word g. drawn_on (drawing before word g)) w.drawing;
         }
       where
-        x : Bytes
-        x = part text start end
-
         text_is : (before : Option Clause) → d.atoms ≡ length (atoms_of before) → drawn_text (state before [] due) ++ (l ∷ 44 ∷ x) ≡ drawn_text (state before [] (read (symbol x nil)))
         text_is before e = sym (drawn_atom_name before x ∙ rw (front.front before e) refl)
 
-        drawing : {page₀ : Bytes} (before : Option Clause) → is_name x ≡ leb (length x) 16 → Drawing (state before [] due) d page₀ page digits
-            → Drawing (state before [] (read (symbol x nil))) (record { to = q; line = d.to; depth = 0; atoms = d.atoms; arguments = 0 }) page₀ after digits
+        drawing : {page₀ : Bytes} (before : Option Clause) → is_name x ≡ leb (length x) 16 → Drawing (state before [] due) d page₀ page
+            → Drawing (state before [] (read (symbol x nil))) (record { to = q; line = d.to; atoms = d.atoms; arguments = 0; compounds = d.compounds }) page₀ after
         drawing {page₀} before word g =
             let put : Puts (drawn_text (state before [] (read (symbol x nil)))) page₀ after q = subst (λ bs. Puts bs page₀ after q) (text_is before g.atoms) (puts_more g.puts (l ∷ 44 ∷ x) copied.puts) in
             record {
               puts = put;
-              room = omega (arith, put.many, ap length (text_is before g.atoms), length-append (drawn_text (state before [] due)) (l ∷ 44 ∷ x), g.puts.many, (told.enough is).0, page_size g, g.room, part_size text start end within);
+              room = omega (arith, put.many, ap length (text_is before g.atoms), length-append (drawn_text (state before [] due)) (l ∷ 44 ∷ x), g.puts.many, (told.enough is).0, page_size g, g.room);
               line = g.puts.many ∙ omega (arith, drawn_length before [] due, no_line before);
-              depth = refl;
+              depth = shut;
               atoms = g.atoms;
               arguments = tt;
               stand = tt;
@@ -183,17 +174,17 @@ module _ {text : Bytes} {start end : ℕ} {d : Drawn} {page : Bytes} {digits : L
                 lines = g.fits.lines;
                 count = omega (arith, g.atoms);
                 opens_fit = tt;
-                last_fits = bare_atom_fits x (short_enough is_name x word (omega (arith, part_size text start end within)));
-                line = omega (arith, line_atom_name before x, no_line before, length-append (line_front before) x, front_length before, (told.enough is).1, part_size text start end within);
+                last_fits = bare_atom_fits x (short_enough is_name x word (omega arith));
+                line = omega (arith, line_atom_name before x, no_line before, length-append (line_front before) x, front_length before, (told.enough is).1);
               };
             }
 
 -- one more token in the line: what is added, the line's length and the limits
-module _ {d : Drawn} {page after : Bytes} {digits : List ℕ} {used count q : ℕ} (more : Bytes) (lacks : Bool) (told : RoomTold (length page - d.to) used count lacks) (is : lacks ≡ false) (copied : PutAt more count page after d.to q) (same : used ≡ d.to - d.line) where
-  pub in_line : {page₀ : Bytes} {before : Option Clause} (opened next : List Open) (last since : Last) → Drawing (state before opened last) d page₀ page digits
-      → (r : Drawn) → r.to ≡ q → r.line ≡ d.line → r.depth ≡ length next → r.atoms ≡ d.atoms → ArgumentsBegun next r.arguments → DigitsStand before next digits
+module _ {d : Pen} {page after : Bytes} {used count q : ℕ} (more : Bytes) (lacks : Bool) (told : RoomTold (length page - d.to) used count lacks) (is : lacks ≡ false) (copied : PutAt more count page after d.to q) (same : used ≡ d.to - d.line) where
+  pub in_line : {page₀ : Bytes} {before : Option Clause} (opened next : List Open) (last since : Last) → Drawing (state before opened last) d page₀ page
+      → (r : Pen) → r.to ≡ q → r.line ≡ d.line → r.compounds.depth ≡ length next → r.atoms ≡ d.atoms → ArgumentsBegun next r.arguments → DigitsStand before next r.compounds.digits
       → drawn_text (state before next since) ≡ drawn_text (state before opened last) ++ more → length (line_text before next since) ≡ length (line_text before opened last) + count
-      → current next since ≡ current opened last → OpenedFit next → LastFits next since → Drawing (state before next since) r page₀ after digits
+      → current next since ≡ current opened last → OpenedFit next → LastFits next since → Drawing (state before next since) r page₀ after
   in_line {page₀} {before} opened next last since g r to line depth atoms begun stand text_is grown as_many isOpen is_last =
       let put : Puts (drawn_text (state before next since)) page₀ after q = subst (λ bs. Puts bs page₀ after q) (sym text_is) (puts_more g.puts more copied.puts) in
       record {
@@ -215,17 +206,17 @@ module _ {d : Drawn} {page after : Bytes} {digits : List ℕ} {used count q : �
       }
 
 -- the same compounds are open, and a term is read
-in_compound : {d : Drawn} {page after page₀ : Bytes} {digits : List ℕ} {count q : ℕ} {before : Option Clause} {o : Open} {opened : List Open} (more : Bytes) (t : Term) (lacks : Bool) → RoomTold (length page - d.to) (d.to - d.line) count lacks → lacks ≡ false
+in_compound : {d : Pen} {page after page₀ : Bytes} {count q : ℕ} {before : Option Clause} {o : Open} {opened : List Open} (more : Bytes) (t : Term) (lacks : Bool) → RoomTold (length page - d.to) (d.to - d.line) count lacks → lacks ≡ false
     → PutAt more count page after d.to q
-    → drawn_text (state before (o ∷ opened) (read t)) ≡ drawn_text (state before (o ∷ opened) due) ++ more → length more ≡ count → term_fits t ≡ true → Drawing (state before (o ∷ opened) due) d page₀ page digits → DrawnNext (state before (o ∷ opened) (read t)) page₀ after digits (Some (record { to = q; line = d.line; depth = d.depth; atoms = d.atoms; arguments = d.arguments }))
+    → drawn_text (state before (o ∷ opened) (read t)) ≡ drawn_text (state before (o ∷ opened) due) ++ more → length more ≡ count → term_fits t ≡ true → Drawing (state before (o ∷ opened) due) d page₀ page → DrawnNext (state before (o ∷ opened) (read t)) (record { to = q; line = d.line; atoms = d.atoms; arguments = d.arguments; compounds = d.compounds }) page₀ after (Some tt)
 unfolding current
-in_compound {d} {page} {after} {page₀} {digits} {count} {q} {before} {o} {opened} more t lacks told is copied text_is size fits g =
+in_compound {d} {page} {after} {page₀} {count} {q} {before} {o} {opened} more t lacks told is copied text_is size fits g =
     let grown : length (line_text before (o ∷ opened) (read t)) ≡ length (line_text before (o ∷ opened) due) + count =
     omega (arith, ap length text_is, length-append (drawn_text (state before (o ∷ opened) due)) more, drawn_length before (o ∷ opened) (read t), drawn_length before (o ∷ opened) due) in
     drawn_on (in_line more lacks told is copied refl (o ∷ opened) (o ∷ opened) due (read t) g _ refl refl g.depth refl g.arguments g.stand text_is grown refl g.fits.opens_fit fits)
 
-no_room_in_compound : {text : Bytes} {mark : Mark} {start end number : ℕ} {d : Drawn} {page : Bytes} {digits : List ℕ} (w : Drawable text mark start end number d page digits) {before : Option Clause} {o : Open} {opened : List Open} {count : ℕ} (more : Bytes) (t : Term) (lacks : Bool)
-    → RoomTold (length page - d.to) (d.to - d.line) count lacks → lacks ≡ true → drawn_text (state before (o ∷ opened) (read t)) ≡ drawn_text (state before (o ∷ opened) due) ++ more → length more ≡ count → Drawing (state before (o ∷ opened) due) d w.page₀ page digits
+no_room_in_compound : {x : Bytes} {mark : Mark} {number : ℕ} {d : Pen} {page : Bytes} (w : Drawable x mark number d page) {before : Option Clause} {o : Open} {opened : List Open} {count : ℕ} (more : Bytes) (t : Term) (lacks : Bool)
+    → RoomTold (length page - d.to) (d.to - d.line) count lacks → lacks ≡ true → drawn_text (state before (o ∷ opened) (read t)) ≡ drawn_text (state before (o ∷ opened) due) ++ more → length more ≡ count → Drawing (state before (o ∷ opened) due) d w.page₀ page
     → StateFits (state before (o ∷ opened) (read t)) → length w.page₀ < length (drawn_text (state before (o ∷ opened) (read t)))
 no_room_in_compound {d = d} w {before} {o} {opened} {count} more t lacks told is text_is size g =
     let grown = length-append (drawn_text (state before (o ∷ opened) due)) more in
@@ -237,21 +228,20 @@ no_room_in_compound {d = d} w {before} {o} {opened} {count} more t lacks told is
 bare_length : (x : Bytes) (n : ℕ) → length x ≡ n → length (x ++ (47 ∷ 48 ∷ [])) ≡ n + 2
 bare_length x n e = omega (arith, length-append x (47 ∷ 48 ∷ []))
 
-module _ {text : Bytes} {start end : ℕ} {d : Drawn} {page : Bytes} {digits : List ℕ} (within : end ≤ length text) (inside : d.depth ≡ 0 → ⊥) where
-  pub symbol_no_room : (lacks : Bool) → RoomTold (length page - d.to) (d.to - d.line) (end - start + 2) lacks → lacks ≡ true → Draws text Name start end 0 d page digits None page digits
-  symbol_no_room lacks told is = draws_none (λ w. by_symbol (λ s next. Drawing s d w.page₀ page digits → StateFits next → length w.page₀ < length (drawn_text next)) (part text start end) w.shows w.moves
+module _ {x : Bytes} {d : Pen} {page : Bytes} (inside : d.compounds.depth ≡ 0 → ⊥) where
+  pub symbol_no_room : (lacks : Bool) → RoomTold (length page - d.to) (d.to - d.line) (length x + 2) lacks → lacks ≡ true → Draws x Name 0 d page None d page
+  symbol_no_room lacks told is = draws_none (λ w. by_symbol (λ s next. Drawing s d w.page₀ page → StateFits next → length w.page₀ < length (drawn_text next)) x w.shows w.moves
       (λ e. inside (w.drawing.depth ∙ e))
-      (λ before o opened word. no_room_in_compound w (part text start end ++ (47 ∷ 48 ∷ [])) (symbol (part text start end) nil) lacks told is (drawn_symbol before o opened (part text start end)) (bare_length (part text start end) (end - start) (part_size text start end within)))
+      (λ before o opened word. no_room_in_compound w (x ++ (47 ∷ 48 ∷ [])) (symbol x nil) lacks told is (drawn_symbol before o opened x) (bare_length x (length x) (refl)))
       w.drawing)
 
-  pub symbol_put : {after : Bytes} {q : ℕ} (lacks : Bool) → end - start ≤ 16 → RoomTold (length page - d.to) (d.to - d.line) (end - start + 2) lacks → lacks ≡ false → PutAt (part text start end ++ (47 ∷ 48 ∷ [])) (end - start + 2) page after d.to q
-      → Draws text Name start end 0 d page digits (Some (record { to = q; line = d.line; depth = d.depth; atoms = d.atoms; arguments = d.arguments })) after digits
+  pub symbol_put : {after : Bytes} {q : ℕ} (lacks : Bool) → length x ≤ 16 → RoomTold (length page - d.to) (d.to - d.line) (length x + 2) lacks → lacks ≡ false → PutAt (x ++ (47 ∷ 48 ∷ [])) (length x + 2) page after d.to q
+      → Draws x Name 0 d page (Some tt) (record { to = q; line = d.line; atoms = d.atoms; arguments = d.arguments; compounds = d.compounds }) after
   symbol_put {after} {q} lacks short told is copied = record {
     size = copied.size;
-    kept = refl;
-    drawn = λ w. by_symbol (λ s next. Drawing s d w.page₀ page digits → DrawnNext next w.page₀ after digits (Some (record { to = q; line = d.line; depth = d.depth; atoms = d.atoms; arguments = d.arguments }))) (part text start end) w.shows w.moves (λ e. inside (w.drawing.depth ∙ e))
-        (λ before o opened word. in_compound (part text start end ++ (47 ∷ 48 ∷ [])) (symbol (part text start end) nil) lacks told is copied (drawn_symbol before o opened (part text start end)) (bare_length (part text start end) (end - start) (part_size text start end within))
-        (bare_symbol_fits (part text start end) (short_enough is_name (part text start end) word (omega (arith, part_size text start end within)))))
+    drawn = λ w. by_symbol (λ s next. Drawing s d w.page₀ page → DrawnNext next (record { to = q; line = d.line; atoms = d.atoms; arguments = d.arguments; compounds = d.compounds }) w.page₀ after (Some tt)) x w.shows w.moves (λ e. inside (w.drawing.depth ∙ e))
+        (λ before o opened word. in_compound (x ++ (47 ∷ 48 ∷ [])) (symbol x nil) lacks told is copied (drawn_symbol before o opened x) (bare_length x (length x) (refl))
+        (bare_symbol_fits x (short_enough is_name x word (omega arith))))
         w.drawing;
   }
 
@@ -281,40 +271,38 @@ fits_variable : (x : Bytes) → term_fits (Terms.variable x) ≡ true → is_var
 unfolding term_fits
 fits_variable x h = h
 
-module _ {text : Bytes} {start end : ℕ} {d : Drawn} {page : Bytes} {digits : List ℕ} (within : end ≤ length text) where
-  pub variable_long : 16 < end - start → Draws text Variable start end 0 d page digits None page digits
-  variable_long long = draws_none (λ w. by_variable (λ s next. StateFits next → length w.page₀ < length (drawn_text next)) (part text start end) w.shows w.moves
-      (λ before o opened told fits. absurd (too_long is_variable (part text start end) told (omega (arith, part_size text start end within)) (fits_variable (part text start end) fits.last_fits))))
+module _ {x : Bytes} {d : Pen} {page : Bytes} where
+  pub variable_long : 16 < length x → Draws x Variable 0 d page None d page
+  variable_long long = draws_none (λ w. by_variable (λ s next. StateFits next → length w.page₀ < length (drawn_text next)) x w.shows w.moves
+      (λ before o opened told fits. absurd (too_long is_variable x told (omega arith) (fits_variable x fits.last_fits))))
 
-  pub variable_no_room : (lacks : Bool) → RoomTold (length page - d.to) (d.to - d.line) (end - start) lacks → lacks ≡ true → Draws text Variable start end 0 d page digits None page digits
-  variable_no_room lacks told is = draws_none (λ w. by_variable (λ s next. Drawing s d w.page₀ page digits → StateFits next → length w.page₀ < length (drawn_text next)) (part text start end) w.shows w.moves
-      (λ before o opened word. no_room_in_compound w (part text start end) (Terms.variable (part text start end)) lacks told is (drawn_variable before o opened (part text start end)) (part_size text start end within)) w.drawing)
+  pub variable_no_room : (lacks : Bool) → RoomTold (length page - d.to) (d.to - d.line) (length x) lacks → lacks ≡ true → Draws x Variable 0 d page None d page
+  variable_no_room lacks told is = draws_none (λ w. by_variable (λ s next. Drawing s d w.page₀ page → StateFits next → length w.page₀ < length (drawn_text next)) x w.shows w.moves
+      (λ before o opened word. no_room_in_compound w x (Terms.variable x) lacks told is (drawn_variable before o opened x) (refl)) w.drawing)
 
-  pub variable_put : {after : Bytes} {q : ℕ} (lacks : Bool) → end - start ≤ 16 → RoomTold (length page - d.to) (d.to - d.line) (end - start) lacks → lacks ≡ false → PutAt (part text start end) (end - start) page after d.to q
-      → Draws text Variable start end 0 d page digits (Some (record { to = q; line = d.line; depth = d.depth; atoms = d.atoms; arguments = d.arguments })) after digits
+  pub variable_put : {after : Bytes} {q : ℕ} (lacks : Bool) → length x ≤ 16 → RoomTold (length page - d.to) (d.to - d.line) (length x) lacks → lacks ≡ false → PutAt x (length x) page after d.to q
+      → Draws x Variable 0 d page (Some tt) (record { to = q; line = d.line; atoms = d.atoms; arguments = d.arguments; compounds = d.compounds }) after
   variable_put {after} {q} lacks short told is copied = record {
     size = copied.size;
-    kept = refl;
-    drawn = λ w. by_variable (λ s next. Drawing s d w.page₀ page digits → DrawnNext next w.page₀ after digits (Some (record { to = q; line = d.line; depth = d.depth; atoms = d.atoms; arguments = d.arguments }))) (part text start end) w.shows w.moves
-        (λ before o opened word. in_compound (part text start end) (Terms.variable (part text start end)) lacks told is copied (drawn_variable before o opened (part text start end)) (part_size text start end within)
-        (variable_fits (part text start end) (short_enough is_variable (part text start end) word (omega (arith, part_size text start end within))))) w.drawing;
+    drawn = λ w. by_variable (λ s next. Drawing s d w.page₀ page → DrawnNext next (record { to = q; line = d.line; atoms = d.atoms; arguments = d.arguments; compounds = d.compounds }) w.page₀ after (Some tt)) x w.shows w.moves
+        (λ before o opened word. in_compound x (Terms.variable x) lacks told is copied (drawn_variable before o opened x) (refl)
+        (variable_fits x (short_enough is_variable x word (omega arith)))) w.drawing;
   }
 
-module _ {text : Bytes} {start end number : ℕ} {d : Drawn} {page : Bytes} {digits : List ℕ} {many : ℕ} (size : many ≡ length (decimal number)) where
-  pub lone_no_room : (lacks : Bool) → RoomTold (length page - d.to) (d.to - d.line) (many + 1) lacks → lacks ≡ true → Draws text Lone start end number d page digits None page digits
-  lone_no_room lacks told is = draws_none (λ w. by_lone (λ s next. Drawing s d w.page₀ page digits → StateFits next → length w.page₀ < length (drawn_text next)) (part text start end) number w.shows w.moves
+module _ {x : Bytes} {number : ℕ} {d : Pen} {page : Bytes} {many : ℕ} (size : many ≡ length (decimal number)) where
+  pub lone_no_room : (lacks : Bool) → RoomTold (length page - d.to) (d.to - d.line) (many + 1) lacks → lacks ≡ true → Draws x Lone number d page None d page
+  lone_no_room lacks told is = draws_none (λ w. by_lone (λ s next. Drawing s d w.page₀ page → StateFits next → length w.page₀ < length (drawn_text next)) x number w.shows w.moves
       (λ before o opened small. no_room_in_compound w (numbered_variable number) (Terms.variable (numbered_variable number)) lacks told is (drawn_variable before o opened (numbered_variable number)) (numbered_length number many size)) w.drawing)
 
   pub lone_put : {after : Bytes} {q : ℕ} (lacks : Bool) → RoomTold (length page - d.to) (d.to - d.line) (many + 1) lacks → lacks ≡ false → PutAt (numbered_variable number) (length (decimal number) + 1) page after d.to q
-      → Draws text Lone start end number d page digits (Some (record { to = q; line = d.line; depth = d.depth; atoms = d.atoms; arguments = d.arguments })) after digits
+      → Draws x Lone number d page (Some tt) (record { to = q; line = d.line; atoms = d.atoms; arguments = d.arguments; compounds = d.compounds }) after
   lone_put {after} {q} lacks told is copied = record {
     size = copied.size;
-    kept = refl;
-    drawn = λ w. by_lone (λ s next. Drawing s d w.page₀ page digits → DrawnNext next w.page₀ after digits (Some (record { to = q; line = d.line; depth = d.depth; atoms = d.atoms; arguments = d.arguments }))) (part text start end) number w.shows w.moves
+    drawn = λ w. by_lone (λ s next. Drawing s d w.page₀ page → DrawnNext next (record { to = q; line = d.line; atoms = d.atoms; arguments = d.arguments; compounds = d.compounds }) w.page₀ after (Some tt)) x number w.shows w.moves
         (λ before o opened small. in_compound (numbered_variable number) (Terms.variable (numbered_variable number)) lacks told is (subst (λ k. PutAt (numbered_variable number) (k + 1) page after d.to q) (sym size) copied)
         (drawn_variable before o opened (numbered_variable number)) (numbered_length number many size) (variable_fits (numbered_variable number) (numbered_variable_lem number small))) w.drawing;
   }
 
-pub lone_room : {text : Bytes} {start end number : ℕ} {d : Drawn} {page : Bytes} {digits : List ℕ} → Drawable text Lone start end number d page digits → (many : ℕ) → many ≡ length (decimal number)
+pub lone_room : {x : Bytes} {number : ℕ} {d : Pen} {page : Bytes} → Drawable x Lone number d page → (many : ℕ) → many ≡ length (decimal number)
     → (lacks : Bool) → RoomTold (length page - d.to) (d.to - d.line) (many + 1) lacks → lacks ≡ false → d.to + (length (decimal number) + 1) ≤ length page
 lone_room {d = d} w many size lacks told is = omega (arith, room_on_page w (d.to - d.line) (many + 1) lacks told is, size)

@@ -8,12 +8,11 @@ use Rattle.theory.specs.Terms.{arity}
 use Rattle.clause_theory.specs.Clauses.{Clause, Open, State, state, due}
 use Rattle.clause_theory.specs.ClauseTokens as T
 use Rattle.clause_theory.specs.Import.{numbered_variable}
-use Rattle.text.specs.Scans.{part}
 use Rattle.pages.specs.Pages.{Puts}
 use Rattle.clause_tokens.specs.NextTokens.{Sign}
 use Rattle.clause_tokens.specs.declared.Mark.{Mark}
 use Rattle.clause_tokens.specs.declared.Mark.TheVariants.{Name, Variable, Lone}
-use Rattle.term_lines.specs.declared.Drawn.{Drawn}
+use Rattle.term_lines.specs.declared.Pen.{Pen}
 use Rattle.term_lines.specs.Texts.{line_front, done_text, drawn_text, Moves, atoms_of, StateFits}
 
 -- each symbol that is open has the place of its digit in the table
@@ -28,21 +27,29 @@ ArgumentsBegun [] n = Unit {0}
 ArgumentsBegun (o ∷ []) n = n ≡ suc (arity o.before)
 ArgumentsBegun (o ∷ p ∷ opened) n = ArgumentsBegun (p ∷ opened) n
 
+-- nothing is written
+pub record Begun (pen : Pen) : Type 0 where
+  pub to : pen.to ≡ 0
+  pub line : pen.line ≡ 0
+  pub depth : pen.compounds.depth ≡ 0
+  pub atoms : pen.atoms ≡ 0
+  pub arguments : pen.arguments ≡ 0
+
 -- what is written on the page of a clause that has been read up to a state, and nothing passes a limit
-pub record Drawing (s : State) (d : Drawn) (page₀ page : Bytes) (digits : List ℕ) : Type 0 where
-  pub puts : Puts (drawn_text s) page₀ page d.to
-  pub room : d.to ≤ length page₀
-  pub line : d.line ≡ length (done_text s.before)
-  pub depth : d.depth ≡ length s.opened
-  pub atoms : d.atoms ≡ length (atoms_of s.before)
-  pub arguments : ArgumentsBegun s.opened d.arguments
-  pub stand : DigitsStand s.before s.opened digits
+pub record Drawing (s : State) (pen : Pen) (page₀ page : Bytes) : Type 0 where
+  pub puts : Puts (drawn_text s) page₀ page pen.to
+  pub room : pen.to ≤ length page₀
+  pub line : pen.line ≡ length (done_text s.before)
+  pub depth : pen.compounds.depth ≡ length s.opened
+  pub atoms : pen.atoms ≡ length (atoms_of s.before)
+  pub arguments : ArgumentsBegun s.opened pen.arguments
+  pub stand : DigitsStand s.before s.opened pen.compounds.digits
   pub fits : StateFits s
 
 -- after one more token; or a limit is passed, or the page is too short
-pub data DrawnNext (next : State) (page₀ page : Bytes) (digits : List ℕ) : Rust.Option Drawn → Type 0 where
-  drawn_on : {d : Drawn} → Drawing next d page₀ page digits → DrawnNext next page₀ page digits (Some d)
-  passes : (StateFits next → length page₀ < length (drawn_text next)) → DrawnNext next page₀ page digits None
+pub data DrawnNext (next : State) (pen : Pen) (page₀ page : Bytes) : Rust.Option (Unit {0}) → Type 0 where
+  drawn_on : Drawing next pen page₀ page → DrawnNext next pen page₀ page (Some tt)
+  passes : (StateFits next → length page₀ < length (drawn_text next)) → DrawnNext next pen page₀ page None
 
 -- ## One token more
 
@@ -53,21 +60,21 @@ pub data Shows (x : Bytes) (number : ℕ) : Mark → T.Mark → Type 0 where
   shows_lone : number < 100 → Shows x number Lone (T.variable (numbered_variable number))
   shows_sign : {k : Mark} {m : T.Mark} → Sign k m → Shows x number k m
 
--- the lines are written up to some state, and the token leads to another
-pub record Drawable (text : Bytes) (mark : Mark) (start end number : ℕ) (d : Drawn) (page : Bytes) (digits : List ℕ) : Type 0 where
+-- The lines are written up to some state, and the token leads to another. The token has these bytes, and of a lone `_` this number:
+-- of signs the bytes do not matter, and of other tokens than `_` not the number.
+pub record Drawable (x : Bytes) (mark : Mark) (number : ℕ) (pen : Pen) (page : Bytes) : Type 0 where
   pub page₀ : Bytes
   pub state : State
   pub next : State
   pub token : T.Mark
-  pub drawing : Drawing state d page₀ page digits
-  pub shows : Shows (part text start end) number mark token
+  pub drawing : Drawing state pen page₀ page
+  pub shows : Shows x number mark token
   pub moves : Moves state token next
 
--- what the token leaves of the page and the table
-pub record Draws (text : Bytes) (mark : Mark) (start end number : ℕ) (d : Drawn) (page : Bytes) (digits : List ℕ) (r : Rust.Option Drawn) (after : Bytes) (digitsAfter : List ℕ) : Type 0 where
+-- what the token leaves of the pen and the page
+pub record Draws (x : Bytes) (mark : Mark) (number : ℕ) (pen : Pen) (page : Bytes) (r : Rust.Option (Unit {0})) (next : Pen) (after : Bytes) : Type 0 where
   pub size : length after ≡ length page
-  pub kept : length digitsAfter ≡ length digits
-  pub drawn : (w : Drawable text mark start end number d page digits) → DrawnNext w.next w.page₀ after digitsAfter r
+  pub drawn : (w : Drawable x mark number pen page) → DrawnNext w.next next w.page₀ after r
 
 -- so many bytes more have room, or where they have it on the page, not in the line
 pub record RoomTold (left used count : ℕ) (r : Bool) : Type 0 where

@@ -1,23 +1,64 @@
 // Names and variables in the lines of a clause, which are written on a page as its tokens are read.
 #![tactic(auto)]
 
-ghost use Rattle.std.specs.Prelude.{◌≡◌, true, false, [], ◌∷◌, ◌++◌, ◌+◌, ◌-◌, ◌≤◌, length};
+ghost use Rattle.std.specs.Prelude.{◌≡◌, [], ◌∷◌, ◌++◌, ◌+◌, ◌-◌, ◌≤◌, ◌<◌, length, get_or, set};
 ghost use Rattle.theory.specs.Text.{decimal};
 ghost use Rattle.clause_theory.specs.Import.{numbered_variable};
-ghost use Rattle.text.specs.Scans.{part};
 ghost use Rattle.pages.specs.Pages.{PutAt};
 ghost use Rattle.clause_tokens.specs.declared.Mark.TheVariants.{Name, Variable, Lone};
-ghost use Rattle.term_lines.specs.Drawings.{RoomTold, LetterIs, Drawable, Draws};
+ghost use Rattle.term_lines.specs.Drawings.{Begun, RoomTold, LetterIs, Drawable, Draws};
+
+/// The compounds that are open, and of each symbol among them the place of its arity's digit on the page.
+pub struct OpenCompounds {
+    pub digits: [usize; 256],
+    pub depth: usize,
+}
+
+impl OpenCompounds {
+    /// None is open.
+    pub fn none() -> OpenCompounds
+        ensures { result.depth ≡ 0 }
+    {
+        OpenCompounds {
+            digits: [0; 256],
+            depth: 0,
+        }
+    }
+
+    /// One more opens, whose digit stands at a place.
+    pub fn push(&mut self, digit: usize)
+        requires { self.old.depth < 256 }
+        ensures { (self.new ≡ record { digits = set self.old.digits self.old.depth digit; depth = self.old.depth + 1 }) × (length self.new.digits ≡ 256) }
+    {
+        self.digits[self.depth] = digit;
+        self.depth += 1;
+    }
+
+    /// The innermost is complete.
+    pub fn pop(&mut self)
+        requires { 0 < self.old.depth }
+        ensures { self.new ≡ record { digits = self.old.digits; depth = self.old.depth - 1 } }
+    {
+        self.depth -= 1;
+    }
+
+    /// The place of the innermost's digit.
+    pub fn last(&self) -> usize
+        requires { (0 < self.now.depth) × (self.now.depth ≤ 256) }
+        ensures { result ≡ get_or self.now.digits (self.now.depth - 1) 0 }
+    {
+        self.digits[self.depth - 1]
+    }
+}
 
 /// How far the lines of a clause are written: the place on the page after what is written, where this line begins, how many
-/// compounds are open, how many lines are complete, and how many arguments of the atom have begun.
-#[derive(Clone, Copy)]
-pub struct Drawn {
+/// lines are complete, how many arguments of the atom have begun, and which compounds are open.
+pub struct Pen {
     pub to: usize,
     pub line: usize,
-    pub depth: usize,
     pub atoms: usize,
     pub arguments: usize,
+    pub compounds: OpenCompounds,
 }
 
 /// Whether so many bytes more have no room on the rest of the page, or in their line, of which so many are used.
@@ -36,22 +77,22 @@ fn letter(atoms: usize) -> u8
     if atoms == 0 { b'H' } else { b'B' }
 }
 
-/// Writes a letter, a comma and a part of a text.
-fn put_front(text: &[u8], start: usize, end: usize, letter: u8, page: &mut [u8], to: usize) -> usize
-    requires { (start ≤ end) × (end ≤ length text.now) × (to + (end - start + 2) ≤ length page.old) }
-    ensures { PutAt (letter ∷ 44 ∷ part text.now start end) (end - start + 2) page.old page.new to result }
+/// Writes a letter, a comma and a name.
+fn put_front(name: &[u8], letter: u8, page: &mut [u8], to: usize) -> usize
+    requires { to + (length name.now + 2) ≤ length page.old }
+    ensures { PutAt (letter ∷ 44 ∷ name.now) (length name.now + 2) page.old page.new to result }
 {
     let comma = pages::put_byte(letter, page, to);
-    let name = pages::put_byte(b',', page, comma);
-    pages::put_part(text, start, end, page, name)
+    let first = pages::put_byte(b',', page, comma);
+    pages::put_text(name, page, first)
 }
 
-/// Writes a part of a text, `/` and the digit 0.
-fn put_bare(text: &[u8], start: usize, end: usize, page: &mut [u8], to: usize) -> usize
-    requires { (start ≤ end) × (end ≤ length text.now) × (to + (end - start + 2) ≤ length page.old) }
-    ensures { PutAt (part text.now start end ++ (47 ∷ 48 ∷ [])) (end - start + 2) page.old page.new to result }
+/// Writes a name, `/` and the digit 0.
+fn put_bare(name: &[u8], page: &mut [u8], to: usize) -> usize
+    requires { to + (length name.now + 2) ≤ length page.old }
+    ensures { PutAt (name.now ++ (47 ∷ 48 ∷ [])) (length name.now + 2) page.old page.new to result }
 {
-    let slash = pages::put_part(text, start, end, page, to);
+    let slash = pages::put_text(name, page, to);
     let digit = pages::put_byte(b'/', page, slash);
     pages::put_byte(b'0', page, digit)
 }
@@ -65,121 +106,103 @@ fn put_numbered(number: usize, page: &mut [u8], to: usize) -> usize
     pages::put_number(number as u64, page, digits)
 }
 
-/// The name of a head or a subgoal begins a line.
-fn put_atom(
-    text: &[u8],
-    start: usize,
-    end: usize,
-    drawn: Drawn,
-    page: &mut [u8],
-    digits: &[usize; 256],
-) -> Option<Drawn>
-    requires { (start ≤ end) × (end ≤ length text.now) × (drawn.depth ≡ 0) × Drawable text.now Name start end 0 drawn page.old digits.now }
-    ensures { Draws text.now Name start end 0 drawn page.old digits.now result page.new digits.now }
-{
-    let to = drawn.to;
-    if 16 < end - start {
-        return None;
+impl Pen {
+    /// A pen that has written nothing.
+    pub fn new() -> Pen
+        ensures { Begun result }
+    {
+        Pen {
+            to: 0,
+            line: 0,
+            atoms: 0,
+            arguments: 0,
+            compounds: OpenCompounds::none(),
+        }
     }
-    if 8 < drawn.atoms {
-        return None;
-    }
-    if lacks_room(page.len() - to, 0, end - start + 2) {
-        return None;
-    }
-    let after = put_front(text, start, end, letter(drawn.atoms), page, to);
-    Some(Drawn {
-        to: after,
-        line: to,
-        depth: 0,
-        arguments: 0,
-        ..drawn
-    })
-}
 
-/// The name of a symbol, as if it had no arguments.
-fn put_symbol(
-    text: &[u8],
-    start: usize,
-    end: usize,
-    drawn: Drawn,
-    page: &mut [u8],
-    digits: &[usize; 256],
-) -> Option<Drawn>
-    requires { (start ≤ end) × (end ≤ length text.now) × (drawn.depth ≡ 0 → ⊥) × Drawable text.now Name start end 0 drawn page.old digits.now }
-    ensures { Draws text.now Name start end 0 drawn page.old digits.now result page.new digits.now }
-{
-    let to = drawn.to;
-    if 16 < end - start {
-        return None;
+    /// Goes to the front of a page. The places of digits are not cleared: of what is not open none is read.
+    pub fn begin(&mut self)
+        ensures { Begun self.new }
+    {
+        self.to = 0;
+        self.line = 0;
+        self.atoms = 0;
+        self.arguments = 0;
+        self.compounds.depth = 0;
     }
-    if lacks_room(page.len() - to, to - drawn.line, end - start + 2) {
-        return None;
-    }
-    let after = put_bare(text, start, end, page, to);
-    Some(Drawn { to: after, ..drawn })
-}
 
-/// A name: of a head or a subgoal where nothing is open.
-pub fn put_name(
-    text: &[u8],
-    start: usize,
-    end: usize,
-    drawn: Drawn,
-    page: &mut [u8],
-    digits: &[usize; 256],
-) -> Option<Drawn>
-    requires { (start ≤ end) × (end ≤ length text.now) × Drawable text.now Name start end 0 drawn page.old digits.now }
-    ensures { Draws text.now Name start end 0 drawn page.old digits.now result page.new digits.now }
-{
-    if drawn.depth == 0 {
-        put_atom(text, start, end, drawn, page, digits)
-    } else {
-        put_symbol(text, start, end, drawn, page, digits)
+    /// The name of a head or a subgoal begins a line.
+    fn put_atom(&mut self, name: &[u8], page: &mut [u8]) -> Option<()>
+        requires { (self.old.compounds.depth ≡ 0) × Drawable name.now Name 0 self.old page.old }
+        ensures { Draws name.now Name 0 self.old page.old result self.new page.new }
+    {
+        if 16 < name.len() {
+            return None;
+        }
+        if 8 < self.atoms {
+            return None;
+        }
+        if lacks_room(page.len() - self.to, 0, name.len() + 2) {
+            return None;
+        }
+        self.line = self.to;
+        self.to = put_front(name, letter(self.atoms), page, self.to);
+        self.arguments = 0;
+        Some(())
     }
-}
 
-/// A variable that is named.
-pub fn put_variable(
-    text: &[u8],
-    start: usize,
-    end: usize,
-    drawn: Drawn,
-    page: &mut [u8],
-    digits: &[usize; 256],
-) -> Option<Drawn>
-    requires { (start ≤ end) × (end ≤ length text.now) × Drawable text.now Variable start end 0 drawn page.old digits.now }
-    ensures { Draws text.now Variable start end 0 drawn page.old digits.now result page.new digits.now }
-{
-    let to = drawn.to;
-    if 16 < end - start {
-        return None;
+    /// The name of a symbol, as if it had no arguments.
+    fn put_symbol(&mut self, name: &[u8], page: &mut [u8]) -> Option<()>
+        requires { (self.old.compounds.depth ≡ 0 → ⊥) × Drawable name.now Name 0 self.old page.old }
+        ensures { Draws name.now Name 0 self.old page.old result self.new page.new }
+    {
+        if 16 < name.len() {
+            return None;
+        }
+        if lacks_room(page.len() - self.to, self.to - self.line, name.len() + 2) {
+            return None;
+        }
+        self.to = put_bare(name, page, self.to);
+        Some(())
     }
-    if lacks_room(page.len() - to, to - drawn.line, end - start) {
-        return None;
-    }
-    let after = pages::put_part(text, start, end, page, to);
-    Some(Drawn { to: after, ..drawn })
-}
 
-/// A fresh variable, for a lone `_`.
-pub fn put_lone(
-    text: &[u8],
-    start: usize,
-    end: usize,
-    number: usize,
-    drawn: Drawn,
-    page: &mut [u8],
-    digits: &[usize; 256],
-) -> Option<Drawn>
-    requires { Drawable text.now Lone start end number drawn page.old digits.now }
-    ensures { Draws text.now Lone start end number drawn page.old digits.now result page.new digits.now }
-{
-    let to = drawn.to;
-    let many = pages::digits(number as u64);
-    if lacks_room(page.len() - to, to - drawn.line, many + 1) {
-        return None;
+    /// A name: of a head or a subgoal where nothing is open.
+    pub fn put_name(&mut self, name: &[u8], page: &mut [u8]) -> Option<()>
+        requires { Drawable name.now Name 0 self.old page.old }
+        ensures { Draws name.now Name 0 self.old page.old result self.new page.new }
+    {
+        if self.compounds.depth == 0 {
+            self.put_atom(name, page)
+        } else {
+            self.put_symbol(name, page)
+        }
     }
-    let after = put_numbered(number, page, to);
-    Some(Drawn { to: after, ..drawn })
+
+    /// A variable that is named.
+    pub fn put_variable(&mut self, name: &[u8], page: &mut [u8]) -> Option<()>
+        requires { Drawable name.now Variable 0 self.old page.old }
+        ensures { Draws name.now Variable 0 self.old page.old result self.new page.new }
+    {
+        if 16 < name.len() {
+            return None;
+        }
+        if lacks_room(page.len() - self.to, self.to - self.line, name.len()) {
+            return None;
+        }
+        self.to = pages::put_text(name, page, self.to);
+        Some(())
+    }
+
+    /// A fresh variable, for a lone `_`.
+    pub fn put_lone(&mut self, number: usize, page: &mut [u8]) -> Option<()>
+        requires { Drawable [] Lone number self.old page.old }
+        ensures { Draws [] Lone number self.old page.old result self.new page.new }
+    {
+        let many = pages::digits(number as u64);
+        if lacks_room(page.len() - self.to, self.to - self.line, many + 1) {
+            return None;
+        }
+        self.to = put_numbered(number, page, self.to);
+        Some(())
+    }
 }

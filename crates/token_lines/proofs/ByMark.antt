@@ -1,6 +1,6 @@
 -- The writers by the kind of token, as their dispatchers cite them.
-use mathlib.Core.Path.{◌≡◌, refl, sym, ◌∙◌, subst}
-use mathlib.Core.List.{List, [], ◌∷◌}
+use mathlib.Core.Path.{◌≡◌, refl, ◌∙◌, subst}
+use mathlib.Core.List.{[], ◌∷◌}
 use Prim.Native.Nat.{ℕ}
 use Rattle.std.specs.Prelude.{None}
 use Rattle.std.specs.Prelude as Rust
@@ -10,12 +10,11 @@ use lib.ListN.{length}
 use Rattle.theory.specs.Text.{Bytes}
 use Rattle.clause_theory.specs.ClauseTokens as T
 use Rattle.clause_theory.specs.Clauses.{State}
-use Rattle.text.specs.Scans.{part}
 use Rattle.clause_tokens.specs.contracts.Mark.{the_type}
 use Rattle.clause_tokens.specs.NextTokens.{sign_opens, sign_closes, sign_comma, sign_neck, sign_stop, sign_stray}
 use Rattle.clause_tokens.specs.declared.Mark.{Mark}
 use Rattle.clause_tokens.specs.declared.Mark.TheVariants.{Name, Variable, Lone, Opens, Closes, Comma, Neck, Stop, Stray, Nothing}
-use Rattle.term_lines.specs.declared.Drawn.{Drawn}
+use Rattle.term_lines.specs.declared.Pen.{Pen}
 use Rattle.term_lines.specs.Texts.{EndsAtom, Moves, ends_line}
 use Rattle.term_lines.specs.Drawings.{Shows, shows_name, shows_variable, shows_lone, shows_sign, Drawable, Draws, passes}
 use Rattle.token_lines.specs.LineEnds.{EndsLine, comma_ends, neck_ends, stop_ends}
@@ -35,46 +34,48 @@ never_shown (shows_sign sign_neck) moves way = absurd (miss (8 ∷ 9 ∷ []) 6 t
 never_shown (shows_sign sign_stop) moves way = absurd (miss (8 ∷ 9 ∷ []) 7 tt way)
 never_shown (shows_sign sign_stray) (ends_line e) way = no_stray e
 
--- a token that is no lone `_`: its number does not matter
-pub data Plain : Mark → Type 0 where
-  plain_name : Plain Name
-  plain_variable : Plain Variable
-  plain_opens : Plain Opens
-  plain_closes : Plain Closes
-  plain_comma : Plain Comma
-  plain_neck : Plain Neck
-  plain_stop : Plain Stop
+-- what of a token the writer of its kind is given, its bytes or its number: the rest does not matter
+pub data Given (x : Bytes) (number : ℕ) : Mark → Bytes → ℕ → Type 0 where
+  given_name : Given x number Name x 0
+  given_variable : Given x number Variable x 0
+  given_lone : Given x number Lone [] number
+  given_opens : Given x number Opens [] 0
+  given_closes : Given x number Closes [] 0
+  given_comma : Given x number Comma [] 0
+  given_neck : Given x number Neck [] 0
+  given_stop : Given x number Stop [] 0
 
-pub renumber : {x : Bytes} {k : Mark} (i j : ℕ) {m : T.Mark} → Plain k → Shows x i k m → Shows x j k m
-renumber i j plain (shows_name told) = shows_name told
-renumber i j plain (shows_variable told) = shows_variable told
-renumber i j plain (shows_lone small) = elim plain [ ]
-renumber i j plain (shows_sign sign) = shows_sign sign
+pub shows_given : {x y : Bytes} {i j : ℕ} {k : Mark} {m : T.Mark} → Given x i k y j → Shows x i k m → Shows y j k m
+shows_given given_name (shows_name told) = shows_name told
+shows_given given_name (shows_sign sign) = shows_sign sign
+shows_given given_variable (shows_variable told) = shows_variable told
+shows_given given_variable (shows_sign sign) = shows_sign sign
+shows_given given_lone (shows_lone small) = shows_lone small
+shows_given given_lone (shows_sign sign) = shows_sign sign
+shows_given given_opens (shows_sign sign) = shows_sign sign
+shows_given given_closes (shows_sign sign) = shows_sign sign
+shows_given given_comma (shows_sign sign) = shows_sign sign
+shows_given given_neck (shows_sign sign) = shows_sign sign
+shows_given given_stop (shows_sign sign) = shows_sign sign
 
-module _ {text : Bytes} {mark : Mark} {start end number : ℕ} {d : Drawn} {page : Bytes} {digits : List ℕ} where
-  abbrev pub drawable_as : {k : Mark} → Plain k → mark ≡ k → Drawable text mark start end number d page digits → Drawable text k start end 0 d page digits
-  drawable_as {k} plain is w = record {
+module _ {x : Bytes} {mark : Mark} {number : ℕ} {d : Pen} {page : Bytes} where
+  abbrev pub drawable_as : {k : Mark} {y : Bytes} {j : ℕ} → Given x number k y j → mark ≡ k → Drawable x mark number d page → Drawable y k j d page
+  drawable_as given is w = record {
     page₀ = w.page₀;
     state = w.state;
     next = w.next;
     token = w.token;
     drawing = w.drawing;
-    shows = renumber number 0 plain (subst (λ j. Shows (part text start end) number j w.token) is w.shows);
+    shows = shows_given given (subst (λ j. Shows x number j w.token) is w.shows);
     moves = w.moves;
   }
 
-  pub draws_as : {k : Mark} {r : Rust.Option Drawn} {after : Bytes} {digitsAfter : List ℕ} → Plain k → mark ≡ k → Draws text k start end 0 d page digits r after digitsAfter → Draws text mark start end number d page digits r after digitsAfter
-  draws_as plain is draws = record { size = draws.size; kept = draws.kept; drawn = λ w. draws.drawn (drawable_as plain is w) }
-
-  pub drawable_lone : mark ≡ Lone → Drawable text mark start end number d page digits → Drawable text Lone start end number d page digits
-  drawable_lone is w = subst (λ k. Drawable text k start end number d page digits) is w
-
-  pub draws_lone : {r : Rust.Option Drawn} {after : Bytes} → mark ≡ Lone → Draws text Lone start end number d page digits r after digits → Draws text mark start end number d page digits r after digits
-  draws_lone {r} {after} is draws = subst (λ k. Draws text k start end number d page digits r after digits) (sym is) draws
+  pub draws_as : {k : Mark} {y : Bytes} {j : ℕ} {r : Rust.Option (Unit {0})} {e : Pen} {after : Bytes} → Given x number k y j → mark ≡ k → Draws y k j d page r e after → Draws x mark number d page r e after
+  draws_as given is draws = record { size = draws.size; drawn = λ w. draws.drawn (drawable_as given is w) }
 
   -- no move is by another token
-  pub draws_other : OneOf (8 ∷ 9 ∷ []) (tag_of the_type mark) → Draws text mark start end number d page digits None page digits
-  draws_other way = record { size = refl; kept = refl; drawn = λ w. passes (λ fits. absurd (never_shown w.shows w.moves way)) }
+  pub draws_other : OneOf (8 ∷ 9 ∷ []) (tag_of the_type mark) → Draws x mark number d page None d page
+  draws_other way = record { size = refl; drawn = λ w. passes (λ fits. absurd (never_shown w.shows w.moves way)) }
 
 -- ---- the ends of lines
 
@@ -90,10 +91,10 @@ ends_by_tag Stop way = stop_ends
 ends_by_tag Stray way = absurd (miss (6 ∷ 7 ∷ []) 8 tt way)
 ends_by_tag Nothing way = absurd (miss (6 ∷ 7 ∷ []) 9 tt way)
 
-pub ends_plain : {k : Mark} → EndsLine k → Plain k
-ends_plain comma_ends = plain_comma
-ends_plain neck_ends = plain_neck
-ends_plain stop_ends = plain_stop
+ends_given : {x : Bytes} {number : ℕ} {k : Mark} → EndsLine k → Given x number k [] 0
+ends_given comma_ends = given_comma
+ends_given neck_ends = given_neck
+ends_given stop_ends = given_stop
 
 -- nothing is open where a neck or a stop stands
 shut_there : {x : Bytes} {i : ℕ} {k : Mark} {s next : State} {m : T.Mark} → Shows x i k m → Moves s m next → OneOf (6 ∷ 7 ∷ []) (tag_of the_type k) → length s.opened ≡ 0
@@ -107,12 +108,12 @@ shut_there (shows_sign sign_neck) (ends_line e) way = refl
 shut_there (shows_sign sign_stop) (ends_line e) way = refl
 shut_there (shows_sign sign_stray) moves way = absurd (miss (6 ∷ 7 ∷ []) 8 tt way)
 
-module _ {text : Bytes} {mark : Mark} {start end number : ℕ} {d : Drawn} {page : Bytes} {digits : List ℕ} (way : OneOf (6 ∷ 7 ∷ []) (tag_of the_type mark)) where
-  pub ends_shut : Drawable text mark start end number d page digits → d.depth ≡ 0
+module _ {x : Bytes} {mark : Mark} {number : ℕ} {d : Pen} {page : Bytes} (way : OneOf (6 ∷ 7 ∷ []) (tag_of the_type mark)) where
+  pub ends_shut : Drawable x mark number d page → d.compounds.depth ≡ 0
   ends_shut w = w.drawing.depth ∙ shut_there w.shows w.moves way
 
-  pub drawable_ends : Drawable text mark start end number d page digits → Drawable text mark start end 0 d page digits
-  drawable_ends w = drawable_as (ends_plain (ends_by_tag mark way)) refl w
+  pub drawable_ends : Drawable x mark number d page → Drawable [] mark 0 d page
+  drawable_ends w = drawable_as (ends_given (ends_by_tag mark way)) refl w
 
-  pub draws_ends : {r : Rust.Option Drawn} {after : Bytes} → Draws text mark start end 0 d page digits r after digits → Draws text mark start end number d page digits r after digits
-  draws_ends draws = draws_as (ends_plain (ends_by_tag mark way)) refl draws
+  pub draws_ends : {r : Rust.Option (Unit {0})} {e : Pen} {after : Bytes} → Draws [] mark 0 d page r e after → Draws x mark number d page r e after
+  draws_ends draws = draws_as (ends_given (ends_by_tag mark way)) refl draws

@@ -1,5 +1,5 @@
 -- What the writers cite of a comma after an argument of a symbol: the symbol's digit is one more.
-use mathlib.Core.Path.{◌≡◌, refl, sym, ◌∙◌, ap, subst}
+use mathlib.Core.Path.{◌≡◌, sym, ◌∙◌, ap, subst}
 use mathlib.Core.Bool.{Bool, true, false}
 use mathlib.Core.List.{List, [], ◌∷◌, ◌++◌, append_assoc}
 use mathlib.Core.Option.{Option}
@@ -18,7 +18,7 @@ use Rattle.pages.specs.Pages.{Puts}
 use Rattle.pages.proofs.Puts.{puts_more, puts_change}
 use Rattle.clause_tokens.specs.NextTokens.{sign_comma}
 use Rattle.clause_tokens.specs.declared.Mark.TheVariants.{Comma}
-use Rattle.term_lines.specs.declared.Drawn.{Drawn}
+use Rattle.term_lines.specs.declared.Pen.{Pen}
 use Rattle.term_lines.specs.Texts.{after_each, drawn_text, Moves, ends_line, next_argument, next_term, current, StateFits}
 use Rattle.term_lines.specs.Drawings.{Drawing, DrawnNext, drawn_on, Shows, shows_sign, Drawable, Draws, RoomTold}
 use Rattle.token_lines.specs.Raising.{Raised}
@@ -32,7 +32,7 @@ by_term P (shows_sign sign_comma) (ends_line e) deep p = absurd (omega arith)
 by_term P (shows_sign sign_comma) next_argument deep p = absurd (omega arith)
 by_term P (shows_sign sign_comma) (next_term {before = before} {o = o} {p = q} {opened = opened} {t = t}) deep p = p before o q opened t
 
-module _ {d : Drawn} {page₀ page : Bytes} {digits : List ℕ} {before : Option Clause} {o p : Open} {opened : List Open} {t : Term} (g : Drawing (state before (o ∷ p ∷ opened) (read t)) d page₀ page digits) where
+module _ {d : Pen} {page₀ page : Bytes} {before : Option Clause} {o p : Open} {opened : List Open} {t : Term} (g : Drawing (state before (o ∷ p ∷ opened) (read t)) d page₀ page) where
   -- what stands before the digit, and after it
   front : Bytes
   front = drawn_text (state before (p ∷ opened) due) ++ (o.name ++ (47 ∷ []))
@@ -47,16 +47,16 @@ module _ {d : Drawn} {page₀ page : Bytes} {digits : List ℕ} {before : Option
   unfolding front rest
   digit_text = drawn_digit before o p opened t ∙ ap (λ bs. front ++ (bs ++ rest)) (decimal_one (suc (arity o.before)) (omega (arith, few)))
 
-  digit_place : get_or digits (d.depth - 1) 0 ≡ length front
+  digit_place : get_or d.compounds.digits (d.compounds.depth - 1) 0 ≡ length front
   unfolding front
   digit_place =
-      ap (λ i. get_or digits i 0) (omega (arith, g.depth)) ∙ g.stand.0
+      ap (λ i. get_or d.compounds.digits i 0) (omega (arith, g.depth)) ∙ g.stand.0
       ∙ omega (arith, length-append (drawn_text (state before (p ∷ opened) due)) (o.name ++ (47 ∷ [])), length_end o.name 47)
 
   digit_before : length front < d.to
   digit_before = omega (arith, g.puts.many, ap length digit_text, length-append front ((48 + suc (arity o.before)) ∷ rest))
 
-  digit_is : get_or page (get_or digits (d.depth - 1) 0) 0 ≡ 48 + suc (arity o.before)
+  digit_is : get_or page (get_or d.compounds.digits (d.compounds.depth - 1) 0) 0 ≡ 48 + suc (arity o.before)
   digit_is =
       ap (λ i. get_or page i 0) digit_place
       ∙ ap (λ bs. get_or bs (length front) 0) (g.puts.is ∙ ap (λ bs. bs ++ drop d.to page₀) digit_text ∙ append_assoc front ((48 + suc (arity o.before)) ∷ rest) (drop d.to page₀))
@@ -67,20 +67,20 @@ module _ {d : Drawn} {page₀ page : Bytes} {digits : List ℕ} {before : Option
   unfolding front rest
   next_text fewer = drawn_next before o p opened t ∙ ap (λ bs. front ++ (bs ++ (rest ++ (32 ∷ [])))) (decimal_one (suc (suc (arity o.before))) (omega arith))
 
-module _ {text : Bytes} {start end : ℕ} {d : Drawn} {page : Bytes} {digits : List ℕ} (deep : 1 < d.depth) {digit : ℕ} (place : digit ≡ get_or digits (d.depth - 1) 0) where
-  deep_state : (w : Drawable text Comma start end 0 d page digits) → 1 < length w.state.opened
+module _ {d : Pen} {page : Bytes} (deep : 1 < d.compounds.depth) {digit : ℕ} (place : digit ≡ get_or d.compounds.digits (d.compounds.depth - 1) 0) where
+  deep_state : (w : Drawable [] Comma 0 d page) → 1 < length w.state.opened
   deep_state w = omega (arith, w.drawing.depth)
 
-  pub digit_inside : Drawable text Comma start end 0 d page digits → digit < length page
-  digit_inside w = by_term (λ s next. Drawing s d w.page₀ page digits → digit < length page) w.shows w.moves (deep_state w)
+  pub digit_inside : Drawable [] Comma 0 d page → digit < length page
+  digit_inside w = by_term (λ s next. Drawing s d w.page₀ page → digit < length page) w.shows w.moves (deep_state w)
       (λ before o p opened t g. omega (arith, place, digit_place g, digit_before g, page_size g, g.room)) w.drawing
 
-  pub arity_full : 56 < get_or page digit 0 → Draws text Comma start end 0 d page digits None page digits
-  arity_full full = draws_none (λ w. by_term (λ s next. Drawing s d w.page₀ page digits → StateFits next → length w.page₀ < length (drawn_text next)) w.shows w.moves (deep_state w)
+  pub arity_full : 56 < get_or page digit 0 → Draws [] Comma 0 d page None d page
+  arity_full full = draws_none (λ w. by_term (λ s next. Drawing s d w.page₀ page → StateFits next → length w.page₀ < length (drawn_text next)) w.shows w.moves (deep_state w)
       (λ before o p opened t g fits. absurd (omega (arith, ap (λ i. get_or page i 0) place, digit_is g, fits.opens_fit.0.few, arity_more t o.before))) w.drawing)
 
-  pub term_no_room : (lacks : Bool) → get_or page digit 0 ≤ 56 → RoomTold (length page - d.to) (d.to - d.line) 1 lacks → lacks ≡ true → Draws text Comma start end 0 d page digits None page digits
-  term_no_room lacks low told is = draws_none (λ w. by_term (λ s next. Drawing s d w.page₀ page digits → StateFits next → length w.page₀ < length (drawn_text next)) w.shows w.moves (deep_state w)
+  pub term_no_room : (lacks : Bool) → get_or page digit 0 ≤ 56 → RoomTold (length page - d.to) (d.to - d.line) 1 lacks → lacks ≡ true → Draws [] Comma 0 d page None d page
+  term_no_room lacks low told is = draws_none (λ w. by_term (λ s next. Drawing s d w.page₀ page → StateFits next → length w.page₀ < length (drawn_text next)) w.shows w.moves (deep_state w)
       (λ before o p opened t g.
       let next = state before (record { name = o.name; before = ending_term t o.before } ∷ p ∷ opened) due in
       let grown = line_next before o p opened t (omega (arith, ap (λ i. get_or page i 0) place, digit_is g)) in
@@ -88,17 +88,16 @@ module _ {text : Bytes} {start end : ℕ} {d : Drawn} {page : Bytes} {digits : L
       (omega (arith, grown, drawn_length before (o ∷ p ∷ opened) (read t), drawn_length before (record { name = o.name; before = ending_term t o.before } ∷ p ∷ opened) due, g.puts.many)) (omega (arith, grown, to_is g))) w.drawing)
 
   pub term_put : {after : Bytes} {q : ℕ} (lacks : Bool) → get_or page digit 0 ≤ 56 → RoomTold (length page - d.to) (d.to - d.line) 1 lacks → lacks ≡ false → Raised page digit (get_or page digit 0) d.to q after
-      → Draws text Comma start end 0 d page digits (Some (record { to = q; line = d.line; depth = d.depth; atoms = d.atoms; arguments = d.arguments })) after digits
+      → Draws [] Comma 0 d page (Some tt) (record { to = q; line = d.line; atoms = d.atoms; arguments = d.arguments; compounds = d.compounds }) after
   unfolding current
   term_put {after} {q} lacks low told is raised = record {
     size = ap length raised.is ∙ length-set raised.between digit (get_or page digit 0 + 1) ∙ raised.put.size;
-    kept = refl;
-    drawn = λ w. by_term (λ s next. Drawing s d w.page₀ page digits → DrawnNext next w.page₀ after digits (Some (record { to = q; line = d.line; depth = d.depth; atoms = d.atoms; arguments = d.arguments })))
+    drawn = λ w. by_term (λ s next. Drawing s d w.page₀ page → DrawnNext next (record { to = q; line = d.line; atoms = d.atoms; arguments = d.arguments; compounds = d.compounds }) w.page₀ after (Some tt))
         w.shows w.moves (deep_state w) (λ before o p opened t g. drawn_on (drawing before o p opened t g)) w.drawing;
   }
     where
-      drawing : {page₀ : Bytes} (before : Option Clause) (o p : Open) (opened : List Open) (t : Term) → Drawing (state before (o ∷ p ∷ opened) (read t)) d page₀ page digits
-          → Drawing (state before (record { name = o.name; before = ending_term t o.before } ∷ p ∷ opened) due) (record { to = q; line = d.line; depth = d.depth; atoms = d.atoms; arguments = d.arguments }) page₀ after digits
+      drawing : {page₀ : Bytes} (before : Option Clause) (o p : Open) (opened : List Open) (t : Term) → Drawing (state before (o ∷ p ∷ opened) (read t)) d page₀ page
+          → Drawing (state before (record { name = o.name; before = ending_term t o.before } ∷ p ∷ opened) due) (record { to = q; line = d.line; atoms = d.atoms; arguments = d.arguments; compounds = d.compounds }) page₀ after
       drawing {page₀} before o p opened t g =
           let k = arity o.before in
           let now-is : get_or page digit 0 ≡ 48 + suc k = ap (λ i. get_or page i 0) place ∙ digit_is g in

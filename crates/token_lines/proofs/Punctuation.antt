@@ -19,7 +19,8 @@ use Rattle.pages.proofs.Puts.{puts_more, puts_change}
 use Rattle.clause_tokens.specs.NextTokens.{sign_opens, sign_closes, sign_comma, sign_neck, sign_stop}
 use Rattle.clause_tokens.specs.declared.Mark.{Mark}
 use Rattle.clause_tokens.specs.declared.Mark.TheVariants.{Opens, Closes, Comma}
-use Rattle.term_lines.specs.declared.Drawn.{Drawn}
+use Rattle.term_lines.specs.declared.OpenCompounds.{OpenCompounds}
+use Rattle.term_lines.specs.declared.Pen.{Pen}
 use Rattle.term_lines.specs.Texts.{open_text, last_text, drawn_text, Moves, opens_atom, opens_symbol, closes_one, ends_line, next_argument, next_term, atoms_of, OpenFits, OpenedFit, LastFits, current, PartsFit, StateFits}
 use Rattle.term_lines.specs.Drawings.{DigitsStand, ArgumentsBegun, Drawing, DrawnNext, drawn_on, Shows, shows_sign, Drawable, Draws, RoomTold}
 use Rattle.token_lines.specs.LineEnds.{EndsLine, comma_ends, neck_ends, stop_ends}
@@ -40,21 +41,20 @@ bare_opens : (limit : ℕ) (f : Bytes) → 1 ≤ limit → is_name f ≡ true �
 unfolding arity term_fits
 bare_opens limit f h named = record { named = named; few = omega arith; formed = refl }
 
-module _ {text : Bytes} {start end : ℕ} {d : Drawn} {page : Bytes} {digits : List ℕ} (shut : d.depth ≡ 0) where
-  pub opens_no_room : (lacks : Bool) → RoomTold (length page - d.to) (d.to - d.line) 1 lacks → lacks ≡ true → Draws text Opens start end 0 d page digits None page digits
-  opens_no_room lacks told is = draws_none (λ w. by_opens_atom (λ s next. Drawing s d w.page₀ page digits → StateFits next → length w.page₀ < length (drawn_text next)) w.shows w.moves (omega (arith, w.drawing.depth, shut))
+module _ {d : Pen} {page : Bytes} (shut : d.compounds.depth ≡ 0) where
+  pub opens_no_room : (lacks : Bool) → RoomTold (length page - d.to) (d.to - d.line) 1 lacks → lacks ≡ true → Draws [] Opens 0 d page None d page
+  opens_no_room lacks told is = draws_none (λ w. by_opens_atom (λ s next. Drawing s d w.page₀ page → StateFits next → length w.page₀ < length (drawn_text next)) w.shows w.moves (omega (arith, w.drawing.depth, shut))
       (λ before f g. no_room w (d.to - d.line) 1 (state before (record { name = f; before = nil } ∷ []) due) lacks told is
       (omega (arith, ap length (drawn_atom_opens before f), length_end (drawn_text (state before [] (read (symbol f nil)))) 44, g.puts.many)) (omega (arith, line_atom_opens before f, to_is g))) w.drawing)
 
-  pub opens_put : {after : Bytes} {q : ℕ} (lacks : Bool) → RoomTold (length page - d.to) (d.to - d.line) 1 lacks → lacks ≡ false → PutAt (44 ∷ []) 1 page after d.to q
-      → Draws text Opens start end 0 d page digits (Some (record { to = q; line = d.line; depth = 1; atoms = d.atoms; arguments = 1 })) after digits
+  pub opens_put : {after : Bytes} {q : ℕ} {k : OpenCompounds} (lacks : Bool) (place : ℕ) → RoomTold (length page - d.to) (d.to - d.line) 1 lacks → lacks ≡ false → k ≡ record { digits = set d.compounds.digits d.compounds.depth place; depth = d.compounds.depth + 1 }
+      → PutAt (44 ∷ []) 1 page after d.to q → Draws [] Opens 0 d page (Some tt) (record { to = q; line = d.line; atoms = d.atoms; arguments = 1; compounds = k }) after
   unfolding current arity atom_of
-  opens_put {after} {q} lacks told is copied = record {
+  opens_put {after} {q} {k} lacks place told is pushed copied = record {
     size = copied.size;
-    kept = refl;
-    drawn = λ w. by_opens_atom (λ s next. Drawing s d w.page₀ page digits → DrawnNext next w.page₀ after digits (Some (record { to = q; line = d.line; depth = 1; atoms = d.atoms; arguments = 1 }))) w.shows w.moves
+    drawn = λ w. by_opens_atom (λ s next. Drawing s d w.page₀ page → DrawnNext next (record { to = q; line = d.line; atoms = d.atoms; arguments = 1; compounds = k }) w.page₀ after (Some tt)) w.shows w.moves
         (omega (arith, w.drawing.depth, shut))
-        (λ before f g. drawn_on (in_line (44 ∷ []) lacks told is copied refl [] (record { name = f; before = nil } ∷ []) (read (symbol f nil)) due g _ refl refl refl refl refl tt
+        (λ before f g. drawn_on (in_line (44 ∷ []) lacks told is copied refl [] (record { name = f; before = nil } ∷ []) (read (symbol f nil)) due g _ refl refl (omega (arith, ap (λ (c : OpenCompounds). c.depth) pushed, shut)) refl refl tt
         (drawn_atom_opens before f) (line_atom_opens before f) refl (bare_opens 8 f (omega arith) (atom_named f nil g.fits.last_fits)) tt)) w.drawing;
   }
 
@@ -66,23 +66,22 @@ by_argument P (shows_sign sign_comma) (ends_line e) one p = absurd (omega arith)
 by_argument P (shows_sign sign_comma) (next_argument {before = before} {o = o} {t = t}) one p = p before o t
 by_argument P (shows_sign sign_comma) next_term one p = absurd (omega arith)
 
-module _ {text : Bytes} {start end : ℕ} {d : Drawn} {page : Bytes} {digits : List ℕ} (single : d.depth ≡ 1) where
-  pub arguments_many : 7 < d.arguments → Draws text Comma start end 0 d page digits None page digits
-  arguments_many many = draws_none (λ w. by_argument (λ s next. Drawing s d w.page₀ page digits → StateFits next → length w.page₀ < length (drawn_text next)) w.shows w.moves (omega (arith, w.drawing.depth, single))
+module _ {d : Pen} {page : Bytes} (single : d.compounds.depth ≡ 1) where
+  pub arguments_many : 7 < d.arguments → Draws [] Comma 0 d page None d page
+  arguments_many many = draws_none (λ w. by_argument (λ s next. Drawing s d w.page₀ page → StateFits next → length w.page₀ < length (drawn_text next)) w.shows w.moves (omega (arith, w.drawing.depth, single))
       (λ before o t g fits. absurd (omega (arith, g.arguments, fits.opens_fit.few, arity_more t o.before))) w.drawing)
 
-  pub argument_no_room : (lacks : Bool) → RoomTold (length page - d.to) (d.to - d.line) 1 lacks → lacks ≡ true → Draws text Comma start end 0 d page digits None page digits
-  argument_no_room lacks told is = draws_none (λ w. by_argument (λ s next. Drawing s d w.page₀ page digits → StateFits next → length w.page₀ < length (drawn_text next)) w.shows w.moves (omega (arith, w.drawing.depth, single))
+  pub argument_no_room : (lacks : Bool) → RoomTold (length page - d.to) (d.to - d.line) 1 lacks → lacks ≡ true → Draws [] Comma 0 d page None d page
+  argument_no_room lacks told is = draws_none (λ w. by_argument (λ s next. Drawing s d w.page₀ page → StateFits next → length w.page₀ < length (drawn_text next)) w.shows w.moves (omega (arith, w.drawing.depth, single))
       (λ before o t g. no_room w (d.to - d.line) 1 (state before (record { name = o.name; before = ending_term t o.before } ∷ []) due) lacks told is
       (omega (arith, ap length (drawn_argument before o t), length_end (drawn_text (state before (o ∷ []) (read t))) 44, g.puts.many)) (omega (arith, line_argument before o t, to_is g))) w.drawing)
 
   pub argument_put : {after : Bytes} {q : ℕ} (lacks : Bool) → d.arguments ≤ 7 → RoomTold (length page - d.to) (d.to - d.line) 1 lacks → lacks ≡ false → PutAt (44 ∷ []) 1 page after d.to q
-      → Draws text Comma start end 0 d page digits (Some (record { to = q; line = d.line; depth = d.depth; atoms = d.atoms; arguments = d.arguments + 1 })) after digits
+      → Draws [] Comma 0 d page (Some tt) (record { to = q; line = d.line; atoms = d.atoms; arguments = d.arguments + 1; compounds = d.compounds }) after
   unfolding current
   argument_put {after} {q} lacks few told is copied = record {
     size = copied.size;
-    kept = refl;
-    drawn = λ w. by_argument (λ s next. Drawing s d w.page₀ page digits → DrawnNext next w.page₀ after digits (Some (record { to = q; line = d.line; depth = d.depth; atoms = d.atoms; arguments = d.arguments + 1 }))) w.shows w.moves
+    drawn = λ w. by_argument (λ s next. Drawing s d w.page₀ page → DrawnNext next (record { to = q; line = d.line; atoms = d.atoms; arguments = d.arguments + 1; compounds = d.compounds }) w.page₀ after (Some tt)) w.shows w.moves
         (omega (arith, w.drawing.depth, single))
         (λ before o t g. drawn_on (in_line (44 ∷ []) lacks told is copied refl (o ∷ []) (record { name = o.name; before = ending_term t o.before } ∷ []) (read t) due g _ refl refl g.depth refl
         (omega (arith, g.arguments, arity_more t o.before)) tt (drawn_argument before o t) (line_argument before o t) refl
@@ -120,23 +119,22 @@ unfolding current
 still_one [] t = refl
 still_one (o ∷ opened) t = refl
 
-module _ {text : Bytes} {start end : ℕ} {d : Drawn} {page : Bytes} {digits : List ℕ} where
-  pub closes_deep : Drawable text Closes start end 0 d page digits → 1 ≤ d.depth
-  closes_deep w = by_closes (λ s next. d.depth ≡ length s.opened → 1 ≤ d.depth) w.shows w.moves (λ before o opened t e. omega arith) w.drawing.depth
+module _ {d : Pen} {page : Bytes} where
+  pub closes_deep : Drawable [] Closes 0 d page → 1 ≤ d.compounds.depth
+  closes_deep w = by_closes (λ s next. d.compounds.depth ≡ length s.opened → 1 ≤ d.compounds.depth) w.shows w.moves (λ before o opened t e. omega arith) w.drawing.depth
 
-  pub closes_put : Draws text Closes start end 0 d page digits (Some (record { to = d.to; line = d.line; depth = d.depth - 1; atoms = d.atoms; arguments = d.arguments })) page digits
-  closes_put = record {
+  pub closes_put : {k : OpenCompounds} → k ≡ record { digits = d.compounds.digits; depth = d.compounds.depth - 1 } → Draws [] Closes 0 d page (Some tt) (record { to = d.to; line = d.line; atoms = d.atoms; arguments = d.arguments; compounds = k }) page
+  closes_put {k} popped = record {
     size = refl;
-    kept = refl;
-    drawn = λ w. by_closes (λ s next. Drawing s d w.page₀ page digits → DrawnNext next w.page₀ page digits (Some (record { to = d.to; line = d.line; depth = d.depth - 1; atoms = d.atoms; arguments = d.arguments }))) w.shows w.moves
+    drawn = λ w. by_closes (λ s next. Drawing s d w.page₀ page → DrawnNext next (record { to = d.to; line = d.line; atoms = d.atoms; arguments = d.arguments; compounds = k }) w.page₀ page (Some tt)) w.shows w.moves
         (λ before o opened t g. drawn_on (record {
           puts = subst (λ bs. Puts bs w.page₀ page d.to) (sym (drawn_closes before o opened t)) g.puts;
           room = g.room;
           line = g.line;
-          depth = omega (arith, g.depth);
+          depth = omega (arith, ap (λ (c : OpenCompounds). c.depth) popped, g.depth);
           atoms = g.atoms;
           arguments = begun_before o opened d.arguments g.arguments;
-          stand = stand_before before o opened digits g.stand;
+          stand = subst (DigitsStand before opened) (sym (ap (λ (c : OpenCompounds). c.digits) popped)) (stand_before before o opened d.compounds.digits g.stand);
           fits = record {
             atoms = g.fits.atoms;
             lines = g.fits.lines;
@@ -158,17 +156,16 @@ by_ends P comma_ends (shows_sign sign_comma) next_term zero p = absurd (omega ar
 by_ends P neck_ends (shows_sign sign_neck) (ends_line {before = before} {t = t} e) zero p = p before t
 by_ends P stop_ends (shows_sign sign_stop) (ends_line {before = before} {t = t} e) zero p = p before t
 
-module _ {text : Bytes} {mark : Mark} {start end : ℕ} {d : Drawn} {page : Bytes} {digits : List ℕ} (shut : d.depth ≡ 0) (ends : EndsLine mark) where
-  pub end_no_room : length page ≤ d.to → Draws text mark start end 0 d page digits None page digits
-  end_no_room full = draws_none (λ w. by_ends (λ s next. Drawing s d w.page₀ page digits → StateFits next → length w.page₀ < length (drawn_text next)) ends w.shows w.moves (omega (arith, w.drawing.depth, shut))
+module _ {mark : Mark} {d : Pen} {page : Bytes} (shut : d.compounds.depth ≡ 0) (ends : EndsLine mark) where
+  pub end_no_room : length page ≤ d.to → Draws [] mark 0 d page None d page
+  end_no_room full = draws_none (λ w. by_ends (λ s next. Drawing s d w.page₀ page → StateFits next → length w.page₀ < length (drawn_text next)) ends w.shows w.moves (omega (arith, w.drawing.depth, shut))
       (λ before t g fits. omega (arith, ap length (drawn_line before t), length_end (drawn_text (state before [] (read t))) 10, g.puts.many, page_size g)) w.drawing)
 
   pub end_put : {after : Bytes} {q : ℕ} → d.to < length page → PutAt (10 ∷ []) 1 page after d.to q
-      → Draws text mark start end 0 d page digits (Some (record { to = q; line = q; depth = 0; atoms = d.atoms + 1; arguments = 0 })) after digits
+      → Draws [] mark 0 d page (Some tt) (record { to = q; line = q; atoms = d.atoms + 1; arguments = 0; compounds = d.compounds }) after
   end_put {after} {q} room copied = record {
     size = copied.size;
-    kept = refl;
-    drawn = λ w. by_ends (λ s next. Drawing s d w.page₀ page digits → DrawnNext next w.page₀ after digits (Some (record { to = q; line = q; depth = 0; atoms = d.atoms + 1; arguments = 0 }))) ends w.shows w.moves
+    drawn = λ w. by_ends (λ s next. Drawing s d w.page₀ page → DrawnNext next (record { to = q; line = q; atoms = d.atoms + 1; arguments = 0; compounds = d.compounds }) w.page₀ after (Some tt)) ends w.shows w.moves
         (omega (arith, w.drawing.depth, shut))
         (λ before t g.
         let put : Puts (drawn_text (state (some (added before (atom_of t))) [] due)) w.page₀ after q = subst (λ bs. Puts bs w.page₀ after q) (sym (drawn_line before t)) (puts_more g.puts (10 ∷ []) copied.puts) in
@@ -176,7 +173,7 @@ module _ {text : Bytes} {mark : Mark} {start end : ℕ} {d : Drawn} {page : Byte
           puts = put;
           room = omega (arith, copied.after, page_size g);
           line = omega (arith, put.many, drawn_length (some (added before (atom_of t))) [] due, no_line (some (added before (atom_of t))));
-          depth = refl;
+          depth = shut;
           atoms = omega (arith, g.atoms, ap length (atoms_added before (atom_of t)), length_end (atoms_of before) (atom_of t));
           arguments = tt;
           stand = tt;
@@ -202,39 +199,39 @@ stand_kept before (o ∷ p ∷ opened) digits k v h stand = (get_or-set_other di
 line_deep : (before : Option Clause) (opened : List Open) (last : Last) → PartsFit before opened last → 4 * length opened ≤ 1024
 line_deep before opened last fits = omega (arith, deep_line before opened fits.opens_fit, fits.line, length-append (open_text before opened) (last_text before opened last))
 
-pub depth_small : {text : Bytes} {mark : Mark} {start end number : ℕ} {d : Drawn} {page : Bytes} {digits : List ℕ} → Drawable text mark start end number d page digits → d.depth ≤ 256
+pub depth_small : {x : Bytes} {mark : Mark} {number : ℕ} {d : Pen} {page : Bytes} → Drawable x mark number d page → d.compounds.depth ≤ 256
 depth_small w = omega (arith, line_deep w.state.before w.state.opened w.state.last w.drawing.fits, w.drawing.depth)
 
-module _ {text : Bytes} {start end : ℕ} {d : Drawn} {page : Bytes} {digits : List ℕ} (inside : d.depth ≡ 0 → ⊥) where
-  pub too_deep : 255 < d.depth → Draws text Opens start end 0 d page digits None page digits
-  too_deep deep = draws_none (λ w. by_opens_symbol (λ s next. Drawing s d w.page₀ page digits → StateFits next → length w.page₀ < length (drawn_text next)) w.shows w.moves (λ e. inside (w.drawing.depth ∙ e))
+module _ {d : Pen} {page : Bytes} (inside : d.compounds.depth ≡ 0 → ⊥) where
+  pub too_deep : 255 < d.compounds.depth → Draws [] Opens 0 d page None d page
+  too_deep deep = draws_none (λ w. by_opens_symbol (λ s next. Drawing s d w.page₀ page → StateFits next → length w.page₀ < length (drawn_text next)) w.shows w.moves (λ e. inside (w.drawing.depth ∙ e))
       (λ before o opened f g fits. absurd (omega (arith, line_deep before (record { name = f; before = nil } ∷ o ∷ opened) due fits, g.depth))) w.drawing)
 
-  pub symbol_opens_no_room : (lacks : Bool) → RoomTold (length page - d.to) (d.to - d.line) 1 lacks → lacks ≡ true → Draws text Opens start end 0 d page digits None page digits
-  symbol_opens_no_room lacks told is = draws_none (λ w. by_opens_symbol (λ s next. Drawing s d w.page₀ page digits → StateFits next → length w.page₀ < length (drawn_text next)) w.shows w.moves (λ e. inside (w.drawing.depth ∙ e))
+  pub symbol_opens_no_room : (lacks : Bool) → RoomTold (length page - d.to) (d.to - d.line) 1 lacks → lacks ≡ true → Draws [] Opens 0 d page None d page
+  symbol_opens_no_room lacks told is = draws_none (λ w. by_opens_symbol (λ s next. Drawing s d w.page₀ page → StateFits next → length w.page₀ < length (drawn_text next)) w.shows w.moves (λ e. inside (w.drawing.depth ∙ e))
       (λ before o opened f g. no_room w (d.to - d.line) 1 (state before (record { name = f; before = nil } ∷ o ∷ opened) due) lacks told is
       (omega (arith, line_symbol_opens before o opened f, drawn_length before (o ∷ opened) (read (symbol f nil)), drawn_length before (record { name = f; before = nil } ∷ o ∷ opened) due, g.puts.many)) (omega (arith, line_symbol_opens before o opened f, to_is g))) w.drawing)
 
   -- the last byte written is the symbol's digit
-  pub digit_written : Drawable text Opens start end 0 d page digits → 1 ≤ d.to
-  digit_written w = by_opens_symbol (λ s next. Drawing s d w.page₀ page digits → 1 ≤ d.to) w.shows w.moves (λ e. inside (w.drawing.depth ∙ e))
+  pub digit_written : Drawable [] Opens 0 d page → 1 ≤ d.to
+  digit_written w = by_opens_symbol (λ s next. Drawing s d w.page₀ page → 1 ≤ d.to) w.shows w.moves (λ e. inside (w.drawing.depth ∙ e))
       (λ before o opened f g. omega (arith, g.puts.many, ap length (drawn_symbol_digit before o opened f), length_end (drawn_text (state before (o ∷ opened) due) ++ (f ++ (47 ∷ []))) 48)) w.drawing
 
-  pub digit_in_page : {after : Bytes} {q : ℕ} → Drawable text Opens start end 0 d page digits → PutAt (32 ∷ []) 1 page after d.to q → d.to - 1 < length after
+  pub digit_in_page : {after : Bytes} {q : ℕ} → Drawable [] Opens 0 d page → PutAt (32 ∷ []) 1 page after d.to q → d.to - 1 < length after
   digit_in_page w copied = omega (arith, digit_written w, to_within w, copied.size)
 
-  pub symbol_opens_put : {after : Bytes} {q : ℕ} (lacks : Bool) → d.depth ≤ 255 → length digits ≡ 256 → RoomTold (length page - d.to) (d.to - d.line) 1 lacks → lacks ≡ false → PutAt (32 ∷ []) 1 page after d.to q
-      → Draws text Opens start end 0 d page digits (Some (record { to = q; line = d.line; depth = d.depth + 1; atoms = d.atoms; arguments = d.arguments })) (set after (d.to - 1) 49) (set digits d.depth (d.to - 1))
+  pub symbol_opens_put : {after : Bytes} {q : ℕ} {k : OpenCompounds} (lacks : Bool) → d.compounds.depth ≤ 255 → RoomTold (length page - d.to) (d.to - d.line) 1 lacks → lacks ≡ false
+      → (k ≡ record { digits = set d.compounds.digits d.compounds.depth (d.to - 1); depth = d.compounds.depth + 1 }) × (length k.digits ≡ 256) → PutAt (32 ∷ []) 1 page after d.to q
+      → Draws [] Opens 0 d page (Some tt) (record { to = q; line = d.line; atoms = d.atoms; arguments = d.arguments; compounds = k }) (set after (d.to - 1) 49)
   unfolding current atom_of arity
-  symbol_opens_put {after} {q} lacks shallow full told is copied = record {
+  symbol_opens_put {after} {q} {k} lacks shallow told is (pushed, full) copied = record {
     size = length-set after (d.to - 1) 49 ∙ copied.size;
-    kept = length-set digits d.depth (d.to - 1);
-    drawn = λ w. by_opens_symbol (λ s next. Drawing s d w.page₀ page digits → DrawnNext next w.page₀ (set after (d.to - 1) 49) (set digits d.depth (d.to - 1)) (Some (record { to = q; line = d.line; depth = d.depth + 1; atoms = d.atoms; arguments = d.arguments })))
+    drawn = λ w. by_opens_symbol (λ s next. Drawing s d w.page₀ page → DrawnNext next (record { to = q; line = d.line; atoms = d.atoms; arguments = d.arguments; compounds = k }) w.page₀ (set after (d.to - 1) 49) (Some tt))
         w.shows w.moves (λ e. inside (w.drawing.depth ∙ e)) (λ before o opened f g. drawn_on (drawing before o opened f g)) w.drawing;
   }
     where
-      drawing : {page₀ : Bytes} (before : Option Clause) (o : Open) (opened : List Open) (f : Bytes) → Drawing (state before (o ∷ opened) (read (symbol f nil))) d page₀ page digits
-          → Drawing (state before (record { name = f; before = nil } ∷ o ∷ opened) due) (record { to = q; line = d.line; depth = d.depth + 1; atoms = d.atoms; arguments = d.arguments }) page₀ (set after (d.to - 1) 49) (set digits d.depth (d.to - 1))
+      drawing : {page₀ : Bytes} (before : Option Clause) (o : Open) (opened : List Open) (f : Bytes) → Drawing (state before (o ∷ opened) (read (symbol f nil))) d page₀ page
+          → Drawing (state before (record { name = f; before = nil } ∷ o ∷ opened) due) (record { to = q; line = d.line; atoms = d.atoms; arguments = d.arguments; compounds = k }) page₀ (set after (d.to - 1) 49)
       drawing {page₀} before o opened f g =
           let front = drawn_text (state before (o ∷ opened) due) ++ (f ++ (47 ∷ [])) in
           let place : d.to - 1 ≡ length front = omega (arith, g.puts.many, ap length (drawn_symbol_digit before o opened f), length_end front 48) in
@@ -244,12 +241,12 @@ module _ {text : Bytes} {start end : ℕ} {d : Drawn} {page : Bytes} {digits : L
             puts = subst (λ bs. Puts bs page₀ (set after (d.to - 1) 49) q) (sym (drawn_symbol_opens before o opened f)) (puts_change front 48 (32 ∷ []) 49 (d.to - 1) spaced place);
             room = omega (arith, copied.after, (told.enough is).0, page_size g, g.room);
             line = g.line;
-            depth = omega (arith, g.depth);
+            depth = omega (arith, ap (λ (c : OpenCompounds). c.depth) pushed, g.depth);
             atoms = g.atoms;
             arguments = g.arguments;
-            stand = (
-              ap (λ i. get_or (set digits i (d.to - 1)) (length (o ∷ opened)) 0) g.depth ∙ get_or-set_same digits (length (o ∷ opened)) (d.to - 1) 0 (omega (arith, g.depth)) ∙ place ∙ size,
-              stand_kept before (o ∷ opened) digits d.depth (d.to - 1) (omega (arith, g.depth)) g.stand,
+            stand = subst (DigitsStand before (record { name = f; before = nil } ∷ o ∷ opened)) (sym (ap (λ (c : OpenCompounds). c.digits) pushed)) (
+              ap (λ i. get_or (set d.compounds.digits i (d.to - 1)) (length (o ∷ opened)) 0) g.depth ∙ get_or-set_same d.compounds.digits (length (o ∷ opened)) (d.to - 1) 0 (omega (arith, g.depth, ap (λ (c : OpenCompounds). length c.digits) pushed, length-set d.compounds.digits d.compounds.depth (d.to - 1))) ∙ place ∙ size,
+              stand_kept before (o ∷ opened) d.compounds.digits d.compounds.depth (d.to - 1) (omega (arith, g.depth)) g.stand,
             );
             fits = record {
               atoms = g.fits.atoms;

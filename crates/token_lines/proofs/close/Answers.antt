@@ -3,8 +3,8 @@ use Rattle.token_lines.proofs.Punctuation.{closes_deep, closes_put}
 use borrow.Author.Rules.{rules}
 use Rattle.token_lines.proofs.close.Goals as goal
 
-pub overflow_sub-result : goal.overflow_sub-result
-overflow_sub-result c = search (rules, closes_deep)
+pub pop-requires : goal.pop-requires
+pop-requires c = search (rules, closes_deep)
 
 pub returns : goal.returns
 returns c = search (rules, closes_put)

@@ -3,8 +3,8 @@ use Rattle.token_lines.proofs.Punctuation.{end_no_room, end_put}
 use borrow.Author.Rules.{rules}
 use Rattle.token_lines.proofs.end_line.Goals as goal
 
-pub returns-then-page-to : goal.returns-then-page-to
-returns-then-page-to c = search (rules, end_no_room)
+pub returns-then-page-pen : goal.returns-then-page-pen
+returns-then-page-pen c = search (rules, end_no_room)
 
 pub returns : goal.returns
 returns c = search (rules, end_put)

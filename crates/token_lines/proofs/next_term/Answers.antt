@@ -5,8 +5,8 @@ use Rattle.token_lines.proofs.NextTerms.{digit_inside, arity_full, term_no_room,
 use borrow.Author.Rules.{rules}
 use Rattle.token_lines.proofs.next_term.Goals as goal
 
-pub kept_place-digit-requires : goal.kept_place-digit-requires
-kept_place-digit-requires c = (search rules, search (rules, depth_small))
+pub last-digit-requires : goal.last-digit-requires
+last-digit-requires c = (search rules, search (rules, depth_small))
 
 pub bounds-page-digit : goal.bounds-page-digit
 bounds-page-digit c = search (rules, digit_inside)
@@ -17,8 +17,8 @@ returns-then-arity-gt56 c = search (rules, arity_full)
 pub overflow_sub-page : goal.overflow_sub-page
 overflow_sub-page c = search (rules, to_within)
 
-pub overflow_sub-to : goal.overflow_sub-to
-overflow_sub-to c = search (rules, line_within)
+pub overflow_sub-pen : goal.overflow_sub-pen
+overflow_sub-pen c = search (rules, line_within)
 
 pub lacks_room-requires : goal.lacks_room-requires
 lacks_room-requires c = search (rules, line_used)
@@ -26,8 +26,8 @@ lacks_room-requires c = search (rules, line_used)
 pub returns-then-lacks_room : goal.returns-then-lacks_room
 returns-then-lacks_room c = search (rules, term_no_room)
 
-pub raise-after-requires : goal.raise-after-requires
-raise-after-requires c = (digit_inside c.requires.0 c.kept_place-digit.ensures c.requires.2, search rules, search (rules, room_on_page))
+pub raise-pen-requires : goal.raise-pen-requires
+raise-pen-requires c = (digit_inside c.requires.0 c.last-digit.ensures c.requires.1, search rules, search (rules, room_on_page))
 
 pub returns : goal.returns
 returns c = search (rules, term_put)

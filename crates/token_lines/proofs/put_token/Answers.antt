@@ -1,46 +1,46 @@
 -- `token_lines::put_token` meets its contract. Assumes nothing.
-use Rattle.token_lines.proofs.ByMark.{plain_name, plain_variable, plain_opens, plain_closes, plain_comma, drawable_as, draws_as, drawable_lone, draws_lone, draws_other, ends_by_tag, ends_shut, drawable_ends, draws_ends}
+use Rattle.token_lines.proofs.ByMark.{given_name, given_variable, given_lone, given_opens, given_closes, given_comma, drawable_as, draws_as, draws_other, ends_by_tag, ends_shut, drawable_ends, draws_ends}
 use borrow.Author.Rules.{rules}
 use Rattle.token_lines.proofs.put_token.Goals as goal
 
 pub put_name-requires : goal.put_name-requires
-put_name-requires c = (search rules, search rules, search (rules, drawable_as, plain_name))
+put_name-requires c = search (rules, drawable_as, given_name)
 
 pub put_variable-requires : goal.put_variable-requires
-put_variable-requires c = (search rules, search rules, search (rules, drawable_as, plain_variable))
+put_variable-requires c = search (rules, drawable_as, given_variable)
 
 pub put_lone-requires : goal.put_lone-requires
-put_lone-requires c = search (rules, drawable_lone)
+put_lone-requires c = search (rules, drawable_as, given_lone)
 
 pub put_opening-requires : goal.put_opening-requires
-put_opening-requires c = (search rules, search (rules, drawable_as, plain_opens))
+put_opening-requires c = search (rules, drawable_as, given_opens)
 
 pub close-requires : goal.close-requires
-close-requires c = search (rules, drawable_as, plain_closes)
+close-requires c = search (rules, drawable_as, given_closes)
 
 pub put_comma-requires : goal.put_comma-requires
-put_comma-requires c = (search rules, search (rules, drawable_as, plain_comma))
+put_comma-requires c = search (rules, drawable_as, given_comma)
 
 pub end_line-requires : goal.end_line-requires
 end_line-requires c = (search (rules, ends_shut), search (rules, ends_by_tag), search (rules, drawable_ends))
 
 pub returns-in-Name : goal.returns-in-Name
-returns-in-Name c = search (rules, draws_as, plain_name)
+returns-in-Name c = search (rules, draws_as, given_name)
 
 pub returns-in-Variable : goal.returns-in-Variable
-returns-in-Variable c = search (rules, draws_as, plain_variable)
+returns-in-Variable c = search (rules, draws_as, given_variable)
 
 pub returns-in-Lone : goal.returns-in-Lone
-returns-in-Lone c = search (rules, draws_lone)
+returns-in-Lone c = search (rules, draws_as, given_lone)
 
 pub returns-in-Opens : goal.returns-in-Opens
-returns-in-Opens c = search (rules, draws_as, plain_opens)
+returns-in-Opens c = search (rules, draws_as, given_opens)
 
 pub returns-in-Closes : goal.returns-in-Closes
-returns-in-Closes c = search (rules, draws_as, plain_closes)
+returns-in-Closes c = search (rules, draws_as, given_closes)
 
 pub returns-in-Comma : goal.returns-in-Comma
-returns-in-Comma c = search (rules, draws_as, plain_comma)
+returns-in-Comma c = search (rules, draws_as, given_comma)
 
 pub returns-in-Neck : goal.returns-in-Neck
 returns-in-Neck c = search (rules, draws_ends)
