@@ -7,6 +7,7 @@ use native.Mathlib.Omega.{arith}
 use lib.Dec.{ltb}
 use lib.ListN.{length, get_or, drop, length-drop}
 use lib.Seq.{take-length, drop-append_seam}
+use Rattle.std.specs.Prelude.{Result, Ok, Err}
 use Rattle.groundwork.proofs.Truth.{by_truth, ltb-lt, ltb-ge, lt-ltb, ge-ltb}
 use Rattle.theory.specs.Lists.{every}
 use Rattle.theory.specs.Text.{Bytes, fields_of}
@@ -20,14 +21,13 @@ use Rattle.theory.specs.Faults.{Test, test, is_term, first_given, atom_tests}
 use Rattle.theory.proofs.Judging.Tests.{first_passed, first_found}
 use Rattle.theory.proofs.Reading.Places.{places_every, not_every}
 use Rattle.theory.proofs.Reading.TermFields.{terms_arity}
+use Rattle.words.specs.declared.Words.{Words}
 use Rattle.terms.specs.Rows.{Holds as HoldsVariables}
 use Rattle.theory.proofs.Judging.Variables.{once_none}
 use Rattle.tables.specs.declared.State.{State}
 use Rattle.tables.specs.declared.Opened.{Opened}
 use Rattle.tables.specs.declared.Fault.{Fault}
 use Rattle.tables.specs.declared.Fault.TheVariants.{NoTerm}
-use Rattle.tables.specs.declared.Fielding.{Fielding}
-use Rattle.tables.specs.declared.Fielding.TheVariants.{Read, Misread}
 use Rattle.tables.specs.Faults.{number_of}
 use Rattle.tables.specs.Tables.{Tables, row_place, predicate_at, AtomStands, Holds, Safe}
 use Rattle.tables.specs.Lines.{OldPredicate, at}
@@ -47,7 +47,7 @@ module _ (l : Letter) (is_refused : Bool) (after_name afterTerms : List Test) (f
   pub atom_ended : every is_term (drop 2 fields) ≡ true → first_given (drop (suc (suc (length after_name))) (atom_tests l is_refused after_name afterTerms fields p)) ≡ first_given afterTerms
   atom_ended good = from_terms ∙ first_passed 11 _ afterTerms (ap not good)
 
-  pub atom_fault : {m : Measure} {atom index many : ℕ} {names₀ names rows₀ rows : List ℕ} {r : Fielding} {f : Fault} → index < length (drop 2 fields) → FieldTerm m atom index (at (drop 2 fields) index) many names₀ rows₀ r names rows → r ≡ Misread f
+  pub atom_fault : {m : Measure} {atom index many : ℕ} {names₀ names : List Words} {rows₀ rows : List ℕ} {r : Result ℕ Fault} {f : Fault} → index < length (drop 2 fields) → FieldTerm m atom index (at (drop 2 fields) index) many names₀ rows₀ r names rows → r ≡ Err f
       → first_given (drop (suc (suc (length after_name))) (atom_tests l is_refused after_name afterTerms fields p)) ≡ number_of f
   atom_fault {index = index} inside done bad =
       let found = field_fails done.known NoTerm (is_term (at (drop 2 fields) index)) done.answer bad in
@@ -67,7 +67,7 @@ module _ {k : Key} {line : Bytes} {w : Written} {o : Opened} (named : OldPredica
 -- ---- all terms are read
 
 -- the atom's rows stand over these variables, if they are few
-pub record Finished (m : Measure) (atom : ℕ) (fs all : List Bytes) (many : ℕ) (variables rows₀ rows : List ℕ) : Type 0 where
+pub record Finished (m : Measure) (atom : ℕ) (fs all : List Bytes) (many : ℕ) (variables : List Words) (rows₀ rows : List ℕ) : Type 0 where
   pub good : every is_term fs ≡ true
   pub past : ltb 16 many ≡ ltb 16 (length all)
   pub count : many ≤ 16 → many ≡ length all
@@ -75,7 +75,7 @@ pub record Finished (m : Measure) (atom : ℕ) (fs all : List Bytes) (many : ℕ
   pub stands : many ≤ 16 → AtomStands m rows atom all (terms_from fs)
   pub before : (i : ℕ) → i < row_place atom 0 → get_or rows i 0 ≡ get_or rows₀ i 0
 
-pub finished : {m : Measure} {atom : ℕ} {seen fs all : List Bytes} {many : ℕ} {variables rows₀ rows : List ℕ} → length fs ≤ 8 → all ≡ numbered seen (all_variables (terms_from fs)) → ProgressTerms m atom seen fs (length fs) many variables rows₀ rows
+pub finished : {m : Measure} {atom : ℕ} {seen fs all : List Bytes} {many : ℕ} {variables : List Words} {rows₀ rows : List ℕ} → length fs ≤ 8 → all ≡ numbered seen (all_variables (terms_from fs)) → ProgressTerms m atom seen fs (length fs) many variables rows₀ rows
     → Finished m atom fs all many variables rows₀ rows
 finished {seen = seen} {fs = fs} {all = all} {many = many} short is done = record {
   good = places_every is_term fs [] done.good;
@@ -91,9 +91,9 @@ finished {seen = seen} {fs = fs} {all = all} {many = many} short is done = recor
 
 -- ---- the first atom of its rule, or one with no rule: a head, a fact
 
-pub first_begin : (m : Measure) (fs : List Bytes) (variables rows : List ℕ) → length variables ≡ 64 → ProgressTerms m 0 [] fs 0 0 variables rows rows
+pub first_begin : (m : Measure) (fs : List Bytes) (variables : List Words) (rows : List ℕ) → length variables ≡ 32 → ProgressTerms m 0 [] fs 0 0 variables rows rows
 first_begin m fs variables rows size = terms_begin m 0 [] fs rows (record { size = size; few = omega arith; words = λ i h. absurd (omega arith); proper = λ i h. absurd (omega arith); once = once_none }) refl
 
-pub first_field : {m : Measure} {fs : List Bytes} {index many : ℕ} {variables₀ variables rows₀ rows₁ rows : List ℕ} {r : Fielding} {n : ℕ} → index < 8 → index < length fs → length rows₁ ≡ 1224 → ProgressTerms m 0 [] fs index many variables₀ rows₀ rows₁
-    → FieldTerm m 0 index (at fs index) many variables₀ rows₁ r variables rows → r ≡ Read n → ProgressTerms m 0 [] fs (suc index) n variables rows₀ rows
+pub first_field : {m : Measure} {fs : List Bytes} {index many : ℕ} {variables₀ variables : List Words} {rows₀ rows₁ rows : List ℕ} {r : Result ℕ Fault} {n : ℕ} → index < 8 → index < length fs → length rows₁ ≡ 1224 → ProgressTerms m 0 [] fs index many variables₀ rows₀ rows₁
+    → FieldTerm m 0 index (at fs index) many variables₀ rows₁ r variables rows → r ≡ Ok n → ProgressTerms m 0 [] fs (suc index) n variables rows₀ rows
 first_field = term_field (omega arith)

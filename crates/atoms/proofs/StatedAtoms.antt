@@ -1,5 +1,5 @@
 -- Which atom of its rule a line states.
-use mathlib.Core.Path.{◌≡◌, sym, ◌∙◌, ap}
+use mathlib.Core.Path.{◌≡◌, sym, ◌∙◌}
 use mathlib.Core.Bool.{Bool, cond}
 use Prim.Native.Nat.{ℕ, suc, ◌+◌, ◌≤◌, ◌<◌}
 use native.Mathlib.Numerals.{add-one}
@@ -20,9 +20,6 @@ subgoal_room subgoals room = add-one subgoals ∙ sym (subgoal_next subgoals roo
 pub subgoal_full : (subgoals : ℕ) → 8 ≤ subgoals → 8 ≡ subgoal_atom subgoals
 unfolding subgoal_atom
 subgoal_full subgoals full = rw (ge-ltb subgoals 8 full)
-
-pub subgoal_stated : {letter : Letter} (subgoals : ℕ) {r : ℕ} → letter ≡ B → r ≡ subgoal_atom subgoals → r ≡ atom_of letter subgoals
-subgoal_stated subgoals is next = next ∙ sym (ap (λ (l : Letter). atom_of l subgoals) is)
 
 pub atom_high : (letter : Letter) (subgoals : ℕ) → atom_of letter subgoals ≤ 8
 unfolding subgoal_atom

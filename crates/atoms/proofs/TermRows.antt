@@ -1,5 +1,7 @@
 -- Terms that are read one by one into rows: a row over a rule's first variables, and over all of them when more come.
 use mathlib.Core.Path.{◌≡◌, refl, sym, ◌∙◌, ap}
+use Rattle.std.specs.Prelude.{Result, Ok}
+use Rattle.words.specs.declared.Words.{Words}
 use mathlib.Core.Bool.{true}
 use mathlib.Core.List.Memᴰ
 use mathlib.Core.List.{List, [], ◌∷◌, ◌++◌, append_assoc, append-nil}
@@ -31,8 +33,7 @@ use Rattle.terms.proofs.Numbering.{place_once, numbered_place}
 use Rattle.terms.proofs.Counting.{occurrences_absent}
 use Rattle.terms.specs.Rows.{Holds as HoldsVariables, VariablesTabled}
 use Rattle.terms.specs.TermForms.{RowStands, FormTaken}
-use Rattle.tables.specs.declared.Fielding.{Fielding}
-use Rattle.tables.specs.declared.Fielding.TheVariants.{Read}
+use Rattle.tables.specs.declared.Fault.{Fault}
 use Rattle.tables.specs.Tables.{row_place, argument, AtomStands}
 use Rattle.tables.specs.Lines.{at}
 use Rattle.atoms.specs.Fields.{FieldTerm, known, ProgressTerms}
@@ -118,7 +119,7 @@ atom_over_more xs ys once few rows₀ rows atom later ts before same within stan
 
 -- ---- the terms of a line, one by one
 
-pub terms_begin : (m : Measure) (atom : ℕ) (seen fs : List Bytes) {many : ℕ} {variables : List ℕ} (rows : List ℕ) → HoldsVariables variables seen → many ≡ length seen → ProgressTerms m atom seen fs 0 many variables rows rows
+pub terms_begin : (m : Measure) (atom : ℕ) (seen fs : List Bytes) {many : ℕ} {variables : List Words} (rows : List ℕ) → HoldsVariables variables seen → many ≡ length seen → ProgressTerms m atom seen fs 0 many variables rows rows
 unfolding terms_from all_variables numbered
 terms_begin m atom seen fs rows holds count = record {
   good = λ i h. absurd (omega arith);
@@ -130,8 +131,8 @@ terms_begin m atom seen fs rows holds count = record {
 }
 
 -- what the field of a term leaves, after the variables known so far
-module _ {m : Measure} {atom index : ℕ} {field : Bytes} {many : ℕ} {names₀ rows₀ : List ℕ} {r : Fielding} {names rows : List ℕ} (done : FieldTerm m atom index field many names₀ rows₀ r names rows) (size : length rows₀ ≡ 1224)
-    (n : ℕ) (fine : r ≡ Read n) (t : Term) (reads : read_term field ≡ some t) where
+module _ {m : Measure} {atom index : ℕ} {field : Bytes} {many : ℕ} {names₀ : List Words} {rows₀ : List ℕ} {r : Result ℕ Fault} {names : List Words} {rows : List ℕ} (done : FieldTerm m atom index field many names₀ rows₀ r names rows) (size : length rows₀ ≡ 1224)
+    (n : ℕ) (fine : r ≡ Ok n) (t : Term) (reads : read_term field ≡ some t) where
   taken : FormTaken m field names₀ many rows₀ (row_place atom index) n names rows
   taken = rw (t_read done fine).1 at (done.form (t_read done fine).0)
 
@@ -152,8 +153,8 @@ module _ {m : Measure} {atom index : ℕ} {field : Bytes} {many : ℕ} {names₀
       let count = few within in
       taken.from known (holds (omega arith)) (sym count) size t reads)
 
-module _ {m : Measure} {atom : ℕ} {seen fs : List Bytes} {index many : ℕ} {names₀ names rows₀ rows₁ rows : List ℕ} {r : Fielding} {n : ℕ} where
-  pub term_field : atom ≤ 8 → index < 8 → index < length fs → length rows₁ ≡ 1224 → ProgressTerms m atom seen fs index many names₀ rows₀ rows₁ → FieldTerm m atom index (at fs index) many names₀ rows₁ r names rows → r ≡ Read n
+module _ {m : Measure} {atom : ℕ} {seen fs : List Bytes} {index many : ℕ} {names₀ names : List Words} {rows₀ rows₁ rows : List ℕ} {r : Result ℕ Fault} {n : ℕ} where
+  pub term_field : atom ≤ 8 → index < 8 → index < length fs → length rows₁ ≡ 1224 → ProgressTerms m atom seen fs index many names₀ rows₀ rows₁ → FieldTerm m atom index (at fs index) many names₀ rows₁ r names rows → r ≡ Ok n
       → ProgressTerms m atom seen fs (suc index) n names rows₀ rows
   term_field low place inside size before done fine = record {
     good = λ i h. below_more (λ j. is_term (at fs j) ≡ true) index before.good (t_read done fine).0 i (omega arith);

@@ -1,5 +1,7 @@
 -- The fields of lines that state an atom: whether each is a term, and the row that it leaves; and what those read so far have left.
-use Rattle.std.specs.Prelude.{◌≡◌, true, cond, List, ℕ, suc, ◌≤◌, ◌<◌, ltb, length, get_or, take}
+use Rattle.std.specs.Prelude.{◌≡◌, true, cond, List, ℕ, suc, ◌≤◌, ◌<◌, ltb, length, get_or, take, Result, Ok, Err}
+use Rattle.words.specs.declared.Words.{Words}
+use Rattle.tables.specs.declared.Fault.{Fault}
 use Rattle.theory.specs.declared.Letter.{Letter}
 use Rattle.theory.specs.declared.Letter.TheVariants.{P, C, G, H, B, M, E, NoLetter}
 use Rattle.theory.specs.Text.{Bytes}
@@ -11,8 +13,6 @@ use Rattle.theory.specs.Faults.{is_term}
 use Rattle.terms.specs.Rows.{Holds as HoldsVariables}
 use Rattle.terms.specs.TermForms.{RowStands, FormTaken}
 use Rattle.tables.specs.declared.Fault.TheVariants.{NoTerm}
-use Rattle.tables.specs.declared.Fielding.{Fielding}
-use Rattle.tables.specs.declared.Fielding.TheVariants.{Read, Misread}
 use Rattle.tables.specs.Tables.{row_place, SafeRows, argument}
 use Rattle.tables.specs.Lines.{at}
 
@@ -32,9 +32,9 @@ atom_of E subgoals = 0
 atom_of NoLetter subgoals = 0
 
 -- a term, its form by a measure into the row of an atom's argument
-pub record FieldTerm (m : Measure) (atom index : ℕ) (field : Bytes) (many : ℕ) (names₀ rows₀ : List ℕ) (r : Fielding) (names rows : List ℕ) : Type 0 where
+pub record FieldTerm (m : Measure) (atom index : ℕ) (field : Bytes) (many : ℕ) (names₀ : List Words) (rows₀ : List ℕ) (r : Result ℕ Fault) (names : List Words) (rows : List ℕ) : Type 0 where
   pub known : ℕ
-  pub answer : r ≡ cond (is_term field) (Read known) (Misread NoTerm)
+  pub answer : r ≡ cond (is_term field) (Ok known) (Err NoTerm)
   pub form : is_term field ≡ true → FormTaken m field names₀ many rows₀ (row_place atom index) known names rows
   pub sizes : (length names ≡ length names₀) × (length rows ≡ length rows₀)
   pub high : known ≤ 17
@@ -47,7 +47,7 @@ abbrev pub known : List Bytes → List Bytes → ℕ → List Bytes
 known seen fs index = numbered seen (all_variables (terms_from (take index fs)))
 
 -- the terms of an atom's line, after variables that were seen; rows₀ at the line's beginning
-pub record ProgressTerms (m : Measure) (atom : ℕ) (seen fs : List Bytes) (index many : ℕ) (variables rows₀ rows : List ℕ) : Type 0 where
+pub record ProgressTerms (m : Measure) (atom : ℕ) (seen fs : List Bytes) (index many : ℕ) (variables : List Words) (rows₀ rows : List ℕ) : Type 0 where
   pub good : (i : ℕ) → i < index → is_term (at fs i) ≡ true
   pub few : length (known seen fs index) ≤ 16 → many ≡ length (known seen fs index)
   pub many_more : 16 < length (known seen fs index) → many ≡ 17

@@ -3,11 +3,12 @@
 
 ghost use Rattle.std.specs.Prelude.{◌≡◌, ◌≤◌, ◌<◌, length};
 ghost use Rattle.theory.specs.Sizes.{structural};
-ghost use Rattle.words.specs.Classes.{Classes};
 ghost use Rattle.atoms.specs.Fields.{FieldTerm, subgoal_atom, atom_of};
 
-use tables::{Fault, Fielding, Hints, Rows, Variables};
+use tables::{Fault, Hints, Rows, Variables};
 use theory::Letter;
+use tokens::TokenRoom;
+use words::ClassTable;
 
 /// Which atom of the rule the next subgoal is. (A ninth one, which is refused when its line is done, takes the eighth one's
 /// rows.)
@@ -22,14 +23,8 @@ pub fn atom_of(letter: Letter, subgoals: usize) -> usize
     ensures { result ≡ atom_of letter subgoals }
 {
     match letter {
-        Letter::P => 0,
-        Letter::C => 0,
-        Letter::G => 0,
-        Letter::H => 0,
         Letter::B => subgoal_atom(subgoals),
-        Letter::M => 0,
-        Letter::E => 0,
-        Letter::NoLetter => 0,
+        _ => 0,
     }
 }
 
@@ -42,21 +37,15 @@ pub fn field_term(
     variables: &mut Variables,
     rows: &mut Rows,
     hints: &mut Hints,
-    arities: &mut [u8; 512],
-    places: &mut [u16; 512],
-    classes: &[u8; 256],
-) -> Fielding
-    requires { (atom ≤ 8) × (index < 8) × (length field.now ≤ 1024) × (many ≤ 17) × (length arities.old ≡ 512) × (length places.old ≡ 512) × Classes classes.now }
-    ensures kept { (length arities.new ≡ 512) × (length places.new ≡ 512) }
-    ensures done { FieldTerm structural atom index field.now many variables.old rows.old result variables.new rows.new }
+    room: &mut TokenRoom,
+    classes: &ClassTable,
+) -> Result<usize, Fault>
+    requires { (atom ≤ 8) × (index < 8) × (length field.now ≤ 1024) × (many ≤ 17) }
+    ensures { FieldTerm structural atom index field.now many variables.old rows.old result variables.new rows.new }
 {
-    let read = tokens::read_argument(field, classes, arities, places);
-    if !read.fine {
-        return Fielding::Misread(Fault::NoTerm);
-    }
+    let Some(read) = tokens::read_argument(field, classes, room) else {
+        return Err(Fault::NoTerm);
+    };
     let base = tables::row_place(atom, index);
-    let known = terms::form_of_term(
-        field, read, arities, places, variables, many, hints, rows, base,
-    );
-    Fielding::Read(known)
+    Ok(terms::form_of_term(field, read, room, variables, many, hints, rows, base))
 }
