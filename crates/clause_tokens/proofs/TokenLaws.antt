@@ -1,7 +1,8 @@
 -- The tokens at a place, one by one.
-use mathlib.Core.Path.{◌≡◌, refl, sym, ◌∙◌, ap, subst}
+use mathlib.Core.Path.{◌≡◌, refl, sym, ◌∙◌, ap}
 use mathlib.Core.Bool.{Bool, true, false, cond, not, ◌&&◌}
 use mathlib.Core.List.{[], ◌∷◌}
+use mathlib.Core.Logic.{◌⊎◌, inl, inr}
 use Prim.Native.Nat.{ℕ, zero, suc, ◌+◌, ◌-◌, ◌≤◌, ◌<◌}
 use native.Mathlib.Omega.{arith}
 use native.Mathlib.Numerals.{add-one}
@@ -15,13 +16,17 @@ use Rattle.clause_theory.specs.ClauseTokens.{stray, token, is_layout, run, is_ne
 use Rattle.clause_theory.specs.Import.{is_lone}
 use Rattle.text.specs.Scans.{part}
 use Rattle.text.proofs.Parts.{drop_more, part_length}
-use Rattle.words.specs.Classes.{Class, EndsWord}
+use denote.Enum.Bare.{sameb}
+use Rattle.words.specs.contracts.table.Class.{the_type as class_type}
+use Rattle.words.specs.Classes.{class_of, EndsWord}
+use Rattle.words.specs.declared.table.Class.{Class}
+use Rattle.words.specs.declared.table.Class.TheVariants.{Outside, Small, Capital, Inner}
+use Rattle.words.proofs.ClassLaws.{is_small, is_capital, is_outside, lower_is, upper_is, named_is}
 use Rattle.words.proofs.WordReading.{word_is}
 use Rattle.words.proofs.Letters.{lower_in_name, upper_in_name}
-use Rattle.clause_tokens.specs.NextTokens.{tokens_at, LayoutEnds, Sign, sign_opens, sign_closes, sign_comma, sign_neck, sign_stop, sign_stray, sign_more, Seen, seen_name, seen_variable, seen_lone, seen_sign, RunFound, NextToken, none_left, one_found}
+use Rattle.clause_tokens.specs.NextTokens.{tokens_at, LayoutEnds, Sign, sign_opens, sign_closes, sign_comma, sign_neck, sign_stop, sign_stray, sign_more, Seen, seen_name, seen_variable, seen_lone, seen_sign, RunSeen, NextToken, none_left, one_found}
 use Rattle.clause_tokens.specs.declared.Mark.{Mark}
 use Rattle.clause_tokens.specs.declared.Mark.TheVariants.{Name, Variable, Lone, Opens, Closes, Comma, Neck, Stop, Stray, Nothing}
-use Rattle.clause_tokens.specs.declared.Token.{Token as Found}
 
 -- ---- layout
 
@@ -215,32 +220,31 @@ module _ {text : Bytes} {start end : ℕ} (inside : start < length text) (word :
       let size : 0 < length x = omega (arith, ap length word_bytes) in
       word_is isFirst within x size ∙ rw (ap (λ y. isFirst (get_or y 0 0)) word_bytes ∙ first, word_named (within (get_or text start 0) first)) refl
 
-  module _ {class : ℕ} (is : Class (get_or text start 0) class) (some : class ≡ 0 → ⊥) where
-    named : is_name_byte (get_or text start 0) ≡ true
-    named = is.named ∙ rw (eqb-different class 0 some) refl
-
-    found_run : (k : Mark) → ((apart : Bool) → Seen (part text start end) k (mark_of apart (get_or text start 0) (drop (start + 1) text))) → RunFound text start (record { mark = k; start = start; end = end })
-    found_run k seen = record { starts = refl; ends = word_ends named; high = word.high; mark = seen }
-
-    pub found_name : class ≡ 1 → RunFound text start (record { mark = Name; start = start; end = end })
+  module _ {class : Class} (is : class ≡ class_of (get_or text start 0)) where
+    pub found_name : class ≡ Small → RunSeen text start end Name
     unfolding mark_of
-    found_name one =
-        let small : is_lower (get_or text start 0) ≡ true = is.lower ∙ rw one refl in
-        found_run Name (λ apart. rw (small, ← word_bytes) (seen_name (word_test is_lower lower_in_name small)))
+    found_name small =
+        let low : is_lower (get_or text start 0) ≡ true = lower_is (get_or text start 0) ∙ ap is_small (sym is ∙ small) in
+        record { seen = λ apart. rw (low, ← word_bytes) (seen_name (word_test is_lower lower_in_name low)) }
 
-    pub found_variable : class ≡ 2 → RunFound text start (record { mark = Variable; start = start; end = end })
+    pub found_variable : class ≡ Capital → RunSeen text start end Variable
     unfolding mark_of
-    found_variable two =
-        let small : is_lower (get_or text start 0) ≡ false = is.lower ∙ rw two refl in
-        let large : is_upper (get_or text start 0) ≡ true = is.upper ∙ rw two refl in
-        found_run Variable (λ apart. rw (small, large, ← word_bytes) (seen_variable (word_test is_upper upper_in_name large) (ap is_lone word_bytes ∙ upper_not_lone (get_or text start 0) (run (drop (start + 1) text)) large)))
+    found_variable capital =
+        let low : is_lower (get_or text start 0) ≡ false = lower_is (get_or text start 0) ∙ ap is_small (sym is ∙ capital) in
+        let large : is_upper (get_or text start 0) ≡ true = upper_is (get_or text start 0) ∙ ap is_capital (sym is ∙ capital) in
+        record {
+          seen = λ apart. rw (low, large, ← word_bytes) (seen_variable (word_test is_upper upper_in_name large) (ap is_lone word_bytes ∙ upper_not_lone (get_or text start 0) (run (drop (start + 1) text)) large));
+        }
 
-    module _ (not-small : class ≡ 1 → ⊥) (not-large : class ≡ 2 → ⊥) where
-      small : is_lower (get_or text start 0) ≡ false
-      small = is.lower ∙ eqb-different class 1 not-small
+    module _ (some : class ≡ Outside → ⊥) (way : (class ≡ Inner) ⊎ (class ≡ Outside)) where
+      inner : class ≡ Inner
+      inner = elim way [ inl e ↦ e | inr e ↦ absurd (some e) ]
+
+      low : is_lower (get_or text start 0) ≡ false
+      low = lower_is (get_or text start 0) ∙ ap is_small (sym is ∙ inner)
 
       large : is_upper (get_or text start 0) ≡ false
-      large = is.upper ∙ eqb-different class 2 not-large
+      large = upper_is (get_or text start 0) ∙ ap is_capital (sym is ∙ inner)
 
       run_empty : is_empty (run (drop (start + 1) text)) ≡ eqb end (start + 1)
       run_empty =
@@ -249,16 +253,17 @@ module _ {text : Bytes} {start end : ℕ} (inside : start < length text) (word :
           (λ e. equal-eqb (end - (start + 1)) 0 (omega (arith, eqb-equal end (start + 1) e)))
           (λ e. eqb-different (end - (start + 1)) 0 (λ none. eqb-unequal end (start + 1) e (omega (arith, word.low))))
 
-      pub found_lone : (eqb (get_or text start 0) 95 && eqb end (start + 1)) ≡ true → RunFound text start (record { mark = Lone; start = start; end = end })
+      pub found_lone : (eqb (get_or text start 0) 95 && eqb end (start + 1)) ≡ true → RunSeen text start end Lone
       unfolding mark_of bytes
       found_lone both =
           let line = and_left (eqb (get_or text start 0) 95) (eqb end (start + 1)) both in
-          found_run Lone (λ apart. rw (small, large, run_empty, both) (rw (eqb-equal (get_or text start 0) 95 line) seen_lone))
+          record { seen = λ apart. rw (low, large, run_empty, both) (rw (eqb-equal (get_or text start 0) 95 line) seen_lone) }
 
-      pub found_stray : (eqb (get_or text start 0) 95 && eqb end (start + 1)) ≡ false → RunFound text start (record { mark = Stray; start = start; end = end })
+      pub found_stray : (eqb (get_or text start 0) 95 && eqb end (start + 1)) ≡ false → RunSeen text start end Stray
       unfolding mark_of
       found_stray neither =
-          found_run Stray (λ apart. rw (small, large, run_empty, neither, sign_of_name apart (get_or text start 0) (drop (start + 1) text) named) (seen_sign sign_stray))
+          let named : is_name_byte (get_or text start 0) ≡ true = named_is (get_or text start 0) ∙ ap (λ (k : Class). not (is_outside k)) (sym is ∙ inner) in
+          record { seen = λ apart. rw (low, large, run_empty, neither, sign_of_name apart (get_or text start 0) (drop (start + 1) text) named) (seen_sign sign_stray) }
 
 -- ---- the token at a place
 
@@ -299,31 +304,40 @@ module _ {text : Bytes} {from start : ℕ} (layout : LayoutEnds text from start)
         one_found (mark_of apart (get_or text start 0) (drop (start + 1) text)) seen layout.low (omega arith) high
         (layout.passed ∙ first_token text start inside (layout.ended inside) apart end is)
 
-    pub next_run : {r : Found} → RunFound text start r → NextToken text from r
-    next_run {r} found =
-        subst (λ i. NextToken text from (record { mark = r.mark; start = i; end = r.end })) (sym found.starts)
-        (one_token r.mark r.end found.ends found.high (found.mark apart))
+    module _ {class : Class} (is : class ≡ class_of (get_or text start 0)) where
+      outside_is : (k : Class) → sameb class_type k Outside ≡ is_outside k
+      outside_is Outside = refl
+      outside_is Small = refl
+      outside_is Capital = refl
+      outside_is Inner = refl
 
-    module _ (class : ℕ) (is : Class (get_or text start 0) class) (none : class ≡ 0) where
-      unnamed : is_name_byte (get_or text start 0) ≡ false
-      unnamed = is.named ∙ rw none refl
+      module _ {r : Bool} (told : r ≡ sameb class_type class Outside) where
+        named_told : is_name_byte (get_or text start 0) ≡ not r
+        named_told = named_is (get_or text start 0) ∙ ap (λ (k : Class). not (is_outside k)) (sym is) ∙ ap not (sym (told ∙ outside_is class))
 
-      more_inside : (b : ℕ) (bs : Bytes) → sign_more b bs ≤ length bs
-      unfolding sign_more is_neck
-      more_inside b [] = omega arith
-      more_inside b (c ∷ bs) = by_truth (λ d. cond d 1 0 ≤ suc (length bs)) (eqb b 58 && eqb c 45) (λ e. omega arith) (λ e. omega arith)
+        pub next_run : {k : Mark} {end : ℕ} → r ≡ false → EndsWord text (start + 1) end → RunSeen text start end k → NextToken text from (record { mark = k; start = start; end = end })
+        next_run {k} {end} some word seen = one_token k end (word_ends inside word (named_told ∙ ap not some)) word.high (seen.seen apart)
 
-      sign_bytes : bytes_after (get_or text start 0) (drop (start + 1) text) ≡ sign_more (get_or text start 0) (drop (start + 1) text)
-      unfolding bytes_after sign_more
-      sign_bytes = rw unnamed refl
+        unnamed : r ≡ true → is_name_byte (get_or text start 0) ≡ false
+        unnamed none = named_told ∙ ap not none
 
-      apart_is : apart ≡ not (eqb start from)
-      unfolding apart
-      apart_is = by_truth (λ c. cond c false true ≡ not c) (eqb start from) (λ e. refl) (λ e. refl)
+        more_inside : (b : ℕ) (bs : Bytes) → sign_more b bs ≤ length bs
+        unfolding sign_more is_neck
+        more_inside b [] = omega arith
+        more_inside b (c ∷ bs) = by_truth (λ d. cond d 1 0 ≤ suc (length bs)) (eqb b 58 && eqb c 45) (λ e. omega arith) (λ e. omega arith)
 
-      pub next_sign : (k : Mark) (end : ℕ) → Sign k (sign_of (not (eqb start from)) (get_or text start 0) (drop (start + 1) text)) → end ≡ start + 1 + sign_more (get_or text start 0) (drop (start + 1) text) → NextToken text from (record { mark = k; start = start; end = end })
-      next_sign k end sign is_end_lem =
-          let b = get_or text start 0 in
-          let bs = drop (start + 1) text in
-          one_token k end (is_end_lem ∙ ap (λ n. start + 1 + n) (sym sign_bytes)) (omega (arith, is_end_lem, more_inside b bs, length-drop (start + 1) text))
-          (rw (sign_mark apart b bs unnamed, apart_is) (seen_sign sign))
+        sign_bytes : r ≡ true → bytes_after (get_or text start 0) (drop (start + 1) text) ≡ sign_more (get_or text start 0) (drop (start + 1) text)
+        unfolding bytes_after sign_more
+        sign_bytes none = rw (unnamed none) refl
+
+        apart_is : apart ≡ not (eqb start from)
+        unfolding apart
+        apart_is = by_truth (λ c. cond c false true ≡ not c) (eqb start from) (λ e. refl) (λ e. refl)
+
+        pub next_sign : {k : Mark} {end : ℕ} → r ≡ true → Sign k (sign_of (not (eqb start from)) (get_or text start 0) (drop (start + 1) text)) → end ≡ start + 1 + sign_more (get_or text start 0) (drop (start + 1) text)
+            → NextToken text from (record { mark = k; start = start; end = end })
+        next_sign {k} {end} none sign is_end =
+            let b = get_or text start 0 in
+            let bs = drop (start + 1) text in
+            one_token k end (is_end ∙ ap (λ n. start + 1 + n) (sym (sign_bytes none))) (omega (arith, is_end, more_inside b bs, length-drop (start + 1) text))
+            (rw (sign_mark apart b bs (unnamed none), apart_is) (seen_sign sign))

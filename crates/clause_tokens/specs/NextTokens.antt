@@ -47,12 +47,9 @@ pub data Seen (x : Bytes) : Mark → T.Mark → Type 0 where
   seen_lone : Seen x Lone (variable (bytes "_"))
   seen_sign : {k : Mark} {m : T.Mark} → Sign k m → Seen x k m
 
--- a run that starts at a place, whatever stands before it
-pub record RunFound (text : Bytes) (start : ℕ) (r : Found) : Type 0 where
-  pub starts : r.start ≡ start
-  pub ends : r.end ≡ start + 1 + bytes_after (get_or text start 0) (drop (start + 1) text)
-  pub high : r.end ≤ length text
-  pub mark : (apart : Bool) → Seen (part text start r.end) r.mark (mark_of apart (get_or text start 0) (drop (start + 1) text))
+-- a run from one place to another, whatever stands before it
+pub record RunSeen (text : Bytes) (start end : ℕ) (k : Mark) : Type 0 where
+  pub seen : (apart : Bool) → Seen (part text start end) k (mark_of apart (get_or text start 0) (drop (start + 1) text))
 
 -- the first token from a place on, or none
 pub data NextToken (text : Bytes) (from : ℕ) (r : Found) : Type 0 where

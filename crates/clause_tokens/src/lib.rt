@@ -3,8 +3,10 @@
 
 ghost use Rattle.std.specs.Prelude.{◌≡◌, not, ◌+◌, ◌≤◌, ◌<◌, length, get_or, drop};
 ghost use Rattle.clause_theory.specs.ClauseTokens.{is_layout, is_neck, is_stop, sign_of};
-ghost use Rattle.words.specs.Classes.{Class, Classes};
-ghost use Rattle.clause_tokens.specs.NextTokens.{LayoutEnds, Sign, sign_more, RunFound, NextToken, is_stop_mark};
+ghost use Rattle.words.specs.Classes.{class_of, EndsWord};
+ghost use Rattle.clause_tokens.specs.NextTokens.{LayoutEnds, Sign, sign_more, RunSeen, NextToken};
+
+use words::{Class, ClassTable};
 
 /// What a token is. `Nothing`: only layout stands up to the end.
 #[derive(Clone, Copy, PartialEq, Eq)]
@@ -48,37 +50,21 @@ pub fn layout_end(text: &[u8], from: usize) -> usize
     text.len()
 }
 
-/// A run of the bytes that a name has, by the class of its first byte.
-fn run_at(text: &[u8], start: usize, class: u8, classes: &[u8; 256]) -> Token
-    requires { (start < length text.now) × Class (get_or text.now start 0) class × (class ≡ 0 → ⊥) × Classes classes.now }
-    ensures { RunFound text.now start result }
+/// What a run of the bytes that a name has is, by the class of its first byte.
+fn run_mark(text: &[u8], start: usize, end: usize, class: Class) -> Mark
+    requires { (start < length text.now) × (class ≡ class_of (get_or text.now start 0)) × (class ≡ Class.Outside → ⊥) × EndsWord text.now (start + 1) end }
+    ensures { RunSeen text.now start end result }
 {
-    let end = words::word_end(text, start + 1, classes);
-    if class == 1 {
-        return Token {
-            mark: Mark::Name,
-            start,
-            end,
-        };
-    }
-    if class == 2 {
-        return Token {
-            mark: Mark::Variable,
-            start,
-            end,
-        };
-    }
-    if (text[start] == b'_') & (end == start + 1) {
-        return Token {
-            mark: Mark::Lone,
-            start,
-            end,
-        };
-    }
-    Token {
-        mark: Mark::Stray,
-        start,
-        end,
+    match class {
+        Class::Small => Mark::Name,
+        Class::Capital => Mark::Variable,
+        Class::Inner | Class::Outside => {
+            if (text[start] == b'_') & (end == start + 1) {
+                Mark::Lone
+            } else {
+                Mark::Stray
+            }
+        }
     }
 }
 
@@ -145,8 +131,8 @@ fn sign_end(text: &[u8], at: usize) -> usize
 }
 
 /// The token that starts at or after a place, where the one before it ends.
-pub fn next(text: &[u8], from: usize, classes: &[u8; 256]) -> Token
-    requires { (from ≤ length text.now) × Classes classes.now }
+pub fn next(text: &[u8], from: usize, classes: &ClassTable) -> Token
+    requires { from ≤ length text.now }
     ensures { NextToken text.now from result }
 {
     let start = layout_end(text, from);
@@ -157,13 +143,18 @@ pub fn next(text: &[u8], from: usize, classes: &[u8; 256]) -> Token
             end: start,
         };
     }
-    let class = words::class_of(text[start], classes);
-    if class != 0 {
-        return run_at(text, start, class, classes);
+    let class = classes.class_of(text[start]);
+    if class == Class::Outside {
+        return Token {
+            mark: sign(text, start, start == from),
+            start,
+            end: sign_end(text, start),
+        };
     }
+    let end = classes.word_end(text, start + 1);
     Token {
-        mark: sign(text, start, start == from),
+        mark: run_mark(text, start, end, class),
         start,
-        end: sign_end(text, start),
+        end,
     }
 }

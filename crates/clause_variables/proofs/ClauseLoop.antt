@@ -84,7 +84,7 @@ module _ (text : Bytes) (from : ℕ) where
     pub high : at ≤ length text
     pub rest : (c : Clause) → ClauseAt text from c → Rest text v at c
 
-  module _ {v : Variables} (size : length v.names ≡ 64) (no_names : v.named ≡ 0) (no_lones : v.lones ≡ 0) where
+  module _ {v : Variables} (size : length v.names ≡ 32) (no_names : v.named ≡ 0) (no_lones : v.lones ≡ 0) where
     nothing_gathered : Gathered v (mark_variables [])
     unfolding mark_variables named numbered lones
     nothing_gathered =

@@ -3,7 +3,7 @@ use mathlib.Core.Path.{◌≡◌, refl, sym, ◌∙◌, ap, subst}
 use mathlib.Core.Bool.{true, false, cond}
 use mathlib.Core.List.Memᴰ
 use mathlib.Core.List.{List, [], ◌∷◌, ◌++◌, append_assoc, append-nil}
-use Prim.Native.Nat.{ℕ, ◌+◌, ◌-◌, ◌*◌, ◌≤◌, ◌<◌}
+use Prim.Native.Nat.{ℕ, ◌+◌, ◌-◌, ◌≤◌, ◌<◌}
 use native.Mathlib.Omega.{arith}
 use lib.Dec.{leb}
 use lib.ListN.{length, set}
@@ -25,7 +25,7 @@ use Rattle.words.specs.Words.{words_of, words_at, StandsAt}
 use Rattle.words.specs.declared.Words.{Words}
 use Rattle.terms.specs.Rows.{Holds}
 use Rattle.terms.proofs.Numbering.{place_among, numbered_end_known, numbered_end_new, numbered_grows}
-use Rattle.terms.proofs.VariableTable.{with_words, found_is, not_found, holds_more}
+use Rattle.terms.proofs.VariableTable.{found_is, not_found, holds_more}
 use Rattle.clause_tokens.specs.NextTokens.{Seen, seen_name, seen_variable, seen_lone, seen_sign, sign_opens, sign_closes, sign_comma, sign_neck, sign_stop, sign_stray}
 use Rattle.clause_tokens.specs.declared.Mark.{Mark}
 use Rattle.clause_tokens.specs.declared.Mark.TheVariants.{Variable, Lone}
@@ -114,13 +114,13 @@ module _ {v : Variables} {xs : List Bytes} (g : Gathered v xs) where
     new_over past full = many (omega (arith, full, g.named_is, g.lones_is, lones_written xs x written, ap length (new_all past), length_end seen x))
 
     new_more : v.named ≤ place → v.named + v.lones < 16 → {few : v.named + 1 + v.lones ≤ 16}
-        → Gathered (record { names = with_words v.names v.named (words_of x); named = v.named + 1; lones = v.lones; few = few }) (xs ++ (x ∷ []))
+        → Gathered (record { names = set v.names v.named (words_of x); named = v.named + 1; lones = v.lones; few = few }) (xs ++ (x ∷ []))
     unfolding seen
     new_more past room =
         record {
           holds =
-              subst (λ (n : ℕ). Holds (with_words v.names n (words_of x)) (numbered [] (named (xs ++ (x ∷ []))))) (sym g.named_is)
-              (subst (Holds (with_words v.names (length seen) (words_of x))) (sym (new_all past)) (holds_more x g.holds proper (new_here past) (omega (arith, g.named_is))));
+              subst (λ (n : ℕ). Holds (set v.names n (words_of x)) (numbered [] (named (xs ++ (x ∷ []))))) (sym g.named_is)
+              (subst (Holds (set v.names (length seen) (words_of x))) (sym (new_all past)) (holds_more x g.holds proper (new_here past) (omega (arith, g.named_is))));
           named_is = omega (arith, g.named_is, ap length (new_all past), length_end seen x);
           lones_is = g.lones_is ∙ sym (lones_written xs x written);
         }
@@ -171,13 +171,13 @@ module _ (text : Bytes) (start end : ℕ) (v : Variables) (high : end ≤ length
     name_full past full = record { names = λ xs g proper written. over (new_over g word written (word_fits proper) place word_stands past full) }
 
     pub name_new : v.named ≤ place → v.named + v.lones < 16 → {few : v.named + 1 + v.lones ≤ 16}
-        → Named (part text start end) v (Some tt) (record { names = set (set v.names (2 * v.named) words.first) (2 * v.named + 1) words.second; named = v.named + 1; lones = v.lones; few = few })
+        → Named (part text start end) v (Some tt) (record { names = set v.names v.named words; named = v.named + 1; lones = v.lones; few = few })
     unfolding word
     name_new past room {few} =
         record {
           names = λ xs g proper written.
               all_known
-              (subst (λ (w : Words). Gathered (record { names = with_words v.names v.named w; named = v.named + 1; lones = v.lones; few = few }) (xs ++ (word ∷ []))) (sym told)
+              (subst (λ (w : Words). Gathered (record { names = set v.names v.named w; named = v.named + 1; lones = v.lones; few = few }) (xs ++ (word ∷ []))) (sym told)
               (new_more g word written (word_fits proper) place word_stands past room));
         }
 

@@ -1,12 +1,12 @@
 // The variables of a clause, gathered token by token.
 
 ghost use Rattle.std.specs.Prelude.{◌≤◌, length};
-ghost use Rattle.words.specs.Classes.{Classes};
 ghost use Rattle.text.specs.Scans.{part};
 ghost use Rattle.clause_variables.specs.Variables.{Named, LoneCounted, Gathers, VariablesFound};
 
 use crate::Variables;
 use clause_tokens::{Mark, Token};
+use words::ClassTable;
 
 impl Variables {
     /// A variable that is named: it stands in the table, or is put there. `None`: it is too long, or there are too many.
@@ -24,8 +24,7 @@ impl Variables {
         if 16 <= self.named + self.lones {
             return None;
         }
-        self.names[2 * self.named] = words.first;
-        self.names[2 * self.named + 1] = words.second;
+        self.names[self.named] = words;
         self.named += 1;
         Some(())
     }
@@ -54,8 +53,8 @@ impl Variables {
 
     /// Gathers the variables of the clause that starts at a place, in place of those that were there. `None`: they are too many,
     /// or the name of one is too long.
-    pub fn gather_clause(&mut self, text: &[u8], from: usize, classes: &[u8; 256]) -> Option<()>
-        requires { (from ≤ length text.now) × Classes classes.now }
+    pub fn gather_clause(&mut self, text: &[u8], from: usize, classes: &ClassTable) -> Option<()>
+        requires { from ≤ length text.now }
         ensures { VariablesFound text.now from result self.new }
     {
         self.named = 0;

@@ -3,13 +3,14 @@
 
 ghost use Rattle.std.specs.Prelude.{◌+◌, ◌≤◌};
 
-use words::WordTable;
+use words::{WordTable, Words};
 
 mod fresh;
 mod gather;
 
 /// The variables of a clause: those that it names, whose words are the first of a table, and how often `_` stands, each time for
 /// a variable of its own. They are no more than a clause may have.
+#[derive(Drop)]
 pub struct Variables {
     names: WordTable,
     named: usize,
@@ -21,7 +22,10 @@ impl Variables {
     /// No variables.
     pub fn none() -> Variables {
         Variables {
-            names: [0; 64],
+            names: [Words {
+                first: 0,
+                second: 0,
+            }; 32],
             named: 0,
             lones: 0,
         }

@@ -2,12 +2,12 @@
 #![tactic(auto)]
 
 ghost use Rattle.std.specs.Prelude.{◌≡◌, [], ◌+◌, ◌≤◌, ◌<◌, length};
-ghost use Rattle.words.specs.Classes.{Classes};
 ghost use Rattle.clause_tokens.specs.NextTokens.{tokens_at};
 ghost use Rattle.clauses.specs.Standings.{Advances};
 ghost use Rattle.clauses.specs.Endings.{EndFound};
 
 use clause_tokens::Mark;
+use words::ClassTable;
 
 /// What was read last in a clause. `Due`: an atom or a term is due; `Name`: a name, which may get arguments; `Term`: another term.
 #[derive(Clone, Copy, PartialEq, Eq)]
@@ -113,8 +113,8 @@ fn advance(from: Standing, mark: Mark) -> Step
 }
 
 /// Reads a clause from a place on: the place after its `.`, or that of the first token that can't continue it.
-pub fn clause_end(text: &[u8], from: usize, classes: &[u8; 256]) -> Result<usize, usize>
-    requires { (from ≤ length text.now) × Classes classes.now × (tokens_at text.now from ≡ [] → ⊥) }
+pub fn clause_end(text: &[u8], from: usize, classes: &ClassTable) -> Result<usize, usize>
+    requires { (from ≤ length text.now) × (tokens_at text.now from ≡ [] → ⊥) }
     ensures { EndFound text.now from result }
 {
     let mut standing = Standing {

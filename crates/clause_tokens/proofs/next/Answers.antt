@@ -6,8 +6,8 @@ use Rattle.clause_tokens.proofs.next.Goals as goal
 pub returns-then-text-start : goal.returns-then-text-start
 returns-then-text-start c = search (rules, next_none)
 
-pub returns-then-class-ne0 : goal.returns-then-class-ne0
-returns-then-class-ne0 c = search (rules, next_run)
+pub returns-then-eq : goal.returns-then-eq
+returns-then-eq c = search (rules, next_sign)
 
 pub returns : goal.returns
-returns c = search (rules, next_sign)
+returns c = search (rules, next_run)
