@@ -2,6 +2,5 @@
 pub mod Numbers
 pub mod Weighing
 pub mod Using
-pub mod Best
 pub mod Resuming
 pub mod Reserving

@@ -1,6 +1,6 @@
 -- The loop over the claims on a predicate.
 use mathlib.Core.Path.{◌≡◌, refl, sym, ◌∙◌, ap}
-use mathlib.Core.Bool.{true, false, cond}
+use mathlib.Core.Bool.{Bool, true, false, cond}
 use mathlib.Core.List.{List, ◌∷◌}
 use Prim.Native.Nat.{ℕ, ◌+◌, ◌≤◌, ◌<◌}
 use Prim.Native.Char.{code}
@@ -9,73 +9,94 @@ use native.Mathlib.Omega.{arith}
 use lib.IntN.{ℤ}
 use lib.ListN.{length, get_or, drop, drop_of_length-le}
 use lib.Seq.{drop-cons}
-use Rattle.groundwork.proofs.Truth.{by_truth, never_both, equal-eqb, eqb-different}
+use Rattle.std.specs.Prelude.{Option, Some, None}
 use Rattle.theory.specs.Packs.{Claim, no_claim}
-use Rattle.theory.specs.Reserve.{Query, bound_by, fields}
+use Rattle.theory.specs.Reserve.{Query, is_usable, bound_by, fields}
 use Rattle.theory.specs.declared.Bound.{Bound}
 use Rattle.theory.specs.declared.Reservation.TheVariants.{Bounded, NoBound, Impossible}
 use Rattle.theory.proofs.Reserving.UsableClaims.{is_impossible}
 use Rattle.tables.specs.Tables.{claim_place}
-use Rattle.bounds.specs.Bounds.{UsedFor, Uses, bound_of, smaller_of, better_of, reservation_from, ClaimsStand, ReservesBy}
+use Rattle.queries.specs.declared.query.Asked.{Asked}
 use Rattle.bounds.specs.declared.Use.{Use}
-use Rattle.bounds.proofs.Resuming.{settled, resumed, from_first}
+use Rattle.bounds.specs.declared.Use.TheVariants.{Impossible as NoFact, AtMost}
+use Rattle.bounds.specs.Bounds.{used, Uses, better_of, reservation_from, ClaimsStand, ReservesBy}
+use Rattle.bounds.proofs.Resuming.{bound_of, settled, resumed, from_first}
 
 -- the loop's invariant: what the claims before place i leave to say
-pub record Reserving (claims : List ℤ) (predicate count arity asked : ℕ) (sizes : List ℕ) (i : ℕ) (best : Bound) : Type 0 where
-  tells : (q : Query) (cs : List Claim) → ClaimsStand claims predicate count arity asked sizes q cs → reservation_from 1 q cs ≡ resumed q best (i + 1) (drop i cs)
+pub record Reserving (claims : List ℤ) (count : ℕ) (a : Asked) (i : ℕ) (best : Option Bound) : Type 0 where
+  tells : (q : Query) (cs : List Claim) → ClaimsStand claims count a q cs → reservation_from 1 q cs ≡ resumed q best (i + 1) (drop i cs)
 
 -- ---- one claim
 
-module _ (q : Query) (c : Claim) (u : Use) (used : UsedFor q c u) (best : Bound) (k : ℕ) (cs : List Claim) where
-  resumed_impossible : u.usable ≡ true → u.impossible ≡ true → resumed q best k (c ∷ cs) ≡ fields (code "I") 0 k
+module _ (q : Query) (c : Claim) (best : Option Bound) (k : ℕ) (cs : List Claim) where
+  resumed_unused : None ≡ used q c → resumed q best k (c ∷ cs) ≡ resumed q best (k + 1) cs
   unfolding resumed
-  resumed_impossible usable impossible = rw (sym used.usable ∙ usable, sym (used.impossible usable) ∙ impossible)
+  resumed_unused = by (is_usable q c) (is_impossible q c)
+    where
+      by : (usable impossible : Bool) → None ≡ cond usable (Some (cond impossible NoFact (AtMost (bound_by q c)))) None
+          → cond usable (cond impossible (fields (code "I") 0 k) (resumed q (Some (better_of best (bound_of (bound_by q c) k))) (k + 1) cs)) (resumed q best (k + 1) cs) ≡ resumed q best (k + 1) cs
+      by true impossible e = cc
+      by false impossible e = refl
 
-  resumed_possible : u.impossible ≡ false → resumed q best k (c ∷ cs) ≡ resumed q (better_of best u k) (k + 1) cs
+  resumed_impossible : Some NoFact ≡ used q c → resumed q best k (c ∷ cs) ≡ fields (code "I") 0 k
   unfolding resumed
-  resumed_possible possible =
-      rw (← used.usable)
-      (by_truth (λ b. cond b (cond (is_impossible q c) (fields (code "I") 0 k) (resumed q (smaller_of best (bound_by q c) k) (k + 1) cs)) (resumed q best (k + 1) cs) ≡ resumed q (cond b (smaller_of best u.bound k) best) (k + 1) cs) u.usable
-      (λ usable. rw (sym (used.impossible usable) ∙ possible, used.bound usable possible))
-      (λ unusable. refl))
+  resumed_impossible = by (is_usable q c) (is_impossible q c)
+    where
+      by : (usable impossible : Bool) → Some NoFact ≡ cond usable (Some (cond impossible NoFact (AtMost (bound_by q c)))) None
+          → cond usable (cond impossible (fields (code "I") 0 k) (resumed q (Some (better_of best (bound_of (bound_by q c) k))) (k + 1) cs)) (resumed q best (k + 1) cs) ≡ fields (code "I") 0 k
+      by true true e = refl
+      by true false e = cc
+      by false impossible e = cc
+
+  resumed_bound : {size : ℕ} → Some (AtMost size) ≡ used q c → resumed q best k (c ∷ cs) ≡ resumed q (Some (better_of best (bound_of size k))) (k + 1) cs
+  unfolding resumed
+  resumed_bound {size} = by (is_usable q c) (is_impossible q c)
+    where
+      by : (usable impossible : Bool) → Some (AtMost size) ≡ cond usable (Some (cond impossible NoFact (AtMost (bound_by q c)))) None
+          → cond usable (cond impossible (fields (code "I") 0 k) (resumed q (Some (better_of best (bound_of (bound_by q c) k))) (k + 1) cs)) (resumed q best (k + 1) cs) ≡ resumed q (Some (better_of best (bound_of size k))) (k + 1) cs
+      by true true e = cc
+      by true false e = let same : bound_by q c ≡ size = cc in ap (λ s. resumed q (Some (better_of best (bound_of s k))) (k + 1) cs) same
+      by false impossible e = cc
 
 -- ---- the loop
 
-module _ {claims : List ℤ} {predicate count arity asked : ℕ} {sizes : List ℕ} where
-  pub reserving_none : Reserving claims predicate count arity asked sizes 0 (bound_of 0 0)
-  reserving_none = record { tells = λ q cs stands. from_first q 1 cs (omega arith) }
+module _ {claims : List ℤ} {count : ℕ} {a : Asked} where
+  pub reserving_none : Reserving claims count a 0 None
+  reserving_none = record { tells = λ q cs stands. from_first q 1 cs }
 
-  module _ {i : ℕ} {best : Bound} (reserving : Reserving claims predicate count arity asked sizes i best) where
+  module _ {i : ℕ} {best : Option Bound} (reserving : Reserving claims count a i best) where
     -- a turn
-    module _ (less : i < count) {place : ℕ} (here : place ≡ claim_place predicate i) {u : Use} (uses : Uses claims place arity asked sizes u) (k : ℕ) (is : k ≡ i + 1) where
-      module _ {q : Query} {cs : List Claim} (stands : ClaimsStand claims predicate count arity asked sizes q cs) where
+    module _ (less : i < count) where
+      module _ {u : Option Use} (uses : Uses claims (claim_place a.predicate i) a u) {q : Query} {cs : List Claim} (stands : ClaimsStand claims count a q cs) where
         within : i < length cs
         within = omega (arith, stands.all)
 
-        used : UsedFor q (get_or cs i no_claim) u
-        used = uses.tells q _ (record { at = rw here (stands.at i within); full = stands.full i within; known = stands.known; stand = stands.stand }) stands.asks
+        is_used : u ≡ used q (get_or cs i no_claim)
+        is_used = uses.tells q _ (stands.at i within)
 
-        remaining : reservation_from 1 q cs ≡ resumed q best k (get_or cs i no_claim ∷ drop (i + 1) cs)
-        remaining = reserving.tells q cs stands ∙ rw (is, add-one i, drop-cons cs i no_claim within)
+        remaining : reservation_from 1 q cs ≡ resumed q best (i + 1) (get_or cs i no_claim ∷ drop (i + 1) cs)
+        remaining = reserving.tells q cs stands ∙ rw (add-one i, drop-cons cs i no_claim within) refl
 
-      pub reserving_impossible : u.impossible ≡ true → ReservesBy claims predicate count arity asked sizes (Impossible k)
-      reserving_impossible impossible =
-          let usable : u.usable ≡ true = by_truth (λ b. u.usable ≡ true) u.usable (λ e. e) (λ e. never_both impossible (uses.idle e)) in
-          record { tells = λ q cs stands. sym (remaining stands ∙ resumed_impossible q _ u (used stands) best k _ usable impossible); passes_none = refl }
-
-      pub reserving_more : u.impossible ≡ false → (r : Bound) → r ≡ better_of best u k → Reserving claims predicate count arity asked sizes (i + 1) r
-      reserving_more possible r better = record {
-        tells = λ q cs stands. remaining stands ∙ resumed_possible q _ u (used stands) best k _ possible ∙ rw (better, is);
+      pub reserving_impossible : Uses claims (claim_place a.predicate i) a (Some NoFact) → ReservesBy claims count a (Impossible (i + 1))
+      reserving_impossible uses = record {
+        tells = λ q cs stands. sym (remaining uses stands ∙ resumed_impossible q _ best _ _ (is_used uses stands));
+        passes_none = refl;
       }
+
+      pub reserving_bound : {size : ℕ} → Uses claims (claim_place a.predicate i) a (Some (AtMost size)) → Reserving claims count a (i + 1) (Some (better_of best (bound_of size (i + 1))))
+      reserving_bound uses = record { tells = λ q cs stands. remaining uses stands ∙ resumed_bound q _ best _ _ (is_used uses stands) }
+
+      pub reserving_unused : Uses claims (claim_place a.predicate i) a None → Reserving claims count a (i + 1) best
+      reserving_unused uses = record { tells = λ q cs stands. remaining uses stands ∙ resumed_unused q _ best _ _ (is_used uses stands) }
 
     -- after the last claim
     module _ (all : count ≤ i) where
-      over : {q : Query} {cs : List Claim} → ClaimsStand claims predicate count arity asked sizes q cs → reservation_from 1 q cs ≡ settled best
+      over : {q : Query} {cs : List Claim} → ClaimsStand claims count a q cs → reservation_from 1 q cs ≡ settled best
       unfolding resumed
       over {q} {cs} stands = reserving.tells q cs stands ∙ ap (resumed q best (i + 1)) (drop_of_length-le cs {i = i} (omega (arith, stands.all)))
 
-      pub reserving_bounded : (best.claim ≡ 0 → ⊥) → ReservesBy claims predicate count arity asked sizes (Bounded best)
-      reserving_bounded some = record { tells = λ q cs stands. sym (over stands ∙ rw (eqb-different best.claim 0 some)); passes_none = refl }
+      pub reserving_bounded : {b : Bound} → best ≡ Some b → ReservesBy claims count a (Bounded b)
+      reserving_bounded is = record { tells = λ q cs stands. sym (over stands ∙ ap settled is); passes_none = refl }
 
-      pub reserving_unbounded : best.claim ≡ 0 → ReservesBy claims predicate count arity asked sizes NoBound
-      reserving_unbounded none = record { tells = λ q cs stands. sym (over stands ∙ rw (equal-eqb best.claim 0 none)); passes_none = refl }
+      pub reserving_unbounded : best ≡ None → ReservesBy claims count a NoBound
+      reserving_unbounded is = record { tells = λ q cs stands. sym (over stands ∙ ap settled is); passes_none = refl }

@@ -1,7 +1,7 @@
 -- The asked argument's field: what its number tells of test 16, and of the argument asked for.
 use mathlib.Core.Path.{◌≡◌, refl, sym, ◌∙◌, ap}
-use mathlib.Core.Bool.{Bool, true, false, not, ◌||◌}
-use mathlib.Core.Option.{Option, some, none, get_or}
+use mathlib.Core.Bool.{Bool, true, false, not}
+use mathlib.Core.Option.{some, none, get_or}
 use Prim.Native.Nat.{ℕ, ◌≤◌}
 use native.Mathlib.Omega.{arith}
 use Rattle.groundwork.proofs.Truth.{by_truth, or_left, or_right, or_neither}
@@ -10,21 +10,18 @@ use Rattle.theory.specs.Text.{Bytes, bytes, same, natural}
 use Rattle.theory.proofs.Reading.Bytes.{same_refl, same_equal}
 use Rattle.theory.proofs.Reading.Presence.{some_is, none_is}
 use Rattle.theory.proofs.Reserving.QueryFields.{written_zero}
+use Rattle.queries.specs.Queries.{is_unasked}
 use Rattle.theory.proofs.Reading.Spelling.{natural_of_decimal, decimal_of_natural, natural_wider}
 
--- what test 16 finds
-abbrev pub is_unasked : ℕ → Bytes → Bool
-is_unasked arity field = not (is_some (natural arity field)) || same field (bytes "0")
-
 module _ (arity : ℕ) (field : Bytes) where
-  pub asked_zero : get_or (natural arity field) 0 ≡ 0 → is_unasked arity field ≡ true
-  asked_zero = by (natural arity field) refl
-    where
-      by : (o : Option ℕ) → natural arity field ≡ o → get_or o 0 ≡ 0 → is_unasked arity field ≡ true
-      by none is e = or_left _ _ (ap not (none_is _ is))
-      by (some n) is e =
-          let zero_field : field ≡ bytes "0" = decimal_of_natural arity field 0 (is ∙ ap some e) ∙ written_zero in
-          or_right (not (is_some (natural arity field))) (same field (bytes "0")) (rw zero_field (same_refl (bytes "0")))
+  -- no number, or 0
+  pub unasked_none : none ≡ natural arity field → is_unasked arity field ≡ true
+  unasked_none is = or_left _ _ (ap not (none_is _ (sym is)))
+
+  pub unasked_zero : some 0 ≡ natural arity field → is_unasked arity field ≡ true
+  unasked_zero is =
+      let zero_field : field ≡ bytes "0" = decimal_of_natural arity field 0 (sym is) ∙ written_zero in
+      or_right (not (is_some (natural arity field))) (same field (bytes "0")) (rw zero_field (same_refl (bytes "0")))
 
   module _ (n : ℕ) (is : natural arity field ≡ some n) (above : n ≡ 0 → ⊥) where
     not_zero : same field (bytes "0") ≡ false
@@ -38,14 +35,6 @@ module _ (arity : ℕ) (field : Bytes) where
 
     pub asked_clear : is_unasked arity field ≡ false
     asked_clear = or_neither _ _ (ap not (some_is _ n is)) not_zero
-
-  -- a number other than 0 was read
-  pub asked_number_lem : (get_or (natural arity field) 0 ≡ 0 → ⊥) → natural arity field ≡ some (get_or (natural arity field) 0)
-  asked_number_lem = by (natural arity field)
-    where
-      by : (o : Option ℕ) → (get_or o 0 ≡ 0 → ⊥) → o ≡ some (get_or o 0)
-      by none above = absurd (above refl)
-      by (some n) above = refl
 
   pub asked_is : (n : ℕ) → natural arity field ≡ some n → arity ≤ 8 → get_or (natural 8 field) 0 ≡ n
   asked_is n is few = rw (natural_wider arity 8 field n few is)

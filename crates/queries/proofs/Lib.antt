@@ -1,3 +1,5 @@
+-- What an `Option` was that is handed on or refused.
+pub mod Given
 -- A query's fields, one by one: a size, the asked argument, the name.
 pub mod SizeFields
 pub mod AskedField
@@ -8,5 +10,4 @@ pub mod SizeLoop
 pub mod QueryTests
 -- What `open_query` answers, by its ways out.
 pub mod QueryFields
-pub mod QueryRanges
 pub mod QueryOpening

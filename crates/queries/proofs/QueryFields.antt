@@ -1,25 +1,20 @@
 -- A query's fields by their places: the name, the asked argument's number, the sizes.
-use mathlib.Core.Path.{◌≡◌, refl, sym, ◌∙◌, ap}
-use mathlib.Core.Bool.{true}
+use mathlib.Core.Path.{◌≡◌, sym, ◌∙◌, ap}
 use mathlib.Core.List.{List, [], ◌∷◌, map}
-use mathlib.Core.Option
-use mathlib.Core.Option.{Option, none}
+use mathlib.Core.Option as M
+use mathlib.Core.Option.{none}
 use Prim.Native.Nat.{ℕ, ◌+◌, ◌-◌, ◌≤◌, ◌<◌}
 use native.Mathlib.Decide.{dec_lt}
 use native.Mathlib.Omega.{arith}
 use lib.ListN.{length, get_or, take, drop, length-map, get_or-map}
-use Rattle.groundwork.proofs.Lists.{get_d_member}
-use Rattle.theory.specs.Lists.{is_some}
+use Rattle.std.specs.Prelude.{Option}
 use Rattle.theory.specs.Text.{Bytes, bytes, same, is_decimal, natural, fields_of}
 use Rattle.theory.specs.Written.{field}
 use Rattle.theory.specs.Reserve.{query_from, query_of, size_from}
-use Rattle.theory.proofs.Reading.Every.{every_member}
 use Rattle.text.specs.Scans.{part, Finds, parts_from}
 use Rattle.text.proofs.Cuts.{parts_all, parts_done, parts_step}
-use Rattle.tables.specs.QuerySizes.{entry_of, SizesStand}
-use Rattle.queries.specs.Queries.{SizesRead}
-use Rattle.theory.proofs.Reserving.QuerySizes.{read_small}
-use Rattle.queries.proofs.SizeFields.{number_entry}
+use Rattle.queries.specs.Queries.{entry_of, FineSizes, SizesStand}
+use Rattle.queries.proofs.SizeFields.{size_entry}
 
 module _ (query : Bytes) (stop : ℕ) (first : Finds query 44 0 stop) where
   name_off : fields_of query ≡ take stop query ∷ parts_from 44 query (stop + 1)
@@ -53,8 +48,8 @@ module _ (query : Bytes) (stop : ℕ) (first : Finds query 44 0 stop) where
 
 -- ---- the sizes given
 
-abbrev size_of : Bytes → Option ℕ
-size_of f = Option.get_or (size_from f) none
+abbrev size_of : Bytes → M.Option ℕ
+size_of f = M.get_or (size_from f) none
 
 module _ (query : Bytes) (from : ℕ) (rest : drop 2 (fields_of query) ≡ parts_from 44 query from) where
   given : (query_of query).sizes ≡ map size_of (parts_from 44 query from)
@@ -65,15 +60,9 @@ module _ (query : Bytes) (from : ℕ) (rest : drop 2 (fields_of query) ≡ parts
   given_count = ap length given ∙ length-map (parts_from 44 query from) size_of
 
   -- the size at a place is that of the field there
-  pub given_at : (i : ℕ) → get_or (query_of query).sizes i none ≡ Option.get_or (size_from (get_or (parts_from 44 query from) i [])) none
+  pub given_at : (i : ℕ) → get_or (query_of query).sizes i none ≡ M.get_or (size_from (get_or (parts_from 44 query from) i [])) none
   unfolding size_from bytes same natural is_decimal
-  given_at i = ap (λ (sizes : List (Option ℕ)). get_or sizes i none) given ∙ get_or-map size_of (parts_from 44 query from) i []
+  given_at i = ap (λ (sizes : List (M.Option ℕ)). get_or sizes i none) given ∙ get_or-map size_of (parts_from 44 query from) i []
 
-  pub given_stand : (sizes : List ℕ) → SizesRead query from true sizes → SizesStand sizes (query_of query).sizes
-  given_stand sizes read = record {
-    entry = λ i h.
-        let inside : i < length (parts_from 44 query from) = omega (arith, given_count) in
-        let fine : is_some (size_from (get_or (parts_from 44 query from) i [])) ≡ true = every_member _ (sym read.all) (get_d_member (parts_from 44 query from) i [] inside) in
-        read.entry refl i inside ∙ number_entry _ fine ∙ ap entry_of (sym (given_at i));
-    small = λ i s h known. omega (arith, read_small (get_or (parts_from 44 query from) i []) s (sym (given_at i) ∙ known));
-  }
+  pub given_stand : {sizes : List (Option ℕ)} → FineSizes query from sizes → SizesStand sizes (query_of query).sizes
+  given_stand read = record { entry = λ i h. size_entry _ (read.entry i (omega (arith, given_count))) ∙ ap entry_of (sym (given_at i)) }

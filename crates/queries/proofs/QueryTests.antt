@@ -13,7 +13,7 @@ use Rattle.theory.specs.Faults.{test, first_given, is_unfit}
 use Rattle.theory.specs.Reserve.{query_of, size_from, size_given, meant_by_query, query_fault}
 use Rattle.theory.proofs.Reading.Presence.{some_is}
 use Rattle.theory.proofs.Judging.Tests.{first_passed, first_found}
-use Rattle.queries.proofs.AskedField.{is_unasked}
+use Rattle.queries.specs.Queries.{is_unasked}
 
 module _ (p : Pack) (query : Bytes) where
   pub fault_four : is_unfit query ≡ true → query_fault p query ≡ 4

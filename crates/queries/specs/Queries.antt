@@ -1,56 +1,82 @@
 -- A query whose tests are done.
-use Rattle.std.specs.Prelude.{◌≡◌, Bool, true, List, [], ℕ, ◌≤◌, ◌<◌, length, get_or}
-use Rattle.std.proofs.Math.Option.{Option, some, none}
+use Rattle.std.specs.Prelude.{◌≡◌, Bool, true, false, not, ◌||◌, List, [], ℕ, ◌<◌, length, get_or, Option, Some, None, Result, Ok, Err}
+use Rattle.std.proofs.Math.Option
+use Rattle.std.proofs.Math.Option.{some, none}
 use Rattle.theory.specs.Lists.{every, is_some}
-use Rattle.theory.specs.Text.{Bytes, is_name}
+use Rattle.theory.specs.Text.{Bytes, bytes, same, natural, is_name}
 use Rattle.theory.specs.Packs.{Pack, key_of}
 use Rattle.theory.specs.Reserve.{query_key, query_of, size_from, query_fault}
 use Rattle.theory.specs.Answers.{query_number}
 use Rattle.theory.specs.declared.QueryRefusal.{QueryRefusal}
+use Rattle.theory.specs.declared.QueryRefusal.TheVariants.{SizeField}
 use Rattle.text.specs.Scans.{parts_from}
 use Rattle.words.specs.Words.{words_of, StandsAt}
 use Rattle.tables.specs.Tables.{predicate_at, signature, signature_at, Declares}
-use Rattle.tables.specs.QuerySizes.{entry_of, SafeSizes, SizesStand}
-use Rattle.queries.specs.declared.Asked.{Asked}
-use Rattle.queries.specs.declared.Tested.{Tested}
-use Rattle.queries.specs.declared.Tested.TheVariants.{Refused, Asks}
+use Rattle.queries.specs.declared.query.Asked.{Asked}
 
--- what stands for a size field that is malformed or out of range
-abbrev pub malformed_size : ℕ
-malformed_size = 65537
+-- a size of the definitions, or none, as the code has it
+abbrev pub entry_of : Option.Option ℕ → Option ℕ
+entry_of none = None
+entry_of (some s) = Some s
 
--- a size field as a number
-abbrev pub size_number : Option (Option ℕ) → ℕ
-size_number none = malformed_size
-size_number (some size) = entry_of size
+-- a size field that is read
+abbrev pub size_read : Option.Option (Option.Option ℕ) → Result (Option ℕ) QueryRefusal
+size_read none = Err SizeField
+size_read (some size) = Ok (entry_of size)
 
--- whether the size fields from a place on are fine, and the table that then holds them
-pub record SizesRead (query : Bytes) (from : ℕ) (r : Bool) (sizes : List ℕ) : Type 0 where
-  pub safe : SafeSizes sizes
-  pub size : length sizes ≡ 8
-  pub all : r ≡ every (λ (f : Bytes). is_some (size_from f)) (parts_from 44 query from)
-  pub entry : r ≡ true → (i : ℕ) → i < length (parts_from 44 query from) → get_or sizes i 0 ≡ size_number (size_from (get_or (parts_from 44 query from) i []))
+-- the table stands for the sizes that a query gives
+pub record SizesStand (sizes : List (Option ℕ)) (given : List (Option.Option ℕ)) : Type 0 where
+  pub entry : (i : ℕ) → i < length given → get_or sizes i None ≡ entry_of (get_or given i none)
 
--- the place of a name with an arity among the predicates, or how many there are where it is no name or not among them
-pub record Means (field : Bytes) (arity : ℕ) (names signatures : List ℕ) (known r : ℕ) : Type 0 where
-  pub high : r ≤ known
-  pub is_named : r < known → is_name field ≡ true
-  pub place : is_name field ≡ true → StandsAt (signature_at names signatures) known (signature (words_of field) arity) r
+-- whether each field is a size field
+abbrev pub are_sizes : List Bytes → Bool
+are_sizes = every (λ (f : Bytes). is_some (size_from f))
+
+-- the size fields from a place on, each of them fine, stand in the table
+pub record FineSizes (query : Bytes) (from : ℕ) (sizes : List (Option ℕ)) : Type 0 where
+  pub fine : are_sizes (parts_from 44 query from) ≡ true
+  pub entry : (i : ℕ) → i < length (parts_from 44 query from) → Ok (get_or sizes i None) ≡ size_read (size_from (get_or (parts_from 44 query from) i []))
+
+abbrev pub SizesRead : Bytes → ℕ → Result (List (Option ℕ)) QueryRefusal → Type 0
+SizesRead query from (Ok sizes) = FineSizes query from sizes
+SizesRead query from (Err f) = (f ≡ SizeField) × (are_sizes (parts_from 44 query from) ≡ false)
+
+-- what test 16 finds: no number from 1 to the arity
+abbrev pub is_unasked : ℕ → Bytes → Bool
+is_unasked arity field = not (is_some (natural arity field)) || same field (bytes "0")
+
+-- a name stands with an arity at a place among the predicates
+pub record Found (field : Bytes) (arity : ℕ) (names signatures : List ℕ) (known place : ℕ) : Type 0 where
+  pub below : place < known
+  pub is_named : is_name field ≡ true
+  pub at : StandsAt (signature_at names signatures) known (signature (words_of field) arity) place
+
+-- a field is no name, or stands at none of their places
+pub record Absent (field : Bytes) (arity : ℕ) (names signatures : List ℕ) (known : ℕ) : Type 0 where
+  pub nowhere : is_name field ≡ true → StandsAt (signature_at names signatures) known (signature (words_of field) arity) known
+
+abbrev pub Means : Bytes → ℕ → List ℕ → List ℕ → ℕ → Option ℕ → Type 0
+Means field arity names signatures known (Some place) = Found field arity names signatures known place
+Means field arity names signatures known None = Absent field arity names signatures known
 
 -- a query without fault: its predicate's place, and what it asks
-pub record Passed (p : Pack) (query : Bytes) (r : Asked) (sizes : List ℕ) : Type 0 where
+pub record Passed (p : Pack) (query : Bytes) (r : Asked) : Type 0 where
   pub faultless : query_fault p query ≡ 0
   pub below : r.predicate < length p.predicates
   pub is : key_of (predicate_at p.predicates r.predicate) ≡ query_key (query_of query)
   pub arity : r.arity ≡ (predicate_at p.predicates r.predicate).arguments
   pub full : length (query_of query).sizes ≡ r.arity
   pub asked : r.asked ≡ (query_of query).asked
-  pub stand : SizesStand sizes (query_of query).sizes
+  pub stand : SizesStand r.sizes (query_of query).sizes
 
--- a query refused by the first test that finds a fault, or passed
-pub record OpensQuery (query : Bytes) (names signatures : List ℕ) (known : ℕ) (r : Tested) (sizes : List ℕ) : Type 0 where
-  pub size : length sizes ≡ 8
-  pub safe : SafeSizes sizes
-  pub refused : (f : QueryRefusal) → r ≡ Refused f → (p : Pack) → Declares names signatures known p.predicates → query_fault p query ≡ query_number f
-  pub low : (a : Asked) → r ≡ Asks a → (a.predicate < 32) × (a.arity ≤ 8) × (a.asked < 8)
-  pub passed : (a : Asked) → r ≡ Asks a → (p : Pack) → Declares names signatures known p.predicates → Passed p query a sizes
+-- a query refused by the first test that finds a fault
+pub record Refuses (query : Bytes) (names signatures : List ℕ) (known : ℕ) (f : QueryRefusal) : Type 0 where
+  pub tells : (p : Pack) → Declares names signatures known p.predicates → query_fault p query ≡ query_number f
+
+-- or passed
+pub record Passes (query : Bytes) (names signatures : List ℕ) (known : ℕ) (a : Asked) : Type 0 where
+  pub tells : (p : Pack) → Declares names signatures known p.predicates → Passed p query a
+
+abbrev pub OpensQuery : Bytes → List ℕ → List ℕ → ℕ → Result Asked QueryRefusal → Type 0
+OpensQuery query names signatures known (Err f) = Refuses query names signatures known f
+OpensQuery query names signatures known (Ok a) = Passes query names signatures known a
