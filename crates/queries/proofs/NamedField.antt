@@ -6,33 +6,31 @@ use Prim.Native.Nat.{ℕ, ◌≤◌, ◌<◌}
 use native.Mathlib.Omega.{arith}
 use Rattle.groundwork.proofs.Truth.{never_both}
 use Rattle.theory.specs.Text.{Bytes}
+use Rattle.std.specs.Prelude.{Option, Some, None}
 use Rattle.words.specs.declared.Word.{Word}
 use Rattle.words.specs.declared.Word.TheVariants.{Name, Variable, Neither}
 use Rattle.words.specs.declared.Words.{Words}
-use Rattle.words.specs.Words.{words_of, WordRead, StandsAt}
+use Rattle.words.specs.Words.{words_of, WordRead}
 use Rattle.words.proofs.WordKinds.{is_name_word, name_told, read_words}
-use Rattle.tables.specs.Tables.{signature, signature_at}
-use Rattle.queries.specs.Queries.{Found, Absent}
+use Rattle.tables.specs.declared.Signature.{Signature}
+use Rattle.tables.specs.Tables.{heading, heading_at, FoundAt}
+use Rattle.queries.specs.Queries.{Absent, Means}
 
-module _ (field : Bytes) (arity : ℕ) (names signatures : List ℕ) (known : ℕ) (word : Word) (read : WordRead field word) where
-  unnamed : is_name_word word ≡ false → Absent field arity names signatures known
+module _ (field : Bytes) (arity : ℕ) (signatures : List Signature) (known : ℕ) (word : Word) (read : WordRead field word) where
+  unnamed : is_name_word word ≡ false → Absent field arity signatures known
   unnamed other = record { nowhere = λ e. never_both (sym (name_told read) ∙ e) other }
 
-  pub means_variable : (words : Words) → word ≡ Variable words → Absent field arity names signatures known
+  pub means_variable : (words : Words) → word ≡ Variable words → Absent field arity signatures known
   means_variable words is = unnamed (ap is_name_word is)
 
-  pub means_neither : word ≡ Neither → Absent field arity names signatures known
+  pub means_neither : word ≡ Neither → Absent field arity signatures known
   means_neither is = unnamed (ap is_name_word is)
 
   -- a name, and where it stands with the arity
-  module _ (words : Words) (is : word ≡ Name words) (place : ℕ) (at : StandsAt (signature_at names signatures) known (signature words arity) place) where
-    stands : StandsAt (signature_at names signatures) known (signature (words_of field) arity) place
-    stands = subst (λ (w : Words). StandsAt (signature_at names signatures) known (signature w arity) place) (read_words field word words read is) at
+  module _ (words : Words) (is : word ≡ Name words) where
+    stands : (r : Option ℕ) → FoundAt (heading_at signatures) known (heading words arity) r → FoundAt (heading_at signatures) known (heading (words_of field) arity) r
+    stands r at = subst (λ (w : Words). FoundAt (heading_at signatures) known (heading w arity) r) (read_words field word words read is) at
 
-    pub means_place : place < known → Found field arity names signatures known place
-    means_place below = record { below = below; is_named = name_told read ∙ ap is_name_word is; at = stands }
-
-    pub means_absent : known ≤ place → Absent field arity names signatures known
-    means_absent above =
-        let last : place ≡ known = omega (arith, at.high) in
-        record { nowhere = λ e. subst (λ (p : ℕ). StandsAt (signature_at names signatures) known (signature (words_of field) arity) p) last stands }
+    pub means_name : (r : Option ℕ) → FoundAt (heading_at signatures) known (heading words arity) r → Means field arity signatures known r
+    means_name (Some place) at = record { is_named = name_told read ∙ ap is_name_word is; at = stands (Some place) at }
+    means_name None at = record { nowhere = λ e. stands None at }

@@ -10,8 +10,9 @@ use Rattle.theory.specs.Answers.{query_number}
 use Rattle.theory.specs.declared.QueryRefusal.{QueryRefusal}
 use Rattle.theory.specs.declared.QueryRefusal.TheVariants.{SizeField}
 use Rattle.text.specs.Scans.{parts_from}
-use Rattle.words.specs.Words.{words_of, StandsAt}
-use Rattle.tables.specs.Tables.{predicate_at, signature, signature_at, Declares}
+use Rattle.words.specs.Words.{words_of}
+use Rattle.tables.specs.declared.Signature.{Signature}
+use Rattle.tables.specs.Tables.{predicate_at, heading, heading_at, FoundAt, Declares}
 use Rattle.queries.specs.declared.query.Asked.{Asked}
 
 -- a size of the definitions, or none, as the code has it
@@ -45,19 +46,17 @@ SizesRead query from (Err f) = (f ≡ SizeField) × (are_sizes (parts_from 44 qu
 abbrev pub is_unasked : ℕ → Bytes → Bool
 is_unasked arity field = not (is_some (natural arity field)) || same field (bytes "0")
 
--- a name stands with an arity at a place among the predicates
-pub record Found (field : Bytes) (arity : ℕ) (names signatures : List ℕ) (known place : ℕ) : Type 0 where
-  pub below : place < known
+-- the place of the predicate that a field names with an arity; none where it is no name or there is no such predicate
+pub record Found (field : Bytes) (arity : ℕ) (signatures : List Signature) (known place : ℕ) : Type 0 where
   pub is_named : is_name field ≡ true
-  pub at : StandsAt (signature_at names signatures) known (signature (words_of field) arity) place
+  pub at : FoundAt (heading_at signatures) known (heading (words_of field) arity) (Some place)
 
--- a field is no name, or stands at none of their places
-pub record Absent (field : Bytes) (arity : ℕ) (names signatures : List ℕ) (known : ℕ) : Type 0 where
-  pub nowhere : is_name field ≡ true → StandsAt (signature_at names signatures) known (signature (words_of field) arity) known
+pub record Absent (field : Bytes) (arity : ℕ) (signatures : List Signature) (known : ℕ) : Type 0 where
+  pub nowhere : is_name field ≡ true → FoundAt (heading_at signatures) known (heading (words_of field) arity) None
 
-abbrev pub Means : Bytes → ℕ → List ℕ → List ℕ → ℕ → Option ℕ → Type 0
-Means field arity names signatures known (Some place) = Found field arity names signatures known place
-Means field arity names signatures known None = Absent field arity names signatures known
+abbrev pub Means : Bytes → ℕ → List Signature → ℕ → Option ℕ → Type 0
+Means field arity signatures known (Some place) = Found field arity signatures known place
+Means field arity signatures known None = Absent field arity signatures known
 
 -- a query without fault: its predicate's place, and what it asks
 pub record Passed (p : Pack) (query : Bytes) (r : Asked) : Type 0 where
@@ -70,13 +69,13 @@ pub record Passed (p : Pack) (query : Bytes) (r : Asked) : Type 0 where
   pub stand : SizesStand r.sizes (query_of query).sizes
 
 -- a query refused by the first test that finds a fault
-pub record Refuses (query : Bytes) (names signatures : List ℕ) (known : ℕ) (f : QueryRefusal) : Type 0 where
-  pub tells : (p : Pack) → Declares names signatures known p.predicates → query_fault p query ≡ query_number f
+pub record Refuses (query : Bytes) (signatures : List Signature) (known : ℕ) (f : QueryRefusal) : Type 0 where
+  pub tells : (p : Pack) → Declares signatures known p.predicates → query_fault p query ≡ query_number f
 
 -- or passed
-pub record Passes (query : Bytes) (names signatures : List ℕ) (known : ℕ) (a : Asked) : Type 0 where
-  pub tells : (p : Pack) → Declares names signatures known p.predicates → Passed p query a
+pub record Passes (query : Bytes) (signatures : List Signature) (known : ℕ) (a : Asked) : Type 0 where
+  pub tells : (p : Pack) → Declares signatures known p.predicates → Passed p query a
 
-abbrev pub OpensQuery : Bytes → List ℕ → List ℕ → ℕ → Result Asked QueryRefusal → Type 0
-OpensQuery query names signatures known (Err f) = Refuses query names signatures known f
-OpensQuery query names signatures known (Ok a) = Passes query names signatures known a
+abbrev pub OpensQuery : Bytes → List Signature → ℕ → Result Asked QueryRefusal → Type 0
+OpensQuery query signatures known (Err f) = Refuses query signatures known f
+OpensQuery query signatures known (Ok a) = Passes query signatures known a

@@ -9,9 +9,9 @@ ghost use Rattle.text.specs.Scans.{parts_from};
 ghost use Rattle.tables.specs.Tables.{SafeSignatures};
 ghost use Rattle.queries.specs.Queries.{size_read, is_unasked, SizesRead, Means, OpensQuery};
 
-use tables::{Names, Signatures, Tables};
+use tables::{Signatures, Tables};
 use theory::QueryRefusal;
-use words::Word;
+use words::{ClassTable, Word};
 
 mod query;
 
@@ -56,47 +56,32 @@ fn read_asked(field: &[u8], arity: u8) -> Option<usize>
 }
 
 /// The place of the predicate that a field names, with its arity.
-fn named_by(
-    field: &[u8],
-    arity: usize,
-    names: &Names,
-    signatures: &Signatures,
-    known: usize,
-) -> Option<usize>
+fn named_by(field: &[u8], arity: usize, signatures: &Signatures, known: usize) -> Option<usize>
     requires { known ≤ 32 }
-    ensures { Means field.now arity names.now signatures.now known result }
+    ensures { Means field.now arity signatures.now known result }
 {
-    let classes = words::class_table();
-    let word = words::word_of(field, &classes);
-    match word {
-        Word::Name(words) => {
-            let place = tables::place(names, signatures, known, words, arity);
-            if place < known { Some(place) } else { None }
-        }
-        Word::Variable(_) => None,
-        Word::Neither => None,
+    match ClassTable::standard().word_of(field) {
+        Word::Name(words) => tables::place(signatures, known, words, arity),
+        Word::Variable(_) | Word::Neither => None,
     }
 }
 
 /// The tests of a query, in number order.
 pub fn open_query(query: &[u8], tables: &Tables, known: usize) -> Result<Asked, QueryRefusal>
     requires { (known ≤ 32) × (SafeSignatures tables.now.signatures) }
-    ensures { OpensQuery query.now tables.now.names tables.now.signatures known result }
+    ensures { OpensQuery query.now tables.now.signatures known result }
 {
     if text::is_unfit(query) {
         return Err(QueryRefusal::UnfitQuery);
     }
+    let commas = text::count(query, b',');
+    if commas == 0 {
+        return Err(QueryRefusal::QueryName);
+    }
     let stop = reader::field_end(query, 0);
-    let given = tables::arity_by(text::count(query, b','), 1);
-    let place = named_by(
-        &query[..stop],
-        given,
-        &tables.names,
-        &tables.signatures,
-        known,
-    )
-    .ok_or(QueryRefusal::QueryName)?;
-    let arity = tables.signatures[place];
+    let place = named_by(&query[..stop], commas - 1, &tables.signatures, known)
+        .ok_or(QueryRefusal::QueryName)?;
+    let arity = tables.signatures[place].arity;
     let from = stop + 1;
     let end = reader::field_end(query, from);
     let asked = read_asked(&query[from..end], arity).ok_or(QueryRefusal::AskedArgument)?;
