@@ -1,6 +1,0 @@
--- Each line brings the place nearer to the end.
-use Rattle.std.proofs.Common.{◌-◌, length}
-use Rattle.measure_cases.proofs.measure_lines.Given as goal
-
-abbrev pub decreases-loop-at : goal.decreases-loop-at
-decreases-loop-at g l = length l.input - l.at
