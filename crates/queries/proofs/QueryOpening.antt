@@ -59,11 +59,8 @@ module _ (query : Bytes) (signatures : List Signature) (known : ℕ) where
               (λ e. refl)
 
       pub opens_short : n ≡ 0 → Refuses query signatures known QueryName
-      opens_short e = undeclared (λ named. rw short refl)
-        where
-          short : less (length (fields_of query)) 2 ≡ M.none
-          unfolding less
-          short = rw (← count, e) refl
+      unfolding less
+      opens_short e = undeclared (λ named. rw (← count, e) refl)
 
       -- the first field
       module _ (some_comma : n ≡ 0 → ⊥) (stop : ℕ) (first : Finds query 44 0 stop) where

@@ -62,7 +62,8 @@ fn named_by(field: &[u8], arity: usize, signatures: &Signatures, known: usize) -
 {
     match ClassTable::standard().word_of(field) {
         Word::Name(words) => tables::place(signatures, known, words, arity),
-        Word::Variable(_) | Word::Neither => None,
+        Word::Variable(_) => None,
+        Word::Neither => None,
     }
 }
 
@@ -79,8 +80,9 @@ pub fn open_query(query: &[u8], tables: &Tables, known: usize) -> Result<Asked, 
         return Err(QueryRefusal::QueryName);
     }
     let stop = reader::field_end(query, 0);
-    let place = named_by(&query[..stop], commas - 1, &tables.signatures, known)
-        .ok_or(QueryRefusal::QueryName)?;
+    let place = named_by(&query[..stop], commas - 1, &tables.signatures, known).ok_or(
+        QueryRefusal::QueryName,
+    )?;
     let arity = tables.signatures[place].arity;
     let from = stop + 1;
     let end = reader::field_end(query, from);
