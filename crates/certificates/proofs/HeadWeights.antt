@@ -1,5 +1,6 @@
 -- An `M` line when its claim's numbers stand as the head's weights: they can be summed, and the line is done or refused by the sum.
 use mathlib.Core.Path.{◌≡◌, refl, sym, ◌∙◌}
+use Rattle.std.specs.Prelude.{Ok, Err}
 use mathlib.Core.Bool.{Bool, true, false}
 use mathlib.Core.List.{List}
 use Prim.Native.Nat.{ℕ, ◌+◌, ◌*◌, ◌≤◌, ◌<◌}
@@ -10,9 +11,8 @@ use lib.ListN.{get_or}
 use Rattle.forms.specs.declared.Form.{Form}
 use Rattle.tables.specs.declared.State.{State}
 use Rattle.tables.specs.declared.Fault.TheVariants.{Unjustified}
-use Rattle.tables.specs.declared.Closing.TheVariants.{Done, Misclosed}
 use Rattle.tables.specs.Tables.{claim_place, SafeClaims, NoWeights}
-use Rattle.tables.proofs.Outcomes.{done_misclosed}
+use Rattle.tables.proofs.Outcomes.{ok_never_err}
 use Rattle.residuals.specs.Sums.{width, largest, Summable, SumsTo, Judged}
 use Rattle.certificates.specs.Weights.{HeadWeighed}
 use Rattle.certificates.specs.Multipliers.{ClosesM, with_multipliers}
@@ -27,18 +27,18 @@ head_summable {claims} {place} {before} {after} safe sums head =
 
 module _ (s : State) (claims weights₀ : List ℤ) (rows : List ℕ) (place : ℕ) (isPlace : place ≡ claim_place s.head s.multipliers) (weighed : List ℤ) (head : HeadWeighed claims place weights₀ weighed)
     (sum : Form) (sums : SumsTo weighed rows (width s.variables) (s.subgoals + 1) sum) (justified : Bool) (judged : Judged sum justified) where
-  pub line_refused : justified ≡ false → ClosesM s claims weights₀ rows (Misclosed Unjustified) weighed
+  pub line_refused : justified ≡ false → ClosesM s claims weights₀ rows (Err Unjustified) weighed
   line_refused negative =
       record {
         weighed = weighed;
         head = rw (← isPlace) head;
         sum = sum;
         sums = sums;
-        done = λ next e. absurd (done_misclosed (sym e));
+        done = λ next e. absurd (ok_never_err (sym e));
         unjustified = λ f e. (cc, refl, judged.no negative);
       }
 
-  pub line_done : (weights : List ℤ) → justified ≡ true → NoWeights weights → ClosesM s claims weights₀ rows (Done (with_multipliers s)) weights
+  pub line_done : (weights : List ℤ) → justified ≡ true → NoWeights weights → ClosesM s claims weights₀ rows (Ok (with_multipliers s)) weights
   line_done weights nonnegative cleared =
       record {
         weighed = weighed;
@@ -46,5 +46,5 @@ module _ (s : State) (claims weights₀ : List ℤ) (rows : List ℕ) (place : �
         sum = sum;
         sums = sums;
         done = λ next e. (cc, cleared, judged.yes nonnegative);
-        unjustified = λ f e. absurd (done_misclosed e);
+        unjustified = λ f e. absurd (ok_never_err e);
       }

@@ -1,5 +1,6 @@
 -- An `M` line whose fields are all read: the residual's numbers decide.
 use mathlib.Core.Path.{◌≡◌, refl, sym, ◌∙◌, ap, subst}
+use Rattle.std.specs.Prelude.{Result, Ok, Err}
 use mathlib.Core.Bool.{true, false}
 use mathlib.Core.List.{List, []}
 use Prim.Native.Nat.{ℕ, zero, suc, ◌+◌, ◌≤◌, ◌<◌}
@@ -23,8 +24,7 @@ use Rattle.theory.proofs.Judging.Completeness.{rule_from_incomplete, due_from_in
 use Rattle.forms.specs.declared.Form.{Form}
 use Rattle.tables.specs.declared.State.{State}
 use Rattle.tables.specs.declared.Opened.{Opened}
-use Rattle.tables.specs.declared.Closing.{Closing}
-use Rattle.tables.specs.declared.Closing.TheVariants.{Done, Misclosed}
+use Rattle.tables.specs.declared.Fault.{Fault}
 use Rattle.tables.specs.Tables.{Tables, claim_place, ClaimAt, RuleStands, Holds, Safe}
 use Rattle.tables.specs.Faults.{number_of, closing_number}
 use Rattle.tables.specs.Lines.{Passed}
@@ -37,7 +37,7 @@ form_number_lem : (form : Form) (i : ℕ) → get_or (form_numbers form) i (pos 
 form_number_lem form zero = refl
 form_number_lem form (suc i) = refl
 
-module _ {manner : Manner} {line : Bytes} {t : Tables} {s : State} {w : Written} {o : Opened} {weights₀ weights : List ℤ} {r : Closing} (holds : Holds t s w) (safe : Safe t s) (passed : Passed manner M line s w o)
+module _ {manner : Manner} {line : Bytes} {t : Tables} {s : State} {w : Written} {o : Opened} {weights₀ weights : List ℤ} {r : Result State Fault} (holds : Holds t s w) (safe : Safe t s) (passed : Passed manner M line s w o)
     (progress : ProgressM (drop 1 (fields_of line)) (length (drop 1 (fields_of line))) t.claims t.slots weights₀)
     (closes : ClosesM s t.claims weights₀ t.rows r weights) where
   incomplete : is_complete w.pack ≡ false
@@ -94,7 +94,7 @@ module _ {manner : Manner} {line : Bytes} {t : Tables} {s : State} {w : Written}
   own_number : (i : ℕ) → i < 17 → get_or residue i (pos 0) ≡ number_at closes.sum i
   own_number i less = sym (sum_number closes.sum closes.sums i less)
 
-  justified : (next : State) → r ≡ Done next → is_justified residue ≡ true
+  justified : (next : State) → r ≡ Ok next → is_justified residue ≡ true
   unfolding is_justified
   justified next done = places_every non_neg residue (pos 0) λ i inside.
       let below : i < 17 = omega (arith, residue_length) in
@@ -111,8 +111,8 @@ module _ {manner : Manner} {line : Bytes} {t : Tables} {s : State} {w : Written}
       all_good : every is_multiplier (drop 1 (fields_of line)) ≡ true
       all_good = places_every is_multiplier (drop 1 (fields_of line)) [] progress.good
 
-      decided : (q : Closing) → r ≡ q → fault manner w line ≡ closing_number q
-      decided (Done next) e = passed.left ∙ rw (all_good, justified next e)
-      decided (Misclosed f) e =
+      decided : (q : Result State Fault) → r ≡ q → fault manner w line ≡ closing_number q
+      decided (Ok next) e = passed.left ∙ rw (all_good, justified next e)
+      decided (Err f) e =
           let (is, same, (i, below, negative)) = closes.unjustified f e in
           passed.left ∙ rw (all_good, unjustified i below negative) (sym (ap number_of is))

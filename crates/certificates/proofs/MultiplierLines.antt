@@ -11,6 +11,7 @@ use borrow.Author.Count.{below_more}
 use lib.Dec.{eqb}
 use lib.IntN.{ℤ, pos, nat_abs, ◌-ℤ◌, ◌*ℤ◌, +ℤ_idr}
 use lib.ListN.{length, get_or, drop, get_or-eq_default}
+use Rattle.std.specs.Prelude.{Result, Ok, Err}
 use Rattle.groundwork.proofs.Truth.{by_truth, eqb-equal, eqb-unequal}
 use Rattle.groundwork.proofs.Stretches.{elements}
 use Rattle.theory.specs.Text.{Bytes, fields_of}
@@ -23,10 +24,6 @@ use Rattle.tables.specs.declared.State.{State}
 use Rattle.tables.specs.declared.Opened.{Opened}
 use Rattle.tables.specs.declared.Fault.{Fault}
 use Rattle.tables.specs.declared.Fault.TheVariants.{Number, Unjustified}
-use Rattle.tables.specs.declared.Fielding.{Fielding}
-use Rattle.tables.specs.declared.Fielding.TheVariants.{Read, Misread}
-use Rattle.tables.specs.declared.Closing.{Closing}
-use Rattle.tables.specs.declared.Closing.TheVariants.{Done, Misclosed}
 use Rattle.tables.specs.Tables.{Tables, Holds, Safe, NoWeights}
 use Rattle.tables.specs.Faults.{number_of}
 use Rattle.tables.specs.Lines.{at, Passed, ClosedFor}
@@ -52,10 +49,10 @@ m_begin fs claims slots weights none =
       weight = λ subgoal j below less. none.zero (suc subgoal * 9 + j);
     }
 
-pub m_count : {index : ℕ} {field : Bytes} {many : ℕ} {claims : List ℤ} {slots : List ℕ} {weights₀ weights : List ℤ} {r : Fielding} {n : ℕ} → FieldM index field many claims slots weights₀ r weights → r ≡ Read n → many ≡ n
+pub m_count : {index : ℕ} {field : Bytes} {many : ℕ} {claims : List ℤ} {slots : List ℕ} {weights₀ weights : List ℤ} {r : Result ℕ Fault} {n : ℕ} → FieldM index field many claims slots weights₀ r weights → r ≡ Ok n → many ≡ n
 m_count {field = field} {many} done read = (field_passes many Number (is_multiplier field) done.answer read).1
 
-module _ {fs : List Bytes} {index many : ℕ} {claims : List ℤ} {slots : List ℕ} {weights₀ weights : List ℤ} {r : Fielding} {n : ℕ} (before : ProgressM fs index claims slots weights₀) (done : FieldM index (at fs index) many claims slots weights₀ r weights) (read : r ≡ Read n) where
+module _ {fs : List Bytes} {index many : ℕ} {claims : List ℤ} {slots : List ℕ} {weights₀ weights : List ℤ} {r : Result ℕ Fault} {n : ℕ} (before : ProgressM fs index claims slots weights₀) (done : FieldM index (at fs index) many claims slots weights₀ r weights) (read : r ≡ Ok n) where
   good_here : is_multiplier (at fs index) ≡ true
   good_here = (field_passes many Number (is_multiplier (at fs index)) done.answer read).0
 
@@ -105,8 +102,8 @@ module _ {fs : List Bytes} {index many : ℕ} {claims : List ℤ} {slots : List 
         weight = weight_after_lem;
       }
 
-pub m_fault : {manner : Manner} {line : Bytes} {s : State} {w : Written} {o : Opened} {index many : ℕ} {claims : List ℤ} {slots : List ℕ} {weights₀ weights : List ℤ} {r : Fielding} {f : Fault}
-    → Passed manner M line s w o → index < length (drop 1 (fields_of line)) → FieldM index (at (drop 1 (fields_of line)) index) many claims slots weights₀ r weights → r ≡ Misread f → fault manner w line ≡ number_of f
+pub m_fault : {manner : Manner} {line : Bytes} {s : State} {w : Written} {o : Opened} {index many : ℕ} {claims : List ℤ} {slots : List ℕ} {weights₀ weights : List ℤ} {r : Result ℕ Fault} {f : Fault}
+    → Passed manner M line s w o → index < length (drop 1 (fields_of line)) → FieldM index (at (drop 1 (fields_of line)) index) many claims slots weights₀ r weights → r ≡ Err f → fault manner w line ≡ number_of f
 unfolding tests multiplier_tests first_given
 m_fault {line} {index = index} {many} passed less done bad =
     let fs = drop 1 (fields_of line) in
@@ -145,7 +142,7 @@ module _ {t : Tables} {s : State} {fs : List Bytes} {index : ℕ} {weights : Lis
 
 -- ---- the line's end
 
-module _ {manner : Manner} {line : Bytes} {t : Tables} {s : State} {w : Written} {o : Opened} {weights₀ weights : List ℤ} {r : Closing} (holds : Holds t s w) (safe : Safe t s) (passed : Passed manner M line s w o)
+module _ {manner : Manner} {line : Bytes} {t : Tables} {s : State} {w : Written} {o : Opened} {weights₀ weights : List ℤ} {r : Result State Fault} (holds : Holds t s w) (safe : Safe t s) (passed : Passed manner M line s w o)
     (progress : ProgressM (drop 1 (fields_of line)) (length (drop 1 (fields_of line))) t.claims t.slots weights₀)
     (closes : ClosesM s t.claims weights₀ t.rows r weights) where
   pub m_close : ClosedFor manner line w r t
@@ -156,7 +153,7 @@ module _ {manner : Manner} {line : Bytes} {t : Tables} {s : State} {w : Written}
       }
 
   -- what an unjustified line leaves: weights whose sum is the residual
-  pub m_left : (f : Fault) → r ≡ Misclosed f → (f ≡ Unjustified) × (w.pack.rules ≡ [] → ⊥)
+  pub m_left : (f : Fault) → r ≡ Err f → (f ≡ Unjustified) × (w.pack.rules ≡ [] → ⊥)
       × ((form : Form) → length form.coefficients ≡ 16 → SumsTo weights t.rows (width s.variables) (s.subgoals + 1) form → form_numbers form ≡ residual_due w.pack (multipliers_from (fields_of line)))
   m_left f refused =
       let left = closes.unjustified f refused in (
@@ -167,15 +164,15 @@ module _ {manner : Manner} {line : Bytes} {t : Tables} {s : State} {w : Written}
 
 -- ---- whatever the lines write
 
-pub m_left_summable : {t : Tables} {s : State} {fs : List Bytes} {index : ℕ} {weights₀ weights : List ℤ} {r : Closing} {f : Fault}
-    → Safe t s → index ≤ s.slots → ProgressM fs index t.claims t.slots weights₀ → ClosesM s t.claims weights₀ t.rows r weights → r ≡ Misclosed f → Summable weights t.rows
+pub m_left_summable : {t : Tables} {s : State} {fs : List Bytes} {index : ℕ} {weights₀ weights : List ℤ} {r : Result State Fault} {f : Fault}
+    → Safe t s → index ≤ s.slots → ProgressM fs index t.claims t.slots weights₀ → ClosesM s t.claims weights₀ t.rows r weights → r ≡ Err f → Summable weights t.rows
 m_left_summable {f = f} safe few progress closes refused =
     rw (closes.unjustified f refused).1 (head_summable safe.claims (m_summable safe few progress) closes.head)
 
-pub m_cleared : {s : State} {claims weights₀ : List ℤ} {rows : List ℕ} {r : Closing} {weights : List ℤ} {next : State} → ClosesM s claims weights₀ rows r weights → r ≡ Done next → NoWeights weights
+pub m_cleared : {s : State} {claims weights₀ : List ℤ} {rows : List ℕ} {r : Result State Fault} {weights : List ℤ} {next : State} → ClosesM s claims weights₀ rows r weights → r ≡ Ok next → NoWeights weights
 m_cleared {next = next} closes done = (closes.done next done).1
 
-pub m_safe : {t : Tables} {s : State} {weights₀ weights : List ℤ} {r : Closing} {next : State} → Safe t s → s.multipliers < 16 → ClosesM s t.claims weights₀ t.rows r weights → r ≡ Done next → Safe t next
+pub m_safe : {t : Tables} {s : State} {weights₀ weights : List ℤ} {r : Result State Fault} {next : State} → Safe t s → s.multipliers < 16 → ClosesM s t.claims weights₀ t.rows r weights → r ≡ Ok next → Safe t next
 m_safe {next = next} safe due closes done =
     rw (closes.done next done).0
     (record {

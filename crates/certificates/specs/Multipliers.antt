@@ -1,5 +1,5 @@
 -- The fields and the end of an `M` line: the multipliers, the weights that those read so far have left, and the residual.
-use Rattle.std.specs.Prelude.{◌≡◌, true, false, cond, List, ℕ, zero, suc, ◌+◌, ◌*◌, ◌<◌, eqb, ℤ, pos, ◌-ℤ◌, ◌*ℤ◌, length, get_or}
+use Rattle.std.specs.Prelude.{◌≡◌, true, false, cond, List, ℕ, zero, suc, ◌+◌, ◌*◌, ◌<◌, eqb, ℤ, pos, ◌-ℤ◌, ◌*ℤ◌, length, get_or, Result, Ok, Err}
 use Rattle.std.proofs.Math.Option.{some}
 use Rattle.std.specs.Int.Signed.{non_neg}
 use Rattle.theory.specs.Text.{Bytes, natural}
@@ -10,17 +10,13 @@ use Rattle.forms.specs.declared.Form.{Form}
 use Rattle.tables.specs.declared.State.{State}
 use Rattle.tables.specs.declared.Fault.{Fault}
 use Rattle.tables.specs.declared.Fault.TheVariants.{Number, Unjustified}
-use Rattle.tables.specs.declared.Fielding.{Fielding}
-use Rattle.tables.specs.declared.Fielding.TheVariants.{Read, Misread}
-use Rattle.tables.specs.declared.Closing.{Closing}
-use Rattle.tables.specs.declared.Closing.TheVariants.{Done, Misclosed}
 use Rattle.tables.specs.Tables.{claim_place, NoWeights}
 use Rattle.tables.specs.Lines.{at}
 use Rattle.residuals.specs.Sums.{width, number_at, SumsTo}
 use Rattle.certificates.specs.Weights.{Weighs, HeadWeighed}
 
-pub record FieldM (index : ℕ) (field : Bytes) (many : ℕ) (claims : List ℤ) (slots : List ℕ) (weights₀ : List ℤ) (r : Fielding) (weights : List ℤ) : Type 0 where
-  pub answer : r ≡ cond (is_multiplier field) (Read many) (Misread Number)
+pub record FieldM (index : ℕ) (field : Bytes) (many : ℕ) (claims : List ℤ) (slots : List ℕ) (weights₀ : List ℤ) (r : Result ℕ Fault) (weights : List ℤ) : Type 0 where
+  pub answer : r ≡ cond (is_multiplier field) (Ok many) (Err Number)
   pub weighed : is_multiplier field ≡ true → (m : ℕ) × (natural number_limit field ≡ some m) × Weighs (pos m) claims (get_or slots index 0) (get_or slots (128 + index) 0 + 1) weights₀ weights
   pub size : length weights ≡ length weights₀
 
@@ -40,10 +36,10 @@ abbrev pub with_multipliers : State → State
 with_multipliers s = record { predicates = s.predicates; claimed = s.claimed; rules = s.rules; multiplier_lines = s.multiplier_lines + 1; head = s.head; subgoals = s.subgoals; variables = s.variables; slots = s.slots; multipliers = s.multipliers + 1; shipped = s.shipped; owing = s.owing; headed = s.headed; ended = s.ended }
 
 -- the end of an `M` line: the weights with the head's, their sum, and what it decides
-pub record ClosesM (s : State) (claims weights₀ : List ℤ) (rows : List ℕ) (r : Closing) (weights : List ℤ) : Type 0 where
+pub record ClosesM (s : State) (claims weights₀ : List ℤ) (rows : List ℕ) (r : Result State Fault) (weights : List ℤ) : Type 0 where
   pub weighed : List ℤ
   pub head : HeadWeighed claims (claim_place s.head s.multipliers) weights₀ weighed
   pub sum : Form
   pub sums : SumsTo weighed rows (width s.variables) (s.subgoals + 1) sum
-  pub done : (next : State) → r ≡ Done next → (next ≡ with_multipliers s) × NoWeights weights × ((i : ℕ) → i < 17 → non_neg (number_at sum i) ≡ true)
-  pub unjustified : (f : Fault) → r ≡ Misclosed f → (f ≡ Unjustified) × (weights ≡ weighed) × ((i : ℕ) × (i < 17) × (non_neg (number_at sum i) ≡ false))
+  pub done : (next : State) → r ≡ Ok next → (next ≡ with_multipliers s) × NoWeights weights × ((i : ℕ) → i < 17 → non_neg (number_at sum i) ≡ true)
+  pub unjustified : (f : Fault) → r ≡ Err f → (f ≡ Unjustified) × (weights ≡ weighed) × ((i : ℕ) × (i < 17) × (non_neg (number_at sum i) ≡ false))

@@ -16,7 +16,7 @@ use Rattle.groundwork.proofs.Truth.{by_truth, le-leb, gt-leb, lt-ltb, ge-ltb}
 use Rattle.groundwork.proofs.Magnitude.{nat_abs_mul}
 use Rattle.tables.specs.Tables.{SafeRows}
 use Rattle.residuals.specs.Sums.{width, seen, number_at, FormAt, WithRow}
-use Rattle.widths.proofs.Kept.{kept_at, small_kept}
+use Rattle.forms.proofs.Kept.{kept_at, small_kept}
 
 -- what holds of the constant and of each coefficient holds of each of the 17
 pub each_number : (P : ℕ → ℤ → Type 0) (f : Form) → P 0 f.constant → ((i : ℕ) → i < 16 → P (suc i) (at f i)) → (i : ℕ) → i < 17 → P i (number_at f i)

@@ -14,7 +14,7 @@ use Rattle.forms.specs.Sums.{at, Within, Zero}
 use Rattle.forms.specs.declared.Form.{Form}
 use Rattle.tables.specs.Tables.{row_place}
 use Rattle.residuals.specs.Sums.{seen, number_at, rows_sum, own_part, atoms_sum, Summable, Partial, WithConstant, WithRow}
-use Rattle.widths.proofs.Kept.{kept_at, small_fits, small_kept, widened}
+use Rattle.forms.proofs.Kept.{kept_at, small_fits, small_kept, widened}
 use Rattle.residuals.proofs.Rows.{each_number, numbers_within, seen_small}
 
 -- ---- an atom's rows

@@ -1,10 +1,6 @@
-use Prim.Native.Nat.{◌-◌, ◌≤◌}
 use lib.IntN.{pos}
 use Rattle.groundwork.proofs.Stretches.{Stored, from}
 use Rattle.certificates.proofs.weigh_head.Given as goal
 
 abbrev pub invariant-loop-i : goal.invariant-loop-i
-invariant-loop-i l = (l.i ≤ 9) × Stored (pos 0) (from l.claims l.place) 0 l.initial.weights l.weights l.i
-
-abbrev pub decreases-loop-i : goal.decreases-loop-i
-decreases-loop-i l = 9 - l.i
+invariant-loop-i l = Stored (pos 0) (from l.claims l.place) 0 l.initial.weights l.weights l.i

@@ -2,7 +2,7 @@
 use native.Mathlib.Omega.{arith}
 use mir.Syntax.{w64}
 use borrow.Author.Rules.{rules}
-use Rattle.widths.proofs.Kept.{small_kept}
+use Rattle.forms.proofs.Kept.{small_kept}
 use Rattle.residuals.proofs.Rows.{width_whole, row_within, product_within, row_added}
 use Rattle.residuals.proofs.with_row.Goals as goal
 
