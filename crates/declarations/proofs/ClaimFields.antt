@@ -1,6 +1,7 @@
 -- A field of a `C` line: a number of the claim, into the row.
 use mathlib.Core.Path.{◌≡◌, refl, sym, ◌∙◌, ap}
-use Rattle.std.specs.Prelude.{Ok, Err}
+use Rattle.std.specs.Prelude.{Option, Some, Result, Ok, Err}
+use Rattle.std.specs.Option.{ok_or}
 use mathlib.Core.Bool.{false}
 use mathlib.Core.List.{List}
 use mathlib.Core.Option.{some}
@@ -19,17 +20,17 @@ use Rattle.theory.specs.Lists.{is_some}
 use Rattle.theory.specs.Text.{Bytes, integer}
 use Rattle.theory.specs.Faults.{is_claim_number}
 use Rattle.theory.proofs.Reading.Spelling.{integer_within}
-use Rattle.numbers.specs.declared.Integer.{Integer}
-use Rattle.numbers.specs.declared.Integer.TheVariants.{Signed, NoInteger}
-use Rattle.numbers.specs.Numbers.{integer_of}
+use Rattle.numbers.specs.Numbers.{option_of}
 use Rattle.forms.proofs.Results.{kept}
+use Rattle.tables.specs.declared.Fault.{Fault}
 use Rattle.tables.specs.declared.Fault.TheVariants.{Number}
+use Rattle.tables.proofs.Outcomes.{none_refused}
 use Rattle.declarations.specs.Fields.{FieldC}
 
-module _ (field : Bytes) (read : Integer) (is : integer_of read ≡ integer 9999 field) where
-  module _ (z : ℤ) (found : read ≡ Signed z) where
+module _ (field : Bytes) (read : Option ℤ) (is : option_of read ≡ integer 9999 field) where
+  module _ (z : ℤ) (found : read ≡ Some z) where
     reads : integer 9999 field ≡ some z
-    reads = sym is ∙ ap integer_of found
+    reads = sym is ∙ ap option_of found
 
     small : nat_abs z ≤ 9999
     small = integer_within 9999 field z reads
@@ -41,32 +42,33 @@ module _ (field : Bytes) (read : Integer) (is : integer_of read ≡ integer 9999
     whole : kept z ≡ z
     whole = to_z-of_z {w = w64} (small_fits w64 z (omega (arith, small)))
 
-    pub number_fits : nat_abs (kept z) < 32768
-    number_fits = rw whole (omega (arith, small))
+    pub number_fits : SFits w16 (kept z)
+    number_fits = rw whole fits
 
-    pub number_read : (index many : ℕ) (row₀ : List ℤ) (y : ℤ) → index < 9 → length row₀ ≡ 9 → y ≡ kept z → FieldC index field many row₀ (Ok many) (set row₀ index (to_z w16 (of_z w16 y)))
+    pub number_read : (index many : ℕ) (row₀ : List ℤ) → index < length row₀ → FieldC index field many row₀ (Ok many) (set row₀ index (to_z w16 (of_z w16 (kept z))))
     unfolding is_some
-    number_read index many row₀ y inside long narrowed =
+    number_read index many row₀ inside =
         record {
           answer = rw reads;
-          read = λ e. reads ∙ ap some (sym (get_or-set_same row₀ index stored (pos 0) (omega arith) ∙ is_z));
+          read = λ e. reads ∙ ap some (sym (get_or-set_same row₀ index stored (pos 0) inside ∙ is_z));
           kept = λ i. get_or-set_other row₀ index i stored (pos 0);
           size = length-set row₀ index stored;
           small = λ h i. replaced (λ x. nat_abs x ≤ 9999) row₀ index i stored (pos 0) (rw is_z small) (h i);
         }
       where
         stored : ℤ
-        stored = to_z w16 (of_z w16 y)
+        stored = to_z w16 (of_z w16 (kept z))
 
         is_z : stored ≡ z
-        is_z = ap (λ (x : ℤ). to_z w16 (of_z w16 x)) (narrowed ∙ whole) ∙ to_z-of_z fits
+        is_z = ap (λ (x : ℤ). to_z w16 (of_z w16 x)) whole ∙ to_z-of_z fits
 
-  pub no_number : (index many : ℕ) (row₀ : List ℤ) → read ≡ NoInteger → FieldC index field many row₀ (Err Number) row₀
+  pub no_number : (index many : ℕ) (row₀ : List ℤ) (f : Fault) → ◌≡◌ {A = Result ℤ Fault} (Err f) (ok_or read Number) → FieldC index field many row₀ (Err f) row₀
   unfolding is_some
-  no_number index many row₀ found =
-      let none : is_claim_number field ≡ false = rw (← is, found) in
+  no_number index many row₀ f refused =
+      let (nothing, fault) = none_refused read refused in
+      let none : is_claim_number field ≡ false = rw (← is, nothing) in
       record {
-        answer = rw none;
+        answer = rw (none, fault);
         read = λ e. never_both e none;
         kept = λ i n. refl;
         size = refl;

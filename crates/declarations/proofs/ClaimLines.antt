@@ -8,8 +8,7 @@ use native.Mathlib.Omega.{arith}
 use borrow.Author.Count.{below_more}
 use lib.Dec.{leb}
 use lib.IntN.{ℤ, pos, nat_abs}
-use lib.ListN.{length, get_or, set, drop, length-set}
-use lib.Seq.{get_or-set_other}
+use lib.ListN.{length, get_or, drop, length-set}
 use Rattle.std.specs.Prelude.{Result, Ok, Err}
 use Rattle.groundwork.proofs.Truth.{and_right, leb-gt}
 use Rattle.groundwork.proofs.Stretches.{replaced}
@@ -23,16 +22,17 @@ use Rattle.theory.proofs.Reading.Presence.{some_is, is_empty_lem, end_filled}
 use Rattle.theory.proofs.Reading.Places.{places_every, not_every}
 use Rattle.theory.proofs.Judging.Sections.{claims_stand}
 use Rattle.theory.proofs.Judging.LineWriting.{writes_letter}
+use Rattle.tables.specs.declared.Signature.{Signature}
 use Rattle.tables.specs.declared.State.{State}
 use Rattle.tables.specs.declared.Opened.{Opened}
 use Rattle.tables.specs.declared.Fault.{Fault}
 use Rattle.tables.specs.declared.Fault.TheVariants.{Number, CountLimit}
-use Rattle.tables.specs.Tables.{Tables, tables, claim_place, Holds, Safe}
+use Rattle.tables.specs.Tables.{Tables, tables, no_signature, signature_at, with_claims, counted, claim_place, Holds, Safe}
 use Rattle.tables.specs.Faults.{number_of}
 use Rattle.tables.specs.Lines.{Passed, ClosedFor, at}
 use Rattle.tables.proofs.PredicateSets.{key_alone}
 use Rattle.tables.proofs.Outcomes.{field_passes, field_fails, line_number, line_passes, line_fails}
-use Rattle.tables.proofs.Declared.{count_declares}
+use Rattle.tables.proofs.Declared.{count_leaves, count_declares}
 use Rattle.declarations.specs.Fields.{FieldC, ProgressC}
 use Rattle.declarations.specs.Ends.{with_claim, Laid, ClosesC}
 use Rattle.declarations.proofs.OwedRules.{owed}
@@ -73,10 +73,10 @@ c_fault line s w o index many row₀ row r f passed less done is =
 -- the tables with the claim that a line writes, and a pack with it
 c_holds : {manner : Manner} (line : Bytes) (t : Tables) (s : State) (w : Written) (o : Opened) (row : List ℤ) (claims : List ℤ) → Holds t s w → Safe t s → Passed manner C line s w o
     → ProgressC (drop 2 (fields_of line)) (length (drop 2 (fields_of line))) row
-    → let count = get_or t.signatures (64 + o.predicate) 0 in
+    → let count = (signature_at t.signatures o.predicate).claims in
     count < 16
-    → Laid t.claims (claim_place o.predicate count) row (get_or t.signatures o.predicate 0) claims
-    → Holds (tables t.names (set t.signatures (64 + o.predicate) (count + 1)) claims t.variables t.rows t.slots) (with_claim o.predicate t.signatures s) (record { pack = add C (fields_of line) w.pack; ended = w.ended })
+    → Laid t.claims (claim_place o.predicate count) row (signature_at t.signatures o.predicate).arity claims
+    → Holds (tables (counted t.signatures o.predicate (count + 1)) claims t.variables t.rows t.slots) (with_claim o.predicate t.signatures s) (record { pack = add C (fields_of line) w.pack; ended = w.ended })
 unfolding add claim_from
 c_holds line t s w o row claims holds safe passed done room laid =
     let fields = fields_of line in
@@ -89,16 +89,16 @@ c_holds line t s w o row claims holds safe passed done room laid =
     let below = passed.named.below in
     let few : length ps ≤ 32 = omega (arith, safe.state.predicates) in
     let arity = declares.arity p (omega arith) in
-    let full : length fields ≡ get_or t.signatures p 0 + 3 = omega (arith, passed.named.full) in
+    let full : length fields ≡ (signature_at t.signatures p).arity + 3 = omega (arith, passed.named.full) in
     record {
-      declares = count_declares t.names t.signatures s.predicates p (get_or t.signatures (64 + p) 0 + 1) ps safe.state.predicates declares;
+      declares = count_declares t.signatures p ((signature_at t.signatures p).claims + 1) s.predicates ps (omega (arith, safe.sizes.signatures, safe.state.predicates)) declares;
       claims = claims_more t.signatures t.claims claims ps cs holds.claims few safe.signatures safe.sizes.signatures p below
           (λ i h e. declares.distinct i p (omega arith) (omega arith) e)
-          c passed.named.is row (get_or t.signatures p 0) room laid
+          c passed.named.is row (signature_at t.signatures p).arity room laid
           (claim_laid fields t.claims claims _ row _ laid done full);
       claimed = rw (end_filled cs c);
       shipped = holds.shipped;
-      owing = owed ps cs c p (key_alone declares p below) below passed.named.is holds.owing (get_or t.signatures (32 + p) 0) (declares.kind p (omega arith));
+      owing = owed ps cs c p (key_alone declares p below) below passed.named.is holds.owing (signature_at t.signatures p).kind (declares.kind p (omega arith));
       headed = holds.headed;
       rules = holds.rules;
       lines = holds.lines;
@@ -106,22 +106,22 @@ c_holds line t s w o row claims holds safe passed done room laid =
       ended = holds.ended;
     }
 
-module _ {o : Opened} {s : State} {row : List ℤ} {signatures₀ : List ℕ} {claims₀ : List ℤ} {r : Result State Fault} {signatures : List ℕ} {claims : List ℤ} (closes : ClosesC o s row signatures₀ claims₀ r signatures claims) where
+module _ {o : Opened} {s : State} {row : List ℤ} {signatures₀ : List Signature} {claims₀ : List ℤ} {r : Result State Fault} {signatures : List Signature} {claims : List ℤ} (closes : ClosesC o s row signatures₀ claims₀ r signatures claims) where
   -- a line that is done had room for its claim
-  room : (next : State) → r ≡ Ok next → (get_or signatures₀ (64 + o.predicate) 0 < claim_limit) × (with_claim o.predicate signatures₀ s ≡ next)
+  room : (next : State) → r ≡ Ok next → ((signature_at signatures₀ o.predicate).claims < claim_limit) × (with_claim o.predicate signatures₀ s ≡ next)
   room next is =
-      let passes = line_passes CountLimit (with_claim o.predicate signatures₀ s) (leb claim_limit (get_or signatures₀ (64 + o.predicate) 0)) closes.answer is in
-      (leb-gt claim_limit (get_or signatures₀ (64 + o.predicate) 0) passes.0, passes.1)
+      let passes = line_passes CountLimit (with_claim o.predicate signatures₀ s) (leb claim_limit (signature_at signatures₀ o.predicate).claims) closes.answer is in
+      (leb-gt claim_limit (signature_at signatures₀ o.predicate).claims passes.0, passes.1)
 
   pub c_limit : (f : Fault) → r ≡ Err f → f ≡ CountLimit
-  c_limit f is = sym (line_fails CountLimit (with_claim o.predicate signatures₀ s) (leb claim_limit (get_or signatures₀ (64 + o.predicate) 0)) closes.answer is).1
+  c_limit f is = sym (line_fails CountLimit (with_claim o.predicate signatures₀ s) (leb claim_limit (signature_at signatures₀ o.predicate).claims) closes.answer is).1
 
-pub c_close : {manner : Manner} (line : Bytes) (t : Tables) (s : State) (w : Written) (o : Opened) (row : List ℤ) (signatures : List ℕ) (claims : List ℤ) (r : Result State Fault) → Holds t s w → Safe t s → Passed manner C line s w o → ProgressC (drop 2 (fields_of line)) (length (drop 2 (fields_of line))) row → ClosesC o s row t.signatures t.claims r signatures claims
-    → ClosedFor manner line w r (tables t.names signatures claims t.variables t.rows t.slots)
+pub c_close : {manner : Manner} (line : Bytes) (t : Tables) (s : State) (w : Written) (o : Opened) (row : List ℤ) (signatures : List Signature) (claims : List ℤ) (r : Result State Fault) → Holds t s w → Safe t s → Passed manner C line s w o → ProgressC (drop 2 (fields_of line)) (length (drop 2 (fields_of line))) row → ClosesC o s row t.signatures t.claims r signatures claims
+    → ClosedFor manner line w r (tables signatures claims t.variables t.rows t.slots)
 c_close line t s w o row signatures claims r holds safe passed done closes =
     let fs = drop 2 (fields_of line) in
     let good = places_every is_claim_number fs [] (λ i less. some_is _ _ (done.read i less)) in
-    let count = get_or t.signatures (64 + o.predicate) 0 in
+    let count = (signature_at t.signatures o.predicate).claims in
     record {
       answer = rw (c_left line s w o passed, good, ← passed.named.is, ← holds.claims.count o.predicate passed.named.below) (sym (line_number CountLimit (with_claim o.predicate t.signatures s) (leb claim_limit count) closes.answer));
       holds = λ next is.
@@ -130,11 +130,11 @@ c_close line t s w o row signatures claims r holds safe passed done closes =
     }
 
 -- the ranges are kept
-pub c_safe : (t : Tables) (s : State) (o : Opened) (row : List ℤ) (signatures : List ℕ) (claims : List ℤ) (r : Result State Fault) → Safe t s → o.predicate < 32 → ((i : ℕ) → nat_abs (get_or row i (pos 0)) ≤ 9999) → ClosesC o s row t.signatures t.claims r signatures claims
-    → (next : State) → r ≡ Ok next → Safe (tables t.names signatures claims t.variables t.rows t.slots) next
+pub c_safe : (t : Tables) (s : State) (o : Opened) (row : List ℤ) (signatures : List Signature) (claims : List ℤ) (r : Result State Fault) → Safe t s → o.predicate < 32 → ((i : ℕ) → nat_abs (get_or row i (pos 0)) ≤ 9999) → ClosesC o s row t.signatures t.claims r signatures claims
+    → (next : State) → r ≡ Ok next → Safe (tables signatures claims t.variables t.rows t.slots) next
 c_safe t s o row signatures claims r safe below small closes next is =
     let p = o.predicate in
-    let count = get_or t.signatures (64 + p) 0 in
+    let count = (signature_at t.signatures p).claims in
     let fits = room closes next is in
     let less = fits.0 in
     let laid = closes.claims_are less in
@@ -142,11 +142,11 @@ c_safe t s o row signatures claims r safe below small closes next is =
     let old = safe.signatures in
     let sizes = safe.sizes in
     rw (← fits.1, closes.signatures_are less) record {
-      sizes = record { names = sizes.names; signatures = simp length-set sizes.signatures; claims = laid.size ∙ sizes.claims; variables = sizes.variables; rows = sizes.rows; slots = sizes.slots };
+      sizes = record { signatures = simp length-set sizes.signatures; claims = laid.size ∙ sizes.claims; variables = sizes.variables; rows = sizes.rows; slots = sizes.slots };
       state = record { predicates = state.predicates; rules = state.rules; head = state.head; subgoals = state.subgoals; variables = state.variables; slots = state.slots; multipliers = state.multipliers; lines = state.lines };
       signatures = record {
-        arity = λ i h. rw (get_or-set_other t.signatures (64 + p) i (count + 1) 0 (λ e. omega arith)) (old.arity i h);
-        count = λ i h. replaced (λ n. n ≤ 16) t.signatures (64 + p) (64 + i) (count + 1) 0 (omega arith) (old.count i h);
+        arity = λ i h. rw (count_leaves t.signatures p (count + 1) (λ (s : Signature). s.arity) refl (omega (arith, sizes.signatures)) i) (old.arity i h);
+        count = λ i h. replaced (λ (s : Signature). s.claims ≤ 16) t.signatures p i (with_claims (count + 1) (signature_at t.signatures p)) no_signature (omega arith) (old.count i h);
       };
       claims = record { small = laid_small t.claims claims _ row _ laid safe.claims.small small };
       rows = safe.rows;

@@ -8,7 +8,7 @@ use native.Mathlib.Nat.{add-zero, add_assoc}
 use native.Mathlib.Omega.{arith}
 use lib.Dec.{eqb, leb, ltb}
 use lib.IntN.{ℤ, pos, nat_abs}
-use lib.ListN.{length, get_or, set, drop, length-map, length-drop, get_or-map, get_or-eq_default}
+use lib.ListN.{length, get_or, drop, length-map, length-drop, get_or-map, get_or-eq_default}
 use lib.Seq.{get_or-set_same, get_or-set_other, get_or-drop}
 use Rattle.groundwork.proofs.Truth.{by_truth, eqb-equal, eqb-unequal, leb-le, leb-gt, ltb-lt, ltb-ge}
 use Rattle.groundwork.proofs.Lists.{length_end}
@@ -18,7 +18,8 @@ use Rattle.theory.specs.Written.{field, integer_from, claim_from}
 use Rattle.theory.proofs.Reading.Places.{each_and_last}
 use Rattle.theory.proofs.Judging.ClaimsOn.{claims_on_append, claims_on_kept, claims_on_left_out}
 use Rattle.theory.proofs.Judging.Keys.{same_key_refl, same_key_equal}
-use Rattle.tables.specs.Tables.{claim_place, ClaimAt, HoldsClaims, SafeSignatures, predicate_at}
+use Rattle.tables.specs.declared.Signature.{Signature}
+use Rattle.tables.specs.Tables.{no_signature, signature_at, counted, claim_place, ClaimAt, HoldsClaims, SafeSignatures, predicate_at}
 use Rattle.declarations.specs.Fields.{ProgressC}
 use Rattle.declarations.specs.Ends.{Laid}
 
@@ -122,29 +123,35 @@ laid_small claims₀ claims place row arity laid old small i =
 
 -- ---- one claim more
 
-module _ (signatures : List ℕ) (claims₀ claims : List ℤ) (ps : List Predicate) (cs : List Claim) (holds : HoldsClaims signatures claims₀ ps cs) (few : length ps ≤ 32) (safe : SafeSignatures signatures) (size : length signatures ≡ 96)
+module _ (signatures : List Signature) (claims₀ claims : List ℤ) (ps : List Predicate) (cs : List Claim) (holds : HoldsClaims signatures claims₀ ps cs) (few : length ps ≤ 32) (safe : SafeSignatures signatures) (size : length signatures ≡ 32)
     (p : ℕ) (below : p < length ps) (distinct : (i : ℕ) → i < length ps → key_of (predicate_at ps i) ≡ key_of (predicate_at ps p) → i ≡ p) (c : Claim) (is : key_of (predicate_at ps p) ≡ claim_key c) where
   abbrev count : ℕ
-  count = get_or signatures (64 + p) 0
+  count = (signature_at signatures p).claims
 
-  count_more : (i : ℕ) → i < length ps → get_or (set signatures (64 + p) (count + 1)) (64 + i) 0 ≡ length (claims_at ps (cs ++ (c ∷ [])) i)
+  abbrev more : List Signature
+  more = counted signatures p (count + 1)
+
+  more_other : (i : ℕ) → (i ≡ p → ⊥) → (signature_at more i).claims ≡ (signature_at signatures i).claims
+  more_other i other = ap (λ (s : Signature). s.claims) (get_or-set_other signatures p i _ no_signature other)
+
+  count_more : (i : ℕ) → i < length ps → (signature_at more i).claims ≡ length (claims_at ps (cs ++ (c ∷ [])) i)
   count_more i h =
-      by_truth (λ b. get_or (set signatures (64 + p) (count + 1)) (64 + i) 0 ≡ length (claims_at ps (cs ++ (c ∷ [])) i)) (eqb i p)
-      (λ e. rw (eqb-equal i p e, on_it_lem ps cs c p is below distinct) (get_or-set_same signatures (64 + p) (count + 1) 0 (omega arith) ∙ omega (arith, length_end (claims_at ps cs p) c, holds.count p below)))
-      (λ e. rw (on_other ps cs c p is below distinct i h (eqb-unequal i p e)) (get_or-set_other signatures (64 + p) (64 + i) (count + 1) 0 (λ q. eqb-unequal i p e (omega arith)) ∙ holds.count i h))
+      by_truth (λ b. (signature_at more i).claims ≡ length (claims_at ps (cs ++ (c ∷ [])) i)) (eqb i p)
+      (λ e. rw (eqb-equal i p e, on_it_lem ps cs c p is below distinct) (ap (λ (s : Signature). s.claims) (get_or-set_same signatures p _ no_signature (omega arith)) ∙ omega (arith, length_end (claims_at ps cs p) c, holds.count p below)))
+      (λ e. rw (on_other ps cs c p is below distinct i h (eqb-unequal i p e)) (more_other i (eqb-unequal i p e) ∙ holds.count i h))
 
   -- the place of this claim is apart from those of the others
   apart : (i j : ℕ) → i < length ps → j < length (claims_at ps cs i) → count < 16 → (claim_place i j + 9 ≤ claim_place p count) ⊎ (claim_place p count + 9 ≤ claim_place i j)
   apart i j h k room =
       let known = holds.count i h in
-      places_apart i j p count (omega (arith, safe.count i (omega arith))) room (λ e. omega (arith, ap (λ (q : ℕ). get_or signatures (64 + q) 0) e))
+      places_apart i j p count (omega (arith, safe.count i (omega arith))) room (λ e. omega (arith, ap (λ (q : ℕ). (signature_at signatures q).claims) e))
 
   pub claims_more : (row : List ℤ) (arity : ℕ) → count < 16 → Laid claims₀ (claim_place p count) row arity claims → ClaimAt claims (claim_place p count) c
-      → HoldsClaims (set signatures (64 + p) (count + 1)) claims ps (cs ++ (c ∷ []))
+      → HoldsClaims more claims ps (cs ++ (c ∷ []))
   claims_more row arity room laid here =
       record {
         count = count_more;
-        none = λ i high low. get_or-set_other signatures (64 + p) (64 + i) (count + 1) 0 (λ e. omega arith) ∙ holds.none i high low;
+        none = λ i high low. more_other i (λ e. omega arith) ∙ holds.none i high low;
         at = each_claim ps cs c p is below distinct (λ i j d. ClaimAt claims (claim_place i j) d)
             (λ i j h k. stays claims₀ claims (claim_place i j) (claim_place p count) row arity _ laid (apart i j h k room) (holds.at i j h k))
             (rw (← holds.count p below) here);

@@ -13,10 +13,11 @@ use mir.Val.{SFits, to_z, of_z}
 use Rattle.std.specs.Prelude.{Ok, Err}
 use Rattle.groundwork.proofs.Truth.{le-leb, gt-leb}
 use Rattle.groundwork.proofs.Stretches.{Stored, stored_more}
+use Rattle.tables.specs.declared.Signature.{Signature}
 use Rattle.tables.specs.declared.State.{State}
 use Rattle.tables.specs.declared.Opened.{Opened}
 use Rattle.tables.specs.declared.Fault.TheVariants.{CountLimit}
-use Rattle.tables.specs.Tables.{claim_place}
+use Rattle.tables.specs.Tables.{signature_at, counted, claim_place}
 use Rattle.tables.proofs.Outcomes.{at_limit, below_limit}
 use Rattle.declarations.specs.Ends.{owing_with, with_owing, with_claim, Laid, ClosesC}
 
@@ -54,20 +55,20 @@ module _ (row : List ℤ) (arity place : ℕ) (claims₀ claims : List ℤ) (n :
 
 -- ---- the end of a line
 
-module _ (o : Opened) (s : State) (row : List ℤ) (signatures : List ℕ) (claims₀ : List ℤ) (count : ℕ) (counted : count ≡ get_or signatures (64 + o.predicate) 0) where
+module _ (o : Opened) (s : State) (row : List ℤ) (signatures : List Signature) (claims₀ : List ℤ) (count : ℕ) (stood : count ≡ (signature_at signatures o.predicate).claims) where
   pub claim_refused : 16 ≤ count → ClosesC o s row signatures claims₀ (Err CountLimit) signatures claims₀
   claim_refused full =
       record {
-        answer = at_limit CountLimit (with_claim o.predicate signatures s) 16 (get_or signatures (64 + o.predicate) 0) (omega arith);
+        answer = at_limit CountLimit (with_claim o.predicate signatures s) 16 (signature_at signatures o.predicate).claims (omega arith);
         signatures_are = λ less. absurd (omega arith);
         claims_are = λ less. absurd (omega arith);
       }
 
-  pub claim_added : (place arity more owing : ℕ) (claims : List ℤ) → count < 16 → place ≡ claim_place o.predicate count → arity ≡ get_or signatures o.predicate 0 → Laid claims₀ place row arity claims → more ≡ count + 1 → owing ≡ owing_with s.owing o.predicate (get_or signatures (32 + o.predicate) 0)
-      → ClosesC o s row signatures claims₀ (Ok (with_owing owing s)) (set signatures (64 + o.predicate) more) claims
+  pub claim_added : (place arity more owing : ℕ) (claims : List ℤ) → count < 16 → place ≡ claim_place o.predicate count → arity ≡ (signature_at signatures o.predicate).arity → Laid claims₀ place row arity claims → more ≡ count + 1 → owing ≡ owing_with s.owing o.predicate (signature_at signatures o.predicate).kind
+      → ClosesC o s row signatures claims₀ (Ok (with_owing owing s)) (counted signatures o.predicate more) claims
   claim_added place arity more owing claims room placed known laid counts owed =
       record {
-        answer = ap (λ (x : ℕ). Ok (with_owing x s)) owed ∙ below_limit CountLimit (with_claim o.predicate signatures s) 16 (get_or signatures (64 + o.predicate) 0) (omega arith);
-        signatures_are = λ less. rw (counts, counted);
-        claims_are = λ less. rw (← known, ← counted, ← placed) laid;
+        answer = ap (λ (x : ℕ). Ok (with_owing x s)) owed ∙ below_limit CountLimit (with_claim o.predicate signatures s) 16 (signature_at signatures o.predicate).claims (omega arith);
+        signatures_are = λ less. rw (counts, stood);
+        claims_are = λ less. rw (← known, ← stood, ← placed) laid;
       }

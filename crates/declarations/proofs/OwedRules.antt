@@ -2,29 +2,18 @@
 use mathlib.Core.Path.{◌≡◌, refl, ◌∙◌, ap}
 use mathlib.Core.Bool.{Bool, true, false, not, ◌&&◌, ◌||◌, or-false}
 use mathlib.Core.List.{List}
-use Prim.Native.Nat.{ℕ, ◌^◌, ◌<◌}
-use lib.Bits.{bit_or}
+use Prim.Native.Nat.{ℕ, ◌<◌}
 use lib.Dec.{eqb}
 use lib.ListN.{length}
-use Rattle.groundwork.proofs.Truth.{never_both, eqb-equal, eqb-different}
+use Rattle.groundwork.proofs.Truth.{never_both, eqb-equal}
 use Rattle.theory.specs.Lists.{ending}
-use Rattle.theory.specs.Packs.{Kind, given, ruled, Predicate, Claim, same_key, key_of, claim_key}
+use Rattle.theory.specs.Packs.{Kind as PredicateKind, given, ruled, Predicate, Claim, same_key, key_of, claim_key}
 use Rattle.theory.specs.Faults.{is_given, owes_rule}
 use Rattle.theory.proofs.Reading.Every.{any_end}
-use Rattle.tables.specs.Tables.{predicate_at, flag, SetOf, has_key_in}
+use Rattle.tables.specs.declared.Kind.{Kind}
+use Rattle.tables.specs.Tables.{predicate_at, kind_of, SetOf, has_key_in}
 use Rattle.tables.proofs.PredicateSets.{Alone, key_at, set_same, set_with}
 use Rattle.declarations.specs.Ends.{owing_with}
-
--- ---- what `owing_with` answers
-
-module _ (owing place mark : ℕ) where
-  pub owing_given : mark ≡ 1 → owing ≡ owing_with owing place mark
-  owing_given e = rw e
-
-  pub owing_ruled : (mark ≡ 1 → ⊥) → {set : ℕ} → set ≡ bit_or owing (2 ^ place) → set ≡ owing_with owing place mark
-  owing_ruled other is = rw (eqb-different mark 1 other) is
-
--- ---- what it says of the claims
 
 -- a claim on a given predicate adds none, and one on a ruled predicate adds that
 none_owed_lem : (is_free has here : Bool) → (here ≡ true → is_free ≡ true) → (not is_free && (has || here)) ≡ (not is_free && has)
@@ -49,10 +38,10 @@ module _ (ps : List Predicate) (cs : List Claim) (c : Claim) (place : ℕ) (alon
   free_here : {b : Bool} → is_free place ≡ b → (i : ℕ) → eqb i place ≡ true → is_free i ≡ b
   free_here told i e = ap is_free (eqb-equal i place e) ∙ told
 
-  pub owed : {set : ℕ} → SetOf (owes_rule cs) ps set → (mark : ℕ) → mark ≡ flag (predicate_at ps place).kind → SetOf (owes_rule (ending c cs)) ps (owing_with set place mark)
+  pub owed : {set : ℕ} → SetOf (owes_rule cs) ps set → (kept : Kind) → kept ≡ kind_of (predicate_at ps place).kind → SetOf (owes_rule (ending c cs)) ps (owing_with set place kept)
   unfolding is_given
-  owed {set} holds mark marked = by_kind (predicate_at ps place).kind refl
+  owed {set} holds kept is_kept = by_kind (predicate_at ps place).kind refl
     where
-      by_kind : (k : Kind) → (predicate_at ps place).kind ≡ k → SetOf (owes_rule (ending c cs)) ps (owing_with set place mark)
-      by_kind given e = rw (marked ∙ ap flag e) (set_same holds (owes_rule (ending c cs)) λ i h. owes_end i h ∙ none_owed_lem (is_free i) _ _ (free_here (ap is_given e) i))
-      by_kind ruled e = rw (marked ∙ ap flag e) (set_with holds (owes_rule (ending c cs)) place below λ i h. owes_end i h ∙ one_owed (is_free i) _ _ (free_here (ap is_given e) i))
+      by_kind : (k : PredicateKind) → (predicate_at ps place).kind ≡ k → SetOf (owes_rule (ending c cs)) ps (owing_with set place kept)
+      by_kind given e = rw (is_kept ∙ ap kind_of e) (set_same holds (owes_rule (ending c cs)) λ i h. owes_end i h ∙ none_owed_lem (is_free i) _ _ (free_here (ap is_given e) i))
+      by_kind ruled e = rw (is_kept ∙ ap kind_of e) (set_with holds (owes_rule (ending c cs)) place below λ i h. owes_end i h ∙ one_owed (is_free i) _ _ (free_here (ap is_given e) i))

@@ -1,51 +1,57 @@
 -- The opening of a line that declares a new predicate, test by test: what `open_declaration` answers.
 use mathlib.Core.Path.{◌≡◌, refl, sym, ◌∙◌}
 use mathlib.Core.Bool.{Bool, true, false, cond}
-use Prim.Native.Nat.{ℕ, ◌+◌, ◌≤◌, ◌<◌}
-use native.Mathlib.Omega.{arith}
+use Prim.Native.Nat.{ℕ, ◌+◌}
 use lib.ListN.{length}
-use Rattle.std.specs.Prelude.{Ok, Err}
-use Rattle.groundwork.proofs.Truth.{eqb-different, lt-ltb, ge-ltb}
+use mathlib.Core.Option.{Option}
+use Rattle.std.specs.Prelude as S
+use Rattle.std.specs.Prelude.{Some, None, Result, Ok, Err}
+use Rattle.std.specs.Option.{ok_or}
+use Rattle.numbers.specs.Numbers.{option_of}
+use Rattle.theory.specs.Lists.{is_some}
+use Rattle.tables.specs.declared.Kind.{Kind}
+use Rattle.tables.specs.declared.Fault.{Fault}
+use Rattle.groundwork.proofs.Truth.{eqb-different}
 use Rattle.theory.specs.declared.Letter.TheVariants.{P}
 use Rattle.theory.specs.Text.{Bytes}
-use Rattle.theory.specs.Written.{field, kind_from}
+use Rattle.theory.specs.Written.{field}
 use Rattle.theory.specs.Faults.{is_kind}
 use Rattle.text.specs.Scans.{parts_from}
 use Rattle.words.specs.declared.Words.{Words}
 use Rattle.tables.specs.declared.Fault.TheVariants.{FieldCount, Number}
-use Rattle.tables.specs.Tables.{flag, no_arity}
-use Rattle.opening.specs.declared.Marking.{Marking}
-use Rattle.opening.specs.declared.Marking.TheVariants.{Mark, NoKind}
-use Rattle.opening.specs.Opening.{kind_mark, declaration}
+use Rattle.tables.proofs.Outcomes.{none_refused}
+use Rattle.opening.specs.Opening.{kind_written, declaration}
 
--- ---- what a marking tells
+-- ---- what a kind that is read tells
 
-mark_no_kind : {m : ℕ} → Mark m ≡ NoKind → ⊥
-mark_no_kind e = let never : ◌≡◌ {A = ℕ} 0 1 = cc in absurd (omega arith)
+no_kind : (b : Bool) (k : Kind) → cond b (Some k) None ≡ None → b ≡ false
+no_kind true k e = absurd (cc)
+no_kind false k e = refl
 
-no_kind : (b : Bool) (m : ℕ) {r : Marking} → r ≡ cond b (Mark m) NoKind → r ≡ NoKind → b ≡ false
-no_kind true m is e = absurd (mark_no_kind (sym is ∙ e))
-no_kind false m is e = refl
-
-some_kind : (b : Bool) (m n : ℕ) {r : Marking} → r ≡ cond b (Mark m) NoKind → r ≡ Mark n → (b ≡ true) × (n ≡ m)
-some_kind true m n is e = (refl, cc)
-some_kind false m n is e = absurd (mark_no_kind (sym e ∙ is))
+some_kind : (b : Bool) (k l : Kind) → cond b (Some k) None ≡ Some l → (b ≡ true) × (l ≡ k)
+some_kind true k l e = (refl, cc)
+some_kind false k l e = absurd (cc)
 
 -- ---- the answers
 
-module _ (line : Bytes) (known : ℕ) (words : Words) (from commas arity : ℕ) where
-  pub new_miscounted : (commas ≡ 3 → ⊥) → Err FieldCount ≡ declaration line known words from commas arity
-  new_miscounted other = rw (eqb-different commas 3 other)
+module _ (line : Bytes) (known : ℕ) (words : Words) (from commas : ℕ) where
+  pub new_miscounted : (commas ≡ 3 → ⊥) → (arity : Option ℕ) → Err FieldCount ≡ declaration line known words from commas arity
+  new_miscounted other arity = rw (eqb-different commas 3 other)
 
-  module _ (three : commas ≡ 3) where
-    pub new_malformed : no_arity ≤ arity → Err Number ≡ declaration line known words from commas arity
-    new_malformed high = rw (three, ge-ltb arity no_arity high)
+  module _ (three : commas ≡ 3) (given : S.Option ℕ) where
+    pub new_malformed : (f : Fault) → ◌≡◌ {A = Result ℕ Fault} (Err f) (ok_or given Number) → Err f ≡ declaration line known words from commas (option_of given)
+    unfolding is_some
+    new_malformed f is = let (nothing, fault) = none_refused given is in rw (three, nothing, fault)
 
-    module _ (low : arity < no_arity) (r : Marking) (read : r ≡ kind_mark (field 1 (parts_from 44 line from))) where
-      pub new_kindless : r ≡ NoKind → Err Number ≡ declaration line known words from commas arity
-      new_kindless is = rw (three, lt-ltb arity no_arity low, no_kind (is_kind (field 1 (parts_from 44 line from))) _ read is)
+    module _ (arity : ℕ) (low : given ≡ Some arity) (r : S.Option Kind) (read : r ≡ kind_written (field 1 (parts_from 44 line from))) where
+      pub new_kindless : (f : Fault) → ◌≡◌ {A = Result Kind Fault} (Err f) (ok_or r Number) → Err f ≡ declaration line known words from commas (option_of given)
+      unfolding is_some
+      new_kindless f is =
+          let (nothing, fault) = none_refused r is in
+          rw (three, low, fault, no_kind (is_kind (field 1 (parts_from 44 line from))) _ (sym read ∙ nothing))
 
-      pub new_declared : (n mark : ℕ) → n ≡ arity → r ≡ Mark mark → Ok (record { letter = P; predicate = known; words = words; from = length line + 1; arity = n; mark = mark }) ≡ declaration line known words from commas arity
-      new_declared n mark same is =
-          let found = some_kind (is_kind (field 1 (parts_from 44 line from))) (flag (kind_from (field 1 (parts_from 44 line from)))) mark read is in
-          rw (three, lt-ltb arity no_arity low, found.0, found.1, same)
+      pub new_declared : (n : ℕ) (kind : Kind) → n ≡ arity → r ≡ Some kind → Ok (record { letter = P; predicate = known; signature = record { words = words; kind = kind; arity = n; claims = 0 }; from = length line + 1 }) ≡ declaration line known words from commas (option_of given)
+      unfolding is_some
+      new_declared n kind same is =
+          let found = some_kind (is_kind (field 1 (parts_from 44 line from))) _ kind (sym read ∙ is) in
+          rw (three, low, found.0, found.1, same)

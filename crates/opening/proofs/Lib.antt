@@ -8,7 +8,7 @@ pub mod LetterTests
 pub mod LineTests
 -- What the functions' proofs cite.
 pub mod LineArities
-pub mod Marks
+pub mod WrittenKinds
 pub mod Declarations
 pub mod Barred
 pub mod Outcomes

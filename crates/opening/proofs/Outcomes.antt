@@ -12,12 +12,12 @@ use Rattle.theory.specs.Text.{Bytes, fields_of}
 use Rattle.theory.specs.Written.{line_letter, Written}
 use Rattle.theory.specs.Faults.{Manner, first_given, is_unfit, may_stand, tests, fault}
 use Rattle.text.specs.Scans.{parts_from}
-use Rattle.words.specs.declared.Words.{Words}
+use Rattle.tables.specs.declared.Signature.{Signature}
 use Rattle.tables.specs.declared.State.{State}
 use Rattle.tables.specs.declared.Opened.{Opened}
 use Rattle.tables.specs.declared.Fault.{Fault}
 use Rattle.tables.specs.Faults.{number_of}
-use Rattle.tables.specs.Tables.{Outline}
+use Rattle.tables.specs.Tables.{no_signature, Outline}
 use Rattle.tables.specs.Sorts.{sort_of}
 use Rattle.tables.specs.Lines.{skipped, opening_tests, most, NamedFor, Passed, SafeOpened}
 use Rattle.tables.proofs.Outcomes.{ok_never_err, same_ok, same_err}
@@ -36,7 +36,7 @@ module _ (f : Fault) {line : Bytes} {s : State} where
   refused_for : {manner : Manner} (w : Written) → fault manner w line ≡ number_of f → OpenedFor manner line s w (Err f)
   refused_for w found = record { refused = λ g e. found ∙ ap number_of (same_err e); passed = λ o e. absurd (ok_never_err (sym e)) }
 
-  pub refuses_line : (number_of f ≡ 13 → ⊥) → {names signatures : List ℕ} → ((manner : Manner) → manner.allows ≡ may_stand → (w : Written) → Outline names signatures s w → fault manner w line ≡ number_of f) → Opens line names signatures s (Err f)
+  pub refuses_line : (number_of f ≡ 13 → ⊥) → {signatures : List Signature} → ((manner : Manner) → manner.allows ≡ may_stand → (w : Written) → Outline signatures s w → fault manner w line ≡ number_of f) → Opens line signatures s (Err f)
   refuses_line other finds = record { safe = refused_safe; other = refused_other f other; tells = λ manner same w outline. refused_for w (finds manner same w outline) }
 
 -- ---- passed
@@ -47,7 +47,8 @@ pub record Keeps (line : Bytes) (s : State) (o : Opened) : Type 0 where
   pub few : length (fields_of line) ≤ skipped (sort_of o.letter) + most (sort_of o.letter) s
   pub place : (o.letter ≡ P → ⊥) → o.predicate < 32
   pub due : o.letter ≡ M → s.multipliers < 16
-  pub low : o.arity ≤ 8
+  pub low : o.signature.arity ≤ 8
+  pub claimless : o.signature.claims ≡ 0
 
 -- and what it needs of those
 pub record Clears (manner : Manner) (line : Bytes) (s : State) (w : Written) (o : Opened) : Type 0 where
@@ -55,24 +56,24 @@ pub record Clears (manner : Manner) (line : Bytes) (s : State) (w : Written) (o 
   pub named : NamedFor (sort_of o.letter) line s w o
 
 -- a line that declares nothing
-abbrev pub opened : Letter → ℕ → Words → ℕ → Opened
-opened l predicate words from = record { letter = l; predicate = predicate; words = words; from = from; arity = 0; mark = 0 }
+abbrev pub opened : Letter → ℕ → ℕ → Opened
+opened l predicate from = record { letter = l; predicate = predicate; signature = no_signature; from = from }
 
 -- the letter's own tests decide
 own_tests : (manner : Manner) (l : Letter) (line : Bytes) (w : Written) → is_unfit line ≡ false → w.ended ≡ false → manner.allows w.pack l ≡ true → line_letter line ≡ l → fault manner w line ≡ first_given (tests manner l (fields_of line) w.pack)
 own_tests manner l line w fit unended allowed is =
     past_five manner w line fit unended (ap (manner.allows w.pack) is ∙ allowed) ∙ ap (λ (k : Letter). first_given (tests manner k (fields_of line) w.pack)) is
 
-module _ {line : Bytes} {names signatures : List ℕ} {s : State} where
-  pub refuses : (l : Letter) (f : Fault) → (number_of f ≡ 13 → ⊥) → ((manner : Manner) (w : Written) → Outline names signatures s w → may_stand w.pack l ≡ true → first_given (tests manner l (fields_of line) w.pack) ≡ number_of f)
-      → OpensLetter l line names signatures s (Err f)
+module _ {line : Bytes} {signatures : List Signature} {s : State} where
+  pub refuses : (l : Letter) (f : Fault) → (number_of f ≡ 13 → ⊥) → ((manner : Manner) (w : Written) → Outline signatures s w → may_stand w.pack l ≡ true → first_given (tests manner l (fields_of line) w.pack) ≡ number_of f)
+      → OpensLetter l line signatures s (Err f)
   refuses l f other finds = record {
     safe = refused_safe f;
     other = refused_other f other;
     tells = λ manner w outline fit unended allowed stands is. refused_for f w (own_tests manner l line w fit unended allowed is ∙ finds manner w outline stands);
   }
 
-  pub passes : (o : Opened) → length line ≤ 1024 → Keeps line s o → ((manner : Manner) (w : Written) → Outline names signatures s w → may_stand w.pack o.letter ≡ true → Clears manner line s w o) → OpensLetter o.letter line names signatures s (Ok o)
+  pub passes : (o : Opened) → length line ≤ 1024 → Keeps line s o → ((manner : Manner) (w : Written) → Outline signatures s w → may_stand w.pack o.letter ≡ true → Clears manner line s w o) → OpensLetter o.letter line signatures s (Ok o)
   passes o short k clears = record {
     safe = λ p e. subst (SafeOpened line s) (same_ok e) (record {
       short = short;
@@ -80,6 +81,7 @@ module _ {line : Bytes} {names signatures : List ℕ} {s : State} where
       place = k.place;
       due = k.due;
       low = k.low;
+      claimless = k.claimless;
     });
     other = λ f e. absurd (ok_never_err e);
     tells = λ manner w outline fit unended allowed stands is.

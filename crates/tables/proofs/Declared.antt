@@ -16,7 +16,7 @@ use Rattle.theory.specs.Packs.{Predicate, key_of, declared_as, claims_on}
 use Rattle.theory.proofs.Reading.Places.{each_and_last}
 use Rattle.words.specs.Words.{words_of}
 use Rattle.tables.specs.declared.Signature.{Signature}
-use Rattle.tables.specs.Tables.{signature_at, no_signature, Declares, HoldsClaims, no_predicate, predicate_at, kind_of}
+use Rattle.tables.specs.Tables.{signature_at, no_signature, with_claims, counted, Declares, HoldsClaims, no_predicate, predicate_at, kind_of}
 use Rattle.tables.proofs.Lookup.{undeclared}
 
 -- ---- one predicate more
@@ -60,21 +60,15 @@ module _ (signatures : List Signature) (known : ℕ) (ps : List Predicate) (x : 
         }
 
 -- a predicate with another number of claims is the same predicate
-abbrev pub with_claims : ℕ → Signature → Signature
-with_claims n s = record { words = s.words; kind = s.kind; arity = s.arity; claims = n }
-
 module _ (signatures : List Signature) (p n : ℕ) where
-  abbrev pub counted : List Signature
-  counted = set signatures p (with_claims n (signature_at signatures p))
-
   -- what a count of claims leaves as it is
-  pub count_leaves : {A : Type 0} (f : Signature → A) → f (with_claims n (signature_at signatures p)) ≡ f (signature_at signatures p) → p < length signatures → (i : ℕ) → f (signature_at counted i) ≡ f (signature_at signatures i)
+  pub count_leaves : {A : Type 0} (f : Signature → A) → f (with_claims n (signature_at signatures p)) ≡ f (signature_at signatures p) → p < length signatures → (i : ℕ) → f (signature_at (counted signatures p n) i) ≡ f (signature_at signatures i)
   count_leaves f same inside i =
-      by_truth (λ b. f (signature_at counted i) ≡ f (signature_at signatures i)) (eqb i p)
+      by_truth (λ b. f (signature_at (counted signatures p n) i) ≡ f (signature_at signatures i)) (eqb i p)
       (λ e. rw (eqb-equal i p e) (ap f (get_or-set_same signatures p (with_claims n (signature_at signatures p)) no_signature inside) ∙ same))
       (λ e. ap f (get_or-set_other signatures p i (with_claims n (signature_at signatures p)) no_signature (eqb-unequal i p e)))
 
-  pub count_declares : (known : ℕ) (ps : List Predicate) → p < length signatures → Declares signatures known ps → Declares counted known ps
+  pub count_declares : (known : ℕ) (ps : List Predicate) → p < length signatures → Declares signatures known ps → Declares (counted signatures p n) known ps
   count_declares known ps inside old =
       record {
         count = old.count;

@@ -3,7 +3,8 @@ use mathlib.Core.Path.{◌≡◌, refl, sym, ◌∙◌, ap}
 use mathlib.Core.Bool.{Bool, true, false, cond}
 use Prim.Native.Nat.{ℕ, ◌≤◌, ◌<◌}
 use lib.Dec.{leb}
-use Rattle.std.specs.Prelude.{Result, Ok, Err}
+use Rattle.std.specs.Prelude.{Option, Some, None, Result, Ok, Err}
+use Rattle.std.specs.Option.{ok_or}
 use Rattle.groundwork.proofs.Truth.{le-leb, gt-leb}
 use Rattle.tables.specs.declared.State.{State}
 use Rattle.tables.specs.declared.Fault.{Fault}
@@ -20,6 +21,11 @@ module _ {A : Type 0} where
 
   pub same_err : {f g : Fault} → ◌≡◌ {A = Result A Fault} (Err f) (Err g) → f ≡ g
   same_err e = cc
+
+-- what `ok_or` answers of nothing
+pub none_refused : {A : Type 0} (o : Option A) {f g : Fault} → ◌≡◌ {A = Result A Fault} (Err g) (ok_or o f) → (o ≡ None) × (g ≡ f)
+none_refused (Some x) is = absurd (ok_never_err (sym is))
+none_refused None is = (refl, same_err is)
 
 -- ---- a field
 

@@ -1,5 +1,5 @@
 -- The tables and the state, and how they stand for what the lines so far write.
-use Rattle.std.specs.Prelude.{◌≡◌, Bool, true, false, cond, not, List, [], ℕ, zero, suc, ◌+◌, ◌*◌, ◌≤◌, ◌<◌, eqb, ℤ, pos, nat_abs, length, get_or, Option, Some, None}
+use Rattle.std.specs.Prelude.{◌≡◌, Bool, true, false, cond, not, List, [], ℕ, zero, suc, ◌+◌, ◌*◌, ◌≤◌, ◌<◌, eqb, ℤ, pos, nat_abs, length, get_or, set, Option, Some, None}
 use Rattle.std.proofs.Math.Option as M
 use Rattle.groundwork.proofs.Bits.{bit}
 use Rattle.theory.specs.Lists.{any, is_empty}
@@ -55,6 +55,14 @@ no_signature = record { words = record { first = 0; second = 0 }; kind = Ruled; 
 -- what stands at a place, from 0
 abbrev pub signature_at : List Signature → ℕ → Signature
 signature_at signatures i = get_or signatures i no_signature
+
+-- the same predicate with another number of claims on it
+abbrev pub with_claims : ℕ → Signature → Signature
+with_claims n s = record { words = s.words; kind = s.kind; arity = s.arity; claims = n }
+
+-- the table with another number of claims on the predicate at a place
+abbrev pub counted : List Signature → ℕ → ℕ → List Signature
+counted signatures p n = set signatures p (with_claims n (signature_at signatures p))
 
 -- what a predicate is looked up by: the words of its name, and its arity
 pub record Heading : Type 0 where

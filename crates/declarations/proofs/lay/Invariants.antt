@@ -1,11 +1,7 @@
-use Prim.Native.Nat.{◌-◌, ◌≤◌}
 use lib.IntN.{pos}
 use Rattle.groundwork.proofs.Stretches.{Stored}
 use Rattle.declarations.proofs.Laying.{laid_at}
 use Rattle.declarations.proofs.lay.Given as goal
 
 abbrev pub invariant-loop-i : goal.invariant-loop-i
-invariant-loop-i l = (l.i ≤ 9) × Stored (pos 0) (laid_at l.row l.arity) l.at l.initial.claims l.claims l.i
-
-abbrev pub decreases-loop-i : goal.decreases-loop-i
-decreases-loop-i l = 9 - l.i
+invariant-loop-i l = Stored (pos 0) (laid_at l.row l.arity) l.at l.initial.claims l.claims l.i

@@ -1,6 +1,6 @@
 -- `opening::name_of` meets its contract. Assumes nothing.
 use borrow.Author.Rules.{rules}
-use Rattle.opening.proofs.NameReading.{name_none, name_variable, name_neither, name_found}
+use Rattle.opening.proofs.NameReading.{name_none, name_other, name_found}
 use Rattle.opening.proofs.name_of.Goals as goal
 
 pub returns-then-line-lt2 : goal.returns-then-line-lt2
@@ -10,7 +10,4 @@ pub returns-in-Name : goal.returns-in-Name
 returns-in-Name c = search (rules, name_found)
 
 pub returns-in-Variable : goal.returns-in-Variable
-returns-in-Variable c = search (rules, name_variable)
-
-pub returns-in-Neither : goal.returns-in-Neither
-returns-in-Neither c = search (rules, name_neither)
+returns-in-Variable c = search (rules, name_other)

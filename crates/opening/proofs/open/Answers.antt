@@ -1,6 +1,5 @@
 -- `opening::open` meets its contract. Assumes nothing.
 use borrow.Author.Rules.{rules}
-use Rattle.groundwork.proofs.Truth.{not-true, not-false}
 use Rattle.opening.proofs.LineOpening.{opens_unfit, opens_misplaced, opens_letter, fits_short}
 use Rattle.opening.proofs.open.Goals as goal
 
@@ -8,7 +7,7 @@ pub returns-then-is_unfit_in : goal.returns-then-is_unfit_in
 returns-then-is_unfit_in c = search (rules, opens_unfit)
 
 pub returns-then-not-may_stand : goal.returns-then-not-may_stand
-returns-then-not-may_stand c = search (rules, opens_misplaced, not-true)
+returns-then-not-may_stand c = search (rules, opens_misplaced)
 
 pub open_letter-requires : goal.open_letter-requires
 open_letter-requires c =
@@ -18,4 +17,4 @@ open_letter-requires c =
     (stands.known yes, read.begins (stands.known yes), search (rules, fits_short), search rules, search rules, λ m. stands.due m yes, search rules)
 
 pub returns : goal.returns
-returns c = search (rules, opens_letter, not-false)
+returns c = search (rules, opens_letter)
