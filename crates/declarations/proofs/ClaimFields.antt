@@ -14,7 +14,7 @@ use mir.Facts.{to_z-of_z}
 use mir.Syntax.{w16, w64}
 use mir.Val.{SFits, to_z, of_z}
 use Rattle.groundwork.proofs.Truth.{never_both}
-use Rattle.widths.proofs.Kept.{small_fits}
+use Rattle.forms.proofs.Kept.{small_fits}
 use Rattle.groundwork.proofs.Stretches.{replaced}
 use Rattle.theory.specs.Lists.{is_some}
 use Rattle.theory.specs.Text.{Bytes, integer}

@@ -10,7 +10,6 @@ ghost use Rattle.theory.specs.Written.{field};
 ghost use Rattle.theory.specs.Faults.{line_arity};
 ghost use Rattle.text.specs.Scans.{parts_from};
 ghost use Rattle.numbers.specs.Numbers.{option_of};
-ghost use Rattle.words.specs.Classes.{Classes};
 ghost use Rattle.tables.specs.Tables.{SafeState, SafeSignatures, FoundFor};
 ghost use Rattle.tables.specs.Sorts.{sort_of};
 ghost use Rattle.tables.specs.Lines.{most};
@@ -18,7 +17,7 @@ ghost use Rattle.opening.specs.Opening.{declares, bars, barred_by, kind_written,
 
 use tables::{Fault, Hints, Kind, Opened, Signature, Signatures, State};
 use theory::Letter;
-use words::{Word, Words};
+use words::{ClassTable, Word, Words};
 
 /// The letter that a line begins with.
 fn letter_of(line: &[u8]) -> Letter
@@ -90,15 +89,15 @@ pub struct Named {
     pub stop: usize,
 }
 
-fn name_of(line: &[u8], classes: &[u8; 256]) -> Option<Named>
-    requires { (Begins line.now) × Classes classes.now }
+fn name_of(line: &[u8], classes: &ClassTable) -> Option<Named>
+    requires { Begins line.now }
     ensures { NameRead line.now result }
 {
     if line.len() < 2 {
         return None;
     }
     let stop = reader::field_end(line, 2);
-    match words::word_of(&line[2..stop], classes) {
+    match classes.word_of(&line[2..stop]) {
         Word::Name(words) => Some(Named { words, stop }),
         Word::Variable(_) | Word::Neither => None,
     }
@@ -176,7 +175,7 @@ fn place_of(
 fn is_declaration(letter: Letter) -> bool
     ensures { result ≡ declares letter }
 {
-    matches!(letter, Letter::P)
+    letter == Letter::P
 }
 
 /// Whether a line of this letter may not name a declared predicate of this kind.
@@ -239,9 +238,9 @@ fn open_named(
     state: State,
     signatures: &Signatures,
     hints: &mut Hints,
-    classes: &[u8; 256],
+    classes: &ClassTable,
 ) -> Result<Opened, Fault>
-    requires { (HasName letter) × (Begins line.now) × (length line.now ≤ 1024) × (SafeState state) × (SafeSignatures signatures.now) × Classes classes.now }
+    requires { (HasName letter) × (Begins line.now) × (length line.now ≤ 1024) × (SafeState state) × (SafeSignatures signatures.now) }
     ensures { OpensLetter letter line.now signatures.now state result }
 {
     let name = name_of(line, classes).ok_or(Fault::Name)?;
@@ -289,9 +288,9 @@ fn open_letter(
     state: State,
     signatures: &Signatures,
     hints: &mut Hints,
-    classes: &[u8; 256],
+    classes: &ClassTable,
 ) -> Result<Opened, Fault>
-    requires { (letter ≡ NoLetter → ⊥) × (Begins line.now) × (length line.now ≤ 1024) × (SafeState state) × (SafeSignatures signatures.now) × (letter ≡ M → state.multipliers < 16) × Classes classes.now }
+    requires { (letter ≡ NoLetter → ⊥) × (Begins line.now) × (length line.now ≤ 1024) × (SafeState state) × (SafeSignatures signatures.now) × (letter ≡ M → state.multipliers < 16) }
     ensures { OpensLetter letter line.now signatures.now state result }
 {
     match letter {
@@ -310,10 +309,10 @@ pub fn open(
     state: State,
     signatures: &Signatures,
     hints: &mut Hints,
-    classes: &[u8; 256],
+    classes: &ClassTable,
     plain: bool,
 ) -> Result<Opened, Fault>
-    requires { (SafeSignatures signatures.now) × (SafeState state) × Classes classes.now × (plain ≡ true → every (between 32 126) line.now ≡ true) }
+    requires { (SafeSignatures signatures.now) × (SafeState state) × (plain ≡ true → every (between 32 126) line.now ≡ true) }
     ensures { Opens line.now signatures.now state result }
 {
     if text::is_unfit_in(line, plain) {

@@ -11,9 +11,7 @@ impl Signature {
     fn is_of(&self, words: Words, arity: usize) -> bool
         ensures { Decides result (heading_of self.now ≡ heading words arity) }
     {
-        self.arity as usize == arity
-            && self.words.first == words.first
-            && self.words.second == words.second
+        self.arity as usize == arity && self.words == words
     }
 }
 

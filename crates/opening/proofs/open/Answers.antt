@@ -14,7 +14,7 @@ open_letter-requires c =
     let read = c.letter_of-letter.ensures in
     let stands = c.may_stand.ensures in
     let yes = c.if-not-may_stand.false in
-    (stands.known yes, read.begins (stands.known yes), search (rules, fits_short), search rules, search rules, λ m. stands.due m yes, search rules)
+    (stands.known yes, read.begins (stands.known yes), search (rules, fits_short), search rules, search rules, λ m. stands.due m yes)
 
 pub returns : goal.returns
 returns c = search (rules, opens_letter)

@@ -6,7 +6,7 @@ use Rattle.opening.proofs.LetterOpening.{named_letter, nameless_multipliers, nam
 use Rattle.opening.proofs.open_letter.Goals as goal
 
 pub open_named-requires : goal.open_named-requires
-open_named-requires c = (named_letter _ (⊎_map same_tag (⊎_map same_tag (⊎_map same_tag (⊎_map same_tag same_tag))) c.in-P.is), search rules, search rules, search rules, search rules, search rules)
+open_named-requires c = (named_letter _ (⊎_map same_tag (⊎_map same_tag (⊎_map same_tag (⊎_map same_tag same_tag))) c.in-P.is), search rules, search rules, search rules, search rules)
 
 pub open_bare-requires : goal.open_bare-requires
 open_bare-requires c = search (rules, nameless_multipliers, commas_multipliers)
