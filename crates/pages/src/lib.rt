@@ -63,9 +63,8 @@ pub fn put_text(text: &[u8], page: &mut [u8], to: usize) -> usize
     requires { to + length text.now ≤ length page.old }
     ensures { PutAt text.now (length text.now) page.old page.new to result }
 {
-    let end = to + text.len();
-    copy_over(text, &mut page[to..end]);
-    end
+    copy_over(text, &mut page[to..to + text.len()]);
+    to + text.len()
 }
 
 /// Fills a page with spaces.

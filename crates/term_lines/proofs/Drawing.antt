@@ -8,6 +8,8 @@ use native.Mathlib.Omega.{arith}
 use lib.Dec.{leb, ltb}
 use lib.ListN.{length, length-append}
 use Rattle.std.specs.Prelude.{Some, None}
+use Rattle.std.specs.Prelude as Rust
+use Rattle.std.proofs.lemmas.Option.{none-some}
 use Rattle.groundwork.proofs.Truth.{by_truth, or_not_left, or_not_right, ltb-lt, ltb-ge, ge-ltb, gt-leb, le-leb, leb-le, leb-gt, never_both}
 use Rattle.theory.specs.Text.{Bytes, bytes, is_name, is_variable, decimal}
 use Rattle.theory.specs.Terms.{Term, Terms, symbol, nil}
@@ -22,7 +24,7 @@ use Rattle.clause_tokens.specs.declared.Mark.TheVariants.{Name, Variable, Lone}
 use Rattle.clause_variables.proofs.FreshSearch.{numbered_variable_lem}
 use Rattle.term_lines.specs.declared.Pen.{Pen}
 use Rattle.term_lines.specs.Texts.{line_front, line_text, drawn_text, Moves, names_atom, names_symbol, reads_variable, ends_line, atoms_of, OpenedFit, LastFits, current, StateFits}
-use Rattle.term_lines.specs.Drawings.{DigitsStand, ArgumentsBegun, Drawing, DrawnNext, drawn_on, passes, Shows, shows_name, shows_variable, shows_lone, shows_sign, Drawable, Draws, RoomTold, LetterIs}
+use Rattle.term_lines.specs.Drawings.{DigitsStand, ArgumentsBegun, Drawing, DrawnNext, drawn_on, passes, Shows, shows_name, shows_variable, shows_lone, shows_sign, Drawable, Draws, RoomTold, InLine, Separated, separated, no_separator, LetterIs}
 use Rattle.term_lines.proofs.DrawnTexts.{drawn_atom_name, drawn_symbol, drawn_variable}
 use Rattle.term_lines.proofs.DrawnLimits.{drawn_length, no_line, line_atom_name, atom_named, symbol_named, bare_atom_fits, bare_symbol_fits}
 
@@ -67,11 +69,12 @@ module _ {x : Bytes} {mark : Mark} {number : ℕ} {d : Pen} {page : Bytes} (w : 
   pub to_within : d.to ≤ length page
   to_within = omega (arith, page_size w.drawing, w.drawing.room)
 
-  pub line_within : d.line ≤ d.to
-  line_within = omega (arith, to_is w.drawing)
+  pub drawn_in_line : InLine d page
+  drawn_in_line = record { to = to_within; line = omega (arith, to_is w.drawing); used = omega (arith, to_is w.drawing, w.drawing.fits.line) }
 
-  pub line_used : d.to - d.line ≤ 1024
-  line_used = omega (arith, to_is w.drawing, w.drawing.fits.line)
+  -- where a line begins
+  pub fresh_in_line : InLine (record { to = d.to; line = d.to; atoms = d.atoms; arguments = d.arguments; compounds = d.compounds }) page
+  fresh_in_line = record { to = to_within; line = omega arith; used = omega arith }
 
   -- where the bytes that a token adds have no room, the next state passes a limit or is longer than the page
   pub no_room : (used count : ℕ) (next : State) (r : Bool) → RoomTold (length page - d.to) used count r → r ≡ true
@@ -85,10 +88,24 @@ module _ {x : Bytes} {mark : Mark} {number : ℕ} {d : Pen} {page : Bytes} (w : 
   pub room_on_page : (used count : ℕ) (lacks : Bool) → RoomTold (length page - d.to) used count lacks → lacks ≡ false → d.to + count ≤ length page
   room_on_page used count lacks told is = omega (arith, (told.enough is).0, to_within)
 
--- a limit is passed: nothing changes
+-- a limit is passed: the page does not change
 module _ {x : Bytes} {mark : Mark} {number : ℕ} {d : Pen} {page : Bytes} where
-  pub draws_none : ((w : Drawable x mark number d page) → StateFits w.next → length w.page₀ < length (drawn_text w.next)) → Draws x mark number d page None d page
+  pub draws_none : {e : Pen} → ((w : Drawable x mark number d page) → StateFits w.next → length w.page₀ < length (drawn_text w.next)) → Draws x mark number d page None e page
   draws_none over = record { size = refl; drawn = λ w. passes (over w) }
+
+-- a separator, or no room for it
+pub separator_put : {separator q : ℕ} {d : Pen} {page after : Bytes} {lacks : Bool} → RoomTold (length page - d.to) (d.to - d.line) 1 lacks → lacks ≡ false → PutAt (separator ∷ []) 1 page after d.to q
+    → Separated separator d page (Some tt) (record { to = q; line = d.line; atoms = d.atoms; arguments = d.arguments; compounds = d.compounds }) after
+separator_put {d = d} {page = page} told is copied = separated (subst (RoomTold (length page - d.to) (d.to - d.line) 1) is told) copied
+
+pub separator_none : {separator : ℕ} {d : Pen} {page : Bytes} {lacks : Bool} → RoomTold (length page - d.to) (d.to - d.line) 1 lacks → lacks ≡ true → Separated separator d page None d page
+separator_none {d = d} {page = page} told is = no_separator (subst (RoomTold (length page - d.to) (d.to - d.line) 1) is told)
+
+-- where it has none, and the token needs it, nothing is drawn
+pub separator_refused : {separator number : ℕ} {x : Bytes} {mark : Mark} {d e : Pen} {page after : Bytes} {r a : Rust.Option (Unit {0})} → (RoomTold (length page - d.to) (d.to - d.line) 1 true → Draws x mark number d page None d page)
+    → Separated separator d page r e after → r ≡ None → a ≡ None → Draws x mark number d page a e after
+separator_refused {number = number} {x = x} {mark = mark} {d = d} {page = page} nothing (no_separator told) refused is = subst (λ (a : Rust.Option (Unit {0})). Draws x mark number d page a d page) (sym is) (nothing told)
+separator_refused nothing (separated told copied) refused is = absurd (none-some tt (sym refused))
 
 -- ---- names
 
@@ -135,15 +152,15 @@ module _ {x : Bytes} {d : Pen} {page : Bytes} where
     atoms_many many = draws_none (λ w. by_atom (λ s next. Drawing s d w.page₀ page → StateFits next → length w.page₀ < length (drawn_text next)) x w.shows w.moves
         (omega (arith, w.drawing.depth, shut)) (λ before told g fits. absurd (omega (arith, g.atoms, fits.count))) w.drawing)
 
-    pub atom_no_room : (lacks : Bool) → RoomTold (length page - d.to) 0 (length x + 2) lacks → lacks ≡ true → Draws x Name 0 d page None d page
+    pub atom_no_room : (lacks : Bool) → RoomTold (length page - d.to) (d.to - d.to) (length x + 2) lacks → lacks ≡ true → Draws x Name 0 d page None (record { to = d.to; line = d.to; atoms = d.atoms; arguments = d.arguments; compounds = d.compounds }) page
     atom_no_room lacks told is = draws_none (λ w. by_atom (λ s next. Drawing s d w.page₀ page → StateFits next → length w.page₀ < length (drawn_text next)) x w.shows w.moves
         (omega (arith, w.drawing.depth, shut))
-        (λ before word g. no_room w 0 (length x + 2) (state before [] (read (symbol x nil))) lacks told is
+        (λ before word g. no_room w (d.to - d.to) (length x + 2) (state before [] (read (symbol x nil))) lacks told is
         (omega (arith, ap length (drawn_atom_name before x), length-append (drawn_text (state before [] due)) (line_front before ++ x), length-append (line_front before) x, front_length before, g.puts.many))
         (omega (arith, line_atom_name before x, no_line before, length-append (line_front before) x, front_length before)))
         w.drawing)
 
-    pub atom_put : {after : Bytes} {q l : ℕ} (lacks : Bool) → length x ≤ 16 → d.atoms ≤ 8 → RoomTold (length page - d.to) 0 (length x + 2) lacks → lacks ≡ false → LetterIs d.atoms l
+    pub atom_put : {after : Bytes} {q l : ℕ} (lacks : Bool) → length x ≤ 16 → d.atoms ≤ 8 → RoomTold (length page - d.to) (d.to - d.to) (length x + 2) lacks → lacks ≡ false → LetterIs d.atoms l
         → PutAt (l ∷ 44 ∷ x) (length x + 2) page after d.to q
         → Draws x Name 0 d page (Some tt) (record { to = q; line = d.to; atoms = d.atoms; arguments = 0; compounds = d.compounds }) after
     unfolding current atom_of

@@ -1,5 +1,5 @@
 -- How far the lines of a clause are written on a page.
-use Rattle.std.specs.Prelude.{◌≡◌, Bool, true, false, List, [], ◌∷◌, ℕ, suc, ◌+◌, ◌≤◌, ◌<◌, leb, length, get_or, Some, None}
+use Rattle.std.specs.Prelude.{◌≡◌, Bool, true, false, List, [], ◌∷◌, ℕ, suc, ◌+◌, ◌-◌, ◌≤◌, ◌<◌, leb, length, get_or, Some, None}
 use Rattle.std.specs.Prelude as Rust
 use Rattle.std.proofs.Math.Option.{Option}
 use Prim.Native.Char.{code}
@@ -8,7 +8,7 @@ use Rattle.theory.specs.Terms.{arity}
 use Rattle.clause_theory.specs.Clauses.{Clause, Open, State, state, due}
 use Rattle.clause_theory.specs.ClauseTokens as T
 use Rattle.clause_theory.specs.Import.{numbered_variable}
-use Rattle.pages.specs.Pages.{Puts}
+use Rattle.pages.specs.Pages.{Puts, PutAt}
 use Rattle.clause_tokens.specs.NextTokens.{Sign}
 use Rattle.clause_tokens.specs.declared.Mark.{Mark}
 use Rattle.clause_tokens.specs.declared.Mark.TheVariants.{Name, Variable, Lone}
@@ -80,6 +80,18 @@ pub record Draws (x : Bytes) (mark : Mark) (number : ℕ) (pen : Pen) (page : By
 pub record RoomTold (left used count : ℕ) (r : Bool) : Type 0 where
   pub enough : r ≡ false → (count ≤ left) × (used + count ≤ 1024)
   pub lacking : r ≡ true → count ≤ left → 1024 < used + count
+
+-- a pen within its page, in a line that is not over the limit
+pub record InLine (pen : Pen) (page : Bytes) : Type 0 where
+  pub to : pen.to ≤ length page
+  pub line : pen.line ≤ pen.to
+  pub used : pen.to - pen.line ≤ 1024
+
+-- one byte more in the line; or it has no room, and nothing changes
+pub data Separated (separator : ℕ) (pen : Pen) (page : Bytes) : Rust.Option (Unit {0}) → Pen → Bytes → Type 0 where
+  separated : {to : ℕ} {after : Bytes} → RoomTold (length page - pen.to) (pen.to - pen.line) 1 false → PutAt (separator ∷ []) 1 page after pen.to to
+      → Separated separator pen page (Some tt) (record { to = to; line = pen.line; atoms = pen.atoms; arguments = pen.arguments; compounds = pen.compounds }) after
+  no_separator : RoomTold (length page - pen.to) (pen.to - pen.line) 1 true → Separated separator pen page None pen page
 
 -- the first line is the head's
 pub record LetterIs (atoms r : ℕ) : Type 0 where

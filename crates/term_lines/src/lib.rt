@@ -6,11 +6,11 @@ ghost use Rattle.theory.specs.Text.{decimal};
 ghost use Rattle.clause_theory.specs.Import.{numbered_variable};
 ghost use Rattle.pages.specs.Pages.{PutAt};
 ghost use Rattle.clause_tokens.specs.declared.Mark.TheVariants.{Name, Variable, Lone};
-ghost use Rattle.term_lines.specs.Drawings.{Begun, RoomTold, LetterIs, Drawable, Draws};
+ghost use Rattle.term_lines.specs.Drawings.{Begun, InLine, RoomTold, Separated, LetterIs, Drawable, Draws};
 
 /// The compounds that are open, and of each symbol among them the place of its arity's digit on the page.
 pub struct OpenCompounds {
-    pub digits: [usize; 256],
+    digits: [usize; 256],
     pub depth: usize,
 }
 
@@ -59,14 +59,6 @@ pub struct Pen {
     pub atoms: usize,
     pub arguments: usize,
     pub compounds: OpenCompounds,
-}
-
-/// Whether so many bytes more have no room on the rest of the page, or in their line, of which so many are used.
-pub fn lacks_room(left: usize, used: usize, count: usize) -> bool
-    requires { used ≤ 1024 }
-    ensures { RoomTold left used count result }
-{
-    (left < count) | (1024 - used < count)
 }
 
 /// The letter of a clause's line: the first is the head's.
@@ -131,6 +123,28 @@ impl Pen {
         self.compounds.depth = 0;
     }
 
+    /// Whether so many bytes more have no room on the page, or in this line.
+    fn lacks_room(&self, count: usize, page: &[u8]) -> bool
+        requires { InLine self.now page.now }
+        ensures { RoomTold (length page.now - self.now.to) (self.now.to - self.now.line) count result }
+    {
+        let left = page.len() - self.to;
+        let used = self.to - self.line;
+        (left < count) | (1024 - used < count)
+    }
+
+    /// Writes one byte more in this line, where it has room.
+    pub fn put_separator(&mut self, separator: u8, page: &mut [u8]) -> Option<()>
+        requires { InLine self.old page.old }
+        ensures { Separated separator self.old page.old result self.new page.new }
+    {
+        if self.lacks_room(1, page) {
+            return None;
+        }
+        self.to = pages::put_byte(separator, page, self.to);
+        Some(())
+    }
+
     /// The name of a head or a subgoal begins a line.
     fn put_atom(&mut self, name: &[u8], page: &mut [u8]) -> Option<()>
         requires { (self.old.compounds.depth ≡ 0) × Drawable name.now Name 0 self.old page.old }
@@ -142,10 +156,10 @@ impl Pen {
         if 8 < self.atoms {
             return None;
         }
-        if lacks_room(page.len() - self.to, 0, name.len() + 2) {
+        self.line = self.to;
+        if self.lacks_room(name.len() + 2, page) {
             return None;
         }
-        self.line = self.to;
         self.to = put_front(name, letter(self.atoms), page, self.to);
         self.arguments = 0;
         Some(())
@@ -159,7 +173,7 @@ impl Pen {
         if 16 < name.len() {
             return None;
         }
-        if lacks_room(page.len() - self.to, self.to - self.line, name.len() + 2) {
+        if self.lacks_room(name.len() + 2, page) {
             return None;
         }
         self.to = put_bare(name, page, self.to);
@@ -186,7 +200,7 @@ impl Pen {
         if 16 < name.len() {
             return None;
         }
-        if lacks_room(page.len() - self.to, self.to - self.line, name.len()) {
+        if self.lacks_room(name.len(), page) {
             return None;
         }
         self.to = pages::put_text(name, page, self.to);
@@ -199,7 +213,7 @@ impl Pen {
         ensures { Draws [] Lone number self.old page.old result self.new page.new }
     {
         let many = pages::digits(number as u64);
-        if lacks_room(page.len() - self.to, self.to - self.line, many + 1) {
+        if self.lacks_room(many + 1, page) {
             return None;
         }
         self.to = put_numbered(number, page, self.to);

@@ -1,5 +1,5 @@
 -- What the writers cite of a comma after an argument of a symbol: the symbol's digit is one more.
-use mathlib.Core.Path.{◌≡◌, sym, ◌∙◌, ap, subst}
+use mathlib.Core.Path.{◌≡◌, refl, sym, ◌∙◌, ap, subst}
 use mathlib.Core.Bool.{Bool, true, false}
 use mathlib.Core.List.{List, [], ◌∷◌, ◌++◌, append_assoc}
 use mathlib.Core.Option.{Option}
@@ -8,23 +8,24 @@ use native.Mathlib.Omega.{arith}
 use lib.ListN.{length, get_or, set, drop, length-append, length-set}
 use lib.Seq.{get_or-append_seam}
 use Rattle.std.specs.Prelude.{Some, None}
+use Rattle.std.specs.Prelude as Rust
+use Rattle.std.proofs.lemmas.Option.{none-some}
 use Rattle.groundwork.proofs.Lists.{length_end}
 use Rattle.theory.specs.Text.{Bytes}
 use Rattle.theory.specs.Terms.{Term, arity, written_term}
 use Rattle.clause_theory.specs.ClauseTokens as T
 use Rattle.clause_theory.specs.Clauses.{Clause, Open, ending_term, due, read, State, state}
 use Rattle.theory.proofs.Reading.Decimals.{decimal_one}
-use Rattle.pages.specs.Pages.{Puts}
+use Rattle.pages.specs.Pages.{Puts, PutAt}
 use Rattle.pages.proofs.Puts.{puts_more, puts_change}
 use Rattle.clause_tokens.specs.NextTokens.{sign_comma}
 use Rattle.clause_tokens.specs.declared.Mark.TheVariants.{Comma}
 use Rattle.term_lines.specs.declared.Pen.{Pen}
 use Rattle.term_lines.specs.Texts.{after_each, drawn_text, Moves, ends_line, next_argument, next_term, current, StateFits}
-use Rattle.term_lines.specs.Drawings.{Drawing, DrawnNext, drawn_on, Shows, shows_sign, Drawable, Draws, RoomTold}
-use Rattle.token_lines.specs.Raising.{Raised}
+use Rattle.term_lines.specs.Drawings.{Drawing, DrawnNext, drawn_on, Shows, shows_sign, Drawable, Draws, RoomTold, Separated, separated, no_separator}
 use Rattle.term_lines.proofs.DrawnTexts.{arity_more, drawn_digit, drawn_next}
 use Rattle.term_lines.proofs.DrawnLimits.{drawn_length, line_next, terms_fit_more}
-use Rattle.term_lines.proofs.Drawing.{page_size, to_is, no_room, draws_none}
+use Rattle.term_lines.proofs.Drawing.{page_size, to_is, no_room, draws_none, separator_refused}
 
 by_term : (P : State → State → Type 0) {x : Bytes} {s next : State} {m : T.Mark} → Shows x 0 Comma m → Moves s m next → 1 < length s.opened
     → ((before : Option Clause) (o p : Open) (opened : List Open) (t : Term) → P (state before (o ∷ p ∷ opened) (read t)) (state before (record { name = o.name; before = ending_term t o.before } ∷ p ∷ opened) due)) → P s next
@@ -87,32 +88,31 @@ module _ {d : Pen} {page : Bytes} (deep : 1 < d.compounds.depth) {digit : ℕ} (
       no_room w (d.to - d.line) 1 next lacks told is
       (omega (arith, grown, drawn_length before (o ∷ p ∷ opened) (read t), drawn_length before (record { name = o.name; before = ending_term t o.before } ∷ p ∷ opened) due, g.puts.many)) (omega (arith, grown, to_is g))) w.drawing)
 
-  pub term_put : {after : Bytes} {q : ℕ} (lacks : Bool) → get_or page digit 0 ≤ 56 → RoomTold (length page - d.to) (d.to - d.line) 1 lacks → lacks ≡ false → Raised page digit (get_or page digit 0) d.to q after
-      → Draws [] Comma 0 d page (Some tt) (record { to = q; line = d.line; atoms = d.atoms; arguments = d.arguments; compounds = d.compounds }) after
+  pub term_put : {after : Bytes} {q : ℕ} (lacks : Bool) → get_or page digit 0 ≤ 56 → RoomTold (length page - d.to) (d.to - d.line) 1 lacks → lacks ≡ false → PutAt (32 ∷ []) 1 page after d.to q
+      → Draws [] Comma 0 d page (Some tt) (record { to = q; line = d.line; atoms = d.atoms; arguments = d.arguments; compounds = d.compounds }) (set after digit (get_or page digit 0 + 1))
   unfolding current
-  term_put {after} {q} lacks low told is raised = record {
-    size = ap length raised.is ∙ length-set raised.between digit (get_or page digit 0 + 1) ∙ raised.put.size;
-    drawn = λ w. by_term (λ s next. Drawing s d w.page₀ page → DrawnNext next (record { to = q; line = d.line; atoms = d.atoms; arguments = d.arguments; compounds = d.compounds }) w.page₀ after (Some tt))
+  term_put {after} {q} lacks low told is copied = record {
+    size = length-set after digit (get_or page digit 0 + 1) ∙ copied.size;
+    drawn = λ w. by_term (λ s next. Drawing s d w.page₀ page → DrawnNext next (record { to = q; line = d.line; atoms = d.atoms; arguments = d.arguments; compounds = d.compounds }) w.page₀ (set after digit (get_or page digit 0 + 1)) (Some tt))
         w.shows w.moves (deep_state w) (λ before o p opened t g. drawn_on (drawing before o p opened t g)) w.drawing;
   }
     where
       drawing : {page₀ : Bytes} (before : Option Clause) (o p : Open) (opened : List Open) (t : Term) → Drawing (state before (o ∷ p ∷ opened) (read t)) d page₀ page
-          → Drawing (state before (record { name = o.name; before = ending_term t o.before } ∷ p ∷ opened) due) (record { to = q; line = d.line; atoms = d.atoms; arguments = d.arguments; compounds = d.compounds }) page₀ after
+          → Drawing (state before (record { name = o.name; before = ending_term t o.before } ∷ p ∷ opened) due) (record { to = q; line = d.line; atoms = d.atoms; arguments = d.arguments; compounds = d.compounds }) page₀ (set after digit (get_or page digit 0 + 1))
       drawing {page₀} before o p opened t g =
           let k = arity o.before in
           let now-is : get_or page digit 0 ≡ 48 + suc k = ap (λ i. get_or page i 0) place ∙ digit_is g in
           let byte : get_or page digit 0 + 1 ≡ 48 + suc (suc k) = omega (arith, now-is) in
           let fewer : suc (suc k) ≤ 9 = omega (arith, now-is) in
-          let spaced : Puts (front g ++ ((48 + suc k) ∷ (rest g ++ (32 ∷ [])))) page₀ raised.between q =
-          subst (λ bs. Puts bs page₀ raised.between q) (ap (λ bs. bs ++ (32 ∷ [])) (digit_text g) ∙ append_assoc (front g) ((48 + suc k) ∷ rest g) (32 ∷ [])) (puts_more g.puts (32 ∷ []) raised.put.puts) in
-          let changed : Puts (front g ++ ((get_or page digit 0 + 1) ∷ (rest g ++ (32 ∷ [])))) page₀ (set raised.between digit (get_or page digit 0 + 1)) q =
+          let spaced : Puts (front g ++ ((48 + suc k) ∷ (rest g ++ (32 ∷ [])))) page₀ after q =
+          subst (λ bs. Puts bs page₀ after q) (ap (λ bs. bs ++ (32 ∷ [])) (digit_text g) ∙ append_assoc (front g) ((48 + suc k) ∷ rest g) (32 ∷ [])) (puts_more g.puts (32 ∷ []) copied.puts) in
+          let changed : Puts (front g ++ ((get_or page digit 0 + 1) ∷ (rest g ++ (32 ∷ [])))) page₀ (set after digit (get_or page digit 0 + 1)) q =
           puts_change (front g) (48 + suc k) (rest g ++ (32 ∷ [])) (get_or page digit 0 + 1) digit spaced (place ∙ digit_place g) in
-          let put : Puts (front g ++ ((48 + suc (suc k)) ∷ (rest g ++ (32 ∷ [])))) page₀ after q =
-          subst (λ bs. Puts (front g ++ ((48 + suc (suc k)) ∷ (rest g ++ (32 ∷ [])))) page₀ bs q) (sym raised.is)
-          (subst (λ b. Puts (front g ++ (b ∷ (rest g ++ (32 ∷ [])))) page₀ (set raised.between digit (get_or page digit 0 + 1)) q) byte changed) in
+          let put : Puts (front g ++ ((48 + suc (suc k)) ∷ (rest g ++ (32 ∷ [])))) page₀ (set after digit (get_or page digit 0 + 1)) q =
+          subst (λ b. Puts (front g ++ (b ∷ (rest g ++ (32 ∷ [])))) page₀ (set after digit (get_or page digit 0 + 1)) q) byte changed in
           record {
-            puts = subst (λ bs. Puts bs page₀ after q) (sym (next_text g fewer)) put;
-            room = omega (arith, raised.put.after, (told.enough is).0, page_size g, g.room);
+            puts = subst (λ bs. Puts bs page₀ (set after digit (get_or page digit 0 + 1)) q) (sym (next_text g fewer)) put;
+            room = omega (arith, copied.after, (told.enough is).0, page_size g, g.room);
             line = g.line;
             depth = g.depth;
             atoms = g.atoms;
@@ -127,3 +127,16 @@ module _ {d : Pen} {page : Bytes} (deep : 1 < d.compounds.depth) {digit : ℕ} (
               line = omega (arith, line_next before o p opened t fewer, to_is g, (told.enough is).1);
             };
           }
+
+  pub term_refused : {e : Pen} {after : Bytes} {r a : Rust.Option (Unit {0})} → get_or page digit 0 ≤ 56 → Separated 32 d page r e after → r ≡ None → a ≡ None → Draws [] Comma 0 d page a e after
+  term_refused low = separator_refused (λ told. term_no_room true low told refl)
+
+  pub term_accepted : {e : Pen} {after : Bytes} {r : Rust.Option (Unit {0})} {u : Unit {0}} → get_or page digit 0 ≤ 56 → Separated 32 d page r e after → r ≡ Some u
+      → Draws [] Comma 0 d page (Some tt) (record { to = e.to; line = e.line; atoms = e.atoms; arguments = e.arguments; compounds = e.compounds }) (set after digit (get_or page digit 0 + 1))
+  term_accepted low (separated told copied) is = term_put false low told refl copied
+  term_accepted low (no_separator told) is = absurd (none-some tt is)
+
+  -- the digit lies on the page after the space too
+  pub digit_kept : {e : Pen} {after : Bytes} {r : Rust.Option (Unit {0})} {u : Unit {0}} → Drawable [] Comma 0 d page → Separated 32 d page r e after → r ≡ Some u → digit < length after
+  digit_kept w (separated told copied) is = omega (arith, digit_inside w, copied.size)
+  digit_kept w (no_separator told) is = absurd (none-some tt is)

@@ -8,6 +8,8 @@ use native.Mathlib.Omega.{arith}
 use lib.ListN.{length, get_or, set, length-append, length-set}
 use lib.Seq.{get_or-set_same, get_or-set_other}
 use Rattle.std.specs.Prelude.{Some, None}
+use Rattle.std.specs.Prelude as Rust
+use Rattle.std.proofs.lemmas.Option.{none-some}
 use Rattle.groundwork.proofs.Lists.{length_end}
 use Rattle.theory.specs.Text.{Bytes, is_name}
 use Rattle.theory.specs.Terms.{Term, symbol, nil, arity}
@@ -22,11 +24,11 @@ use Rattle.clause_tokens.specs.declared.Mark.TheVariants.{Opens, Closes, Comma}
 use Rattle.term_lines.specs.declared.OpenCompounds.{OpenCompounds}
 use Rattle.term_lines.specs.declared.Pen.{Pen}
 use Rattle.term_lines.specs.Texts.{open_text, last_text, drawn_text, Moves, opens_atom, opens_symbol, closes_one, ends_line, next_argument, next_term, atoms_of, OpenFits, OpenedFit, LastFits, current, PartsFit, StateFits}
-use Rattle.term_lines.specs.Drawings.{DigitsStand, ArgumentsBegun, Drawing, DrawnNext, drawn_on, Shows, shows_sign, Drawable, Draws, RoomTold}
+use Rattle.term_lines.specs.Drawings.{DigitsStand, ArgumentsBegun, Drawing, DrawnNext, drawn_on, Shows, shows_sign, Drawable, Draws, RoomTold, Separated, separated, no_separator}
 use Rattle.token_lines.specs.LineEnds.{EndsLine, comma_ends, neck_ends, stop_ends}
 use Rattle.term_lines.proofs.DrawnTexts.{arity_more, drawn_atom_opens, drawn_symbol_opens, drawn_symbol_digit, drawn_closes, drawn_line, drawn_argument}
 use Rattle.term_lines.proofs.DrawnLimits.{drawn_length, no_line, line_atom_opens, line_symbol_opens, line_closes, line_argument, atom_named, symbol_named, atom_fits_lem, symbol_fits, terms_fit_more, atoms_added, line_fits_lem, deep_line}
-use Rattle.term_lines.proofs.Drawing.{page_size, to_is, to_within, no_room, draws_none, in_line}
+use Rattle.term_lines.proofs.Drawing.{page_size, to_is, to_within, no_room, draws_none, separator_refused, in_line}
 
 -- ---- `(` after the name of a head or a subgoal
 
@@ -58,6 +60,18 @@ module _ {d : Pen} {page : Bytes} (shut : d.compounds.depth ≡ 0) where
         (drawn_atom_opens before f) (line_atom_opens before f) refl (bare_opens 8 f (omega arith) (atom_named f nil g.fits.last_fits)) tt)) w.drawing;
   }
 
+  pub opens_refused : {e : Pen} {after : Bytes} {r a : Rust.Option (Unit {0})} → Separated 44 d page r e after → r ≡ None → a ≡ None → Draws [] Opens 0 d page a e after
+  opens_refused = separator_refused (λ told. opens_no_room true told refl)
+
+  pub opens_accepted : {e : Pen} {after : Bytes} {r : Rust.Option (Unit {0})} {u : Unit {0}} {k : OpenCompounds} (place : ℕ) → Separated 44 d page r e after → r ≡ Some u → k ≡ record { digits = set e.compounds.digits e.compounds.depth place; depth = e.compounds.depth + 1 }
+      → Draws [] Opens 0 d page (Some tt) (record { to = e.to; line = e.line; atoms = e.atoms; arguments = 1; compounds = k }) after
+  opens_accepted place (separated told copied) is pushed = opens_put false place told refl pushed copied
+  opens_accepted place (no_separator told) is pushed = absurd (none-some tt is)
+
+  pub opens_depth : {e : Pen} {after : Bytes} {r : Rust.Option (Unit {0})} {u : Unit {0}} → Separated 44 d page r e after → r ≡ Some u → e.compounds.depth < 256
+  opens_depth (separated told copied) is = omega (arith, shut)
+  opens_depth (no_separator told) is = absurd (none-some tt is)
+
 -- ---- a comma after an argument of a head or a subgoal
 
 by_argument : (P : State → State → Type 0) {x : Bytes} {s next : State} {m : T.Mark} → Shows x 0 Comma m → Moves s m next → length s.opened ≡ 1
@@ -87,6 +101,14 @@ module _ {d : Pen} {page : Bytes} (single : d.compounds.depth ≡ 1) where
         (omega (arith, g.arguments, arity_more t o.before)) tt (drawn_argument before o t) (line_argument before o t) refl
         (record { named = g.fits.opens_fit.named; few = omega (arith, g.arguments, arity_more t o.before); formed = terms_fit_more t o.before g.fits.opens_fit.formed g.fits.last_fits }) tt)) w.drawing;
   }
+
+  pub argument_refused : {e : Pen} {after : Bytes} {r a : Rust.Option (Unit {0})} → Separated 44 d page r e after → r ≡ None → a ≡ None → Draws [] Comma 0 d page a e after
+  argument_refused = separator_refused (λ told. argument_no_room true told refl)
+
+  pub argument_accepted : {e : Pen} {after : Bytes} {r : Rust.Option (Unit {0})} {u : Unit {0}} → d.arguments ≤ 7 → Separated 44 d page r e after → r ≡ Some u
+      → Draws [] Comma 0 d page (Some tt) (record { to = e.to; line = e.line; atoms = e.atoms; arguments = e.arguments + 1; compounds = e.compounds }) after
+  argument_accepted few (separated told copied) is = argument_put false few told refl copied
+  argument_accepted few (no_separator told) is = absurd (none-some tt is)
 
 -- ---- `)`
 
@@ -217,8 +239,13 @@ module _ {d : Pen} {page : Bytes} (inside : d.compounds.depth ≡ 0 → ⊥) whe
   digit_written w = by_opens_symbol (λ s next. Drawing s d w.page₀ page → 1 ≤ d.to) w.shows w.moves (λ e. inside (w.drawing.depth ∙ e))
       (λ before o opened f g. omega (arith, g.puts.many, ap length (drawn_symbol_digit before o opened f), length_end (drawn_text (state before (o ∷ opened) due) ++ (f ++ (47 ∷ []))) 48)) w.drawing
 
-  pub digit_in_page : {after : Bytes} {q : ℕ} → Drawable [] Opens 0 d page → PutAt (32 ∷ []) 1 page after d.to q → d.to - 1 < length after
-  digit_in_page w copied = omega (arith, digit_written w, to_within w, copied.size)
+  pub digit_in_page : {e : Pen} {after : Bytes} {r : Rust.Option (Unit {0})} {u : Unit {0}} → Drawable [] Opens 0 d page → Separated 32 d page r e after → r ≡ Some u → d.to - 1 < length after
+  digit_in_page w (separated told copied) is = omega (arith, digit_written w, to_within w, copied.size)
+  digit_in_page w (no_separator told) is = absurd (none-some tt is)
+
+  pub depth_left : {e : Pen} {after : Bytes} {r : Rust.Option (Unit {0})} {u : Unit {0}} → d.compounds.depth ≤ 255 → Separated 32 d page r e after → r ≡ Some u → e.compounds.depth < 256
+  depth_left shallow (separated told copied) is = omega (arith, shallow)
+  depth_left shallow (no_separator told) is = absurd (none-some tt is)
 
   pub symbol_opens_put : {after : Bytes} {q : ℕ} {k : OpenCompounds} (lacks : Bool) → d.compounds.depth ≤ 255 → RoomTold (length page - d.to) (d.to - d.line) 1 lacks → lacks ≡ false
       → (k ≡ record { digits = set d.compounds.digits d.compounds.depth (d.to - 1); depth = d.compounds.depth + 1 }) × (length k.digits ≡ 256) → PutAt (32 ∷ []) 1 page after d.to q
@@ -257,3 +284,12 @@ module _ {d : Pen} {page : Bytes} (inside : d.compounds.depth ≡ 0 → ⊥) whe
               line = omega (arith, line_symbol_opens before o opened f, to_is g, (told.enough is).1);
             };
           }
+
+  pub symbol_opens_refused : {e : Pen} {after : Bytes} {r a : Rust.Option (Unit {0})} → Separated 32 d page r e after → r ≡ None → a ≡ None → Draws [] Opens 0 d page a e after
+  symbol_opens_refused = separator_refused (λ told. symbol_opens_no_room true told refl)
+
+  pub symbol_opens_accepted : {e : Pen} {after : Bytes} {r : Rust.Option (Unit {0})} {u : Unit {0}} {k : OpenCompounds} → d.compounds.depth ≤ 255 → Separated 32 d page r e after → r ≡ Some u
+      → (k ≡ record { digits = set e.compounds.digits e.compounds.depth (d.to - 1); depth = e.compounds.depth + 1 }) × (length k.digits ≡ 256)
+      → Draws [] Opens 0 d page (Some tt) (record { to = e.to; line = e.line; atoms = e.atoms; arguments = e.arguments; compounds = k }) (set after (d.to - 1) 49)
+  symbol_opens_accepted shallow (separated told copied) is pushed = symbol_opens_put false shallow told refl pushed copied
+  symbol_opens_accepted shallow (no_separator told) is pushed = absurd (none-some tt is)

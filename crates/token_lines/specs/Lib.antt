@@ -1,3 +1,2 @@
--- Which tokens end a line, and how a digit is raised. No public promise cites them.
+-- Which tokens end a line. No public promise cites it.
 pub mod LineEnds
-pub mod Raising

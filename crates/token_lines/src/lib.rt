@@ -1,11 +1,10 @@
 // What each token makes of the lines of a clause.
 #![tactic(auto)]
 
-ghost use Rattle.std.specs.Prelude.{◌≡◌, [], ◌+◌, ◌≤◌, ◌<◌, length, Some};
+ghost use Rattle.std.specs.Prelude.{◌≡◌, [], ◌<◌, Some};
 ghost use Rattle.clause_tokens.specs.declared.Mark.TheVariants.{Opens, Closes, Comma};
 ghost use Rattle.term_lines.specs.Drawings.{Drawable, Draws};
 ghost use Rattle.token_lines.specs.LineEnds.{EndsLine};
-ghost use Rattle.token_lines.specs.Raising.{Raised};
 
 use clause_tokens::Mark;
 use term_lines::Pen;
@@ -15,11 +14,8 @@ fn open_atom(pen: &mut Pen, page: &mut [u8]) -> Option<()>
     requires { (pen.old.compounds.depth ≡ 0) × Drawable [] Opens 0 pen.old page.old }
     ensures { Draws [] Opens 0 pen.old page.old result pen.new page.new }
 {
-    if term_lines::lacks_room(page.len() - pen.to, pen.to - pen.line, 1) {
-        return None;
-    }
+    pen.put_separator(b',', page)?;
     pen.compounds.push(pen.line);
-    pen.to = pages::put_byte(b',', page, pen.to);
     pen.arguments = 1;
     Some(())
 }
@@ -32,10 +28,7 @@ fn next_argument(pen: &mut Pen, page: &mut [u8]) -> Option<()>
     if 7 < pen.arguments {
         return None;
     }
-    if term_lines::lacks_room(page.len() - pen.to, pen.to - pen.line, 1) {
-        return None;
-    }
-    pen.to = pages::put_byte(b',', page, pen.to);
+    pen.put_separator(b',', page)?;
     pen.arguments += 1;
     Some(())
 }
@@ -71,24 +64,11 @@ fn open_symbol(pen: &mut Pen, page: &mut [u8]) -> Option<()>
     if 255 < pen.compounds.depth {
         return None;
     }
-    if term_lines::lacks_room(page.len() - pen.to, pen.to - pen.line, 1) {
-        return None;
-    }
     let digit = pen.to - 1;
-    pen.compounds.push(digit);
-    pen.to = pages::put_byte(b' ', page, pen.to);
+    pen.put_separator(b' ', page)?;
     page[digit] = b'1';
+    pen.compounds.push(digit);
     Some(())
-}
-
-/// Writes a space, and one more for a digit.
-fn raise(page: &mut [u8], digit: usize, arity: u8, to: usize) -> usize
-    requires { (digit < length page.old) × (arity ≤ 56) × (to + 1 ≤ length page.old) }
-    ensures { Raised page.old digit arity to result page.new }
-{
-    let after = pages::put_byte(b' ', page, to);
-    page[digit] = arity + 1;
-    after
 }
 
 /// The next argument of a symbol is due: its arity is one more.
@@ -101,10 +81,8 @@ fn next_term(pen: &mut Pen, page: &mut [u8]) -> Option<()>
     if b'8' < arity {
         return None;
     }
-    if term_lines::lacks_room(page.len() - pen.to, pen.to - pen.line, 1) {
-        return None;
-    }
-    pen.to = raise(page, digit, arity, pen.to);
+    pen.put_separator(b' ', page)?;
+    page[digit] = arity + 1;
     Some(())
 }
 

@@ -1,7 +1,7 @@
 -- `token_lines::next_term` meets its contract. Assumes nothing.
-use Rattle.term_lines.proofs.Drawing.{to_within, line_within, line_used, room_on_page}
+use Rattle.term_lines.proofs.Drawing.{drawn_in_line}
 use Rattle.token_lines.proofs.Punctuation.{depth_small}
-use Rattle.token_lines.proofs.NextTerms.{digit_inside, arity_full, term_no_room, term_put}
+use Rattle.token_lines.proofs.NextTerms.{digit_inside, digit_kept, arity_full, term_refused, term_accepted}
 use borrow.Author.Rules.{rules}
 use Rattle.token_lines.proofs.next_term.Goals as goal
 
@@ -14,20 +14,14 @@ bounds-page-digit c = search (rules, digit_inside)
 pub returns-then-arity-gt56 : goal.returns-then-arity-gt56
 returns-then-arity-gt56 c = search (rules, arity_full)
 
-pub overflow_sub-page : goal.overflow_sub-page
-overflow_sub-page c = search (rules, to_within)
+pub put_separator-requires : goal.put_separator-requires
+put_separator-requires c = search (rules, drawn_in_line)
 
-pub overflow_sub-pen : goal.overflow_sub-pen
-overflow_sub-pen c = search (rules, line_within)
+pub returns-in_err-put_separator : goal.returns-in_err-put_separator
+returns-in_err-put_separator c = search (rules, term_refused, c.in_err-put_separator.was)
 
-pub lacks_room-requires : goal.lacks_room-requires
-lacks_room-requires c = search (rules, line_used)
-
-pub returns-then-lacks_room : goal.returns-then-lacks_room
-returns-then-lacks_room c = search (rules, term_no_room)
-
-pub raise-pen-requires : goal.raise-pen-requires
-raise-pen-requires c = (digit_inside c.requires.0 c.last-digit.ensures c.requires.1, search rules, search (rules, room_on_page))
+pub bounds-page-digit-2 : goal.bounds-page-digit-2
+bounds-page-digit-2 c = search (rules, digit_kept, c.in_ok-put_separator.was)
 
 pub returns : goal.returns
-returns c = search (rules, term_put)
+returns c = search (rules, term_accepted, c.in_ok-put_separator.was)

@@ -1,20 +1,17 @@
 -- `token_lines::open_atom` meets its contract. Assumes nothing.
-use Rattle.term_lines.proofs.Drawing.{to_within, line_within, line_used}
-use Rattle.token_lines.proofs.Punctuation.{opens_no_room, opens_put}
+use Rattle.term_lines.proofs.Drawing.{drawn_in_line}
+use Rattle.token_lines.proofs.Punctuation.{opens_depth, opens_refused, opens_accepted}
 use borrow.Author.Rules.{rules}
 use Rattle.token_lines.proofs.open_atom.Goals as goal
 
-pub overflow_sub-page : goal.overflow_sub-page
-overflow_sub-page c = search (rules, to_within)
+pub put_separator-requires : goal.put_separator-requires
+put_separator-requires c = search (rules, drawn_in_line)
 
-pub overflow_sub-pen : goal.overflow_sub-pen
-overflow_sub-pen c = search (rules, line_within)
+pub push-requires : goal.push-requires
+push-requires c = search (rules, opens_depth, c.in_ok-put_separator.was)
 
-pub lacks_room-requires : goal.lacks_room-requires
-lacks_room-requires c = search (rules, line_used)
-
-pub returns-then-lacks_room : goal.returns-then-lacks_room
-returns-then-lacks_room c = search (rules, opens_no_room)
+pub returns-in_err-put_separator : goal.returns-in_err-put_separator
+returns-in_err-put_separator c = search (rules, opens_refused, c.in_err-put_separator.was)
 
 pub returns : goal.returns
-returns c = search (rules, opens_put)
+returns c = search (rules, opens_accepted, c.in_ok-put_separator.was)

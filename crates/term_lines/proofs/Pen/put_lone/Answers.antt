@@ -1,16 +1,10 @@
 -- `term_lines::Pen::put_lone` meets its contract. Assumes nothing.
-use Rattle.term_lines.proofs.Drawing.{to_within, line_within, line_used, lone_no_room, lone_put}
+use Rattle.term_lines.proofs.Drawing.{drawn_in_line, lone_no_room, lone_put}
 use borrow.Author.Rules.{rules}
 use Rattle.term_lines.proofs.Pen.put_lone.Goals as goal
 
-pub overflow_sub-page : goal.overflow_sub-page
-overflow_sub-page c = search (rules, to_within)
-
-pub overflow_sub-self : goal.overflow_sub-self
-overflow_sub-self c = search (rules, line_within)
-
 pub lacks_room-requires : goal.lacks_room-requires
-lacks_room-requires c = search (rules, line_used)
+lacks_room-requires c = search (rules, drawn_in_line)
 
 pub returns-then-lacks_room : goal.returns-then-lacks_room
 returns-then-lacks_room c = search (rules, lone_no_room)
