@@ -3,7 +3,7 @@ use mathlib.Core.Path.{◌≡◌, sym, ◌∙◌, ap, subst}
 use mathlib.Core.List.{[], ◌∷◌, ◌++◌, append_assoc}
 use Prim.Native.Nat.{ℕ, ◌+◌, ◌≤◌, ◌<◌}
 use native.Mathlib.Omega.{arith}
-use lib.ListN.{length, set, take, length-append}
+use lib.ListN.{length, take, length-append}
 use Rattle.theory.specs.Text.{Bytes, joined, decimal}
 use Rattle.theory.specs.Packs.{text_of}
 use Rattle.theory.specs.Check.{numbers}
@@ -11,7 +11,7 @@ use Rattle.theory.specs.Reserve.{fields}
 use Rattle.theory.specs.Program.{printed_numbers, printed_fields}
 use Rattle.pages.specs.Pages.{Puts}
 use Rattle.theory.proofs.Reading.Digits.{digits_few}
-use Rattle.pages.proofs.Puts.{puts_same, puts_byte, puts_more}
+use Rattle.pages.proofs.Puts.{puts_more}
 
 -- ---- check's numbers
 
@@ -40,8 +40,7 @@ fields_line a b c = simp append_assoc
 pub fields_length : (a b c : ℕ) → length (text_of (printed_fields (fields a b c) ∷ [])) ≡ 4 + length (decimal b) + length (decimal c)
 fields_length a b c = ap length (fields_line a b c) ∙ omega (arith, length-append ((a ∷ 44 ∷ []) ++ printed_field b 44) (printed_field c 10), length-append (a ∷ 44 ∷ []) (printed_field b 44), length-append (decimal b) (44 ∷ []), length-append (decimal c) (10 ∷ []))
 
-pub fields_put : (a b c : ℕ) {page₀ page₁ page : Bytes} {i r : ℕ} → 27 ≤ length page₀ → Puts (take 2 (set (set page₀ 0 a) 1 44) ++ printed_field b 44) (set (set page₀ 0 a) 1 44) page₁ i → Puts (take i page₁ ++ printed_field c 10) page₁ page r
+pub fields_put : (a b c : ℕ) {page₀ page₁ page₂ page₃ page : Bytes} {i j k r : ℕ} → Puts (a ∷ []) page₀ page₁ i → Puts (take i page₁ ++ (44 ∷ [])) page₁ page₂ j → Puts (take j page₂ ++ printed_field b 44) page₂ page₃ k → Puts (take k page₃ ++ printed_field c 10) page₃ page r
     → Puts (text_of (printed_fields (fields a b c) ∷ [])) page₀ page r
-fields_put a b c {page₀} {page = page} {r = r} room second last =
-    let first = puts_byte (puts_byte (puts_same page₀ 0 (omega arith)) a (omega arith)) 44 (omega arith) in
-    subst (λ (bs : Bytes). Puts bs page₀ page r) (sym (fields_line a b c)) (puts_more (puts_more first (printed_field b 44) second) (printed_field c 10) last)
+fields_put a b c {page₀} {page = page} {r = r} first comma second last =
+    subst (λ (bs : Bytes). Puts bs page₀ page r) (sym (fields_line a b c)) (puts_more (puts_more (puts_more first (44 ∷ []) comma) (printed_field b 44) second) (printed_field c 10) last)

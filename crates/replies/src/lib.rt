@@ -3,8 +3,6 @@
 
 ghost use Rattle.std.specs.Prelude.{[], ◌∷◌, ◌≤◌, length};
 ghost use Rattle.theory.specs.Packs.{text_of};
-ghost use Rattle.theory.specs.Check.{numbers};
-ghost use Rattle.theory.specs.Reserve.{fields};
 ghost use Rattle.theory.specs.Program.{printed_numbers, printed_fields};
 ghost use Rattle.pages.specs.Pages.{Puts};
 ghost use Rattle.replies.specs.Replies.{PackEnds};
@@ -14,7 +12,7 @@ use answers::{Four, Three};
 /// Writes check's numbers as a line of at most 24 bytes.
 pub fn put_numbers(page: &mut [u8], four: Four) -> usize
     requires { 24 ≤ length page.old }
-    ensures { (Puts (text_of (printed_numbers (numbers four.number four.line four.rule four.claim) ∷ [])) page.old page.new result) × (result ≤ 24) }
+    ensures { (Puts (text_of (printed_numbers four ∷ [])) page.old page.new result) × (result ≤ 24) }
 {
     let first = pages::put_field(four.number as u64, b',', page, 0);
     let second = pages::put_field(four.line as u64, b',', page, first);
@@ -25,12 +23,13 @@ pub fn put_numbers(page: &mut [u8], four: Four) -> usize
 /// Writes reserve's fields as a line of at most 27 bytes.
 pub fn put_fields(page: &mut [u8], three: Three) -> usize
     requires { 27 ≤ length page.old }
-    ensures { (Puts (text_of (printed_fields (fields three.letter three.middle three.claim) ∷ [])) page.old page.new result) × (result ≤ 27) }
+    ensures { (Puts (text_of (printed_fields three ∷ [])) page.old page.new result) × (result ≤ 27) }
 {
-    page[0] = three.letter;
-    page[1] = b',';
-    let second = pages::put_field(three.middle, b',', page, 2);
-    pages::put_field(three.claim as u64, b'\n', page, second)
+    let claim = three.claim as u64;
+    let first = pages::put_byte(three.letter, page, 0);
+    let comma = pages::put_byte(b',', page, first);
+    let second = pages::put_field(three.middle, b',', page, comma);
+    pages::put_field(claim, b'\n', page, second)
 }
 
 /// The place after the first line `E`, with its byte 10; or the end where there is none.
@@ -44,10 +43,8 @@ pub fn pack_end(input: &[u8]) -> usize
         if end == len {
             return len;
         }
-        if end - at == 1 {
-            if input[at] == b'E' {
-                return end + 1;
-            }
+        if end - at == 1 && input[at] == b'E' {
+            return end + 1;
         }
         at = end + 1;
     }

@@ -2,7 +2,7 @@
 use borrow.Author.Rules.{rules}
 use Rattle.replies.proofs.PackSearch.{seeking_begin, seeking_more, seeking_found, seeking_last, seeking_end}
 use Rattle.replies.proofs.pack_end.Goals as goal
-use Rattle.replies.proofs.pack_end.Goals.{then-end-at-eq1+else-input-at-eq69, else-end-at-eq1}
+use Rattle.replies.proofs.pack_end.Goals.{else-end-at-eq1-via-then-end-at-eq1+else-input-at-eq69, else-end-at-eq1-via-else-end-at-eq1}
 
 pub loop-at-init : goal.loop-at-init
 loop-at-init c = search (rules, seeking_begin)
@@ -16,7 +16,7 @@ returns-then-input-at-eq69 c = seeking_found c.loop-at.invariant c.find-end.ensu
 pub loop-at-preserved : goal.loop-at-preserved
 loop-at-preserved c =
     seeking_more c.loop-at.invariant c.find-end.ensures (search rules)
-    (elim c.if-end-at-eq1.branch [ then-end-at-eq1+else-input-at-eq69 w ↦ (λ one. w.if-input-at-eq69.false) | else-end-at-eq1 w ↦ (λ one is. w.if-end-at-eq1.false one) ])
+    (elim c.else-end-at-eq1.branch [ else-end-at-eq1-via-then-end-at-eq1+else-input-at-eq69 w ↦ (λ one. w.if-input-at-eq69.false) | else-end-at-eq1-via-else-end-at-eq1 w ↦ (λ one is. w.if-end-at-eq1.false one) ])
 
 pub returns : goal.returns
 returns c = search (rules, seeking_end)
