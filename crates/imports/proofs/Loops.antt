@@ -1,5 +1,5 @@
 -- The loops over the clauses of a text: what is judged up to a place, and what is written up to it.
-use mathlib.Core.Path.{◌≡◌, refl, sym, ◌∙◌, ap}
+use mathlib.Core.Path.{◌≡◌, refl, sym, ◌∙◌, ap, subst}
 use mathlib.Core.Bool.{true, false}
 use mathlib.Core.List.{List, [], ◌++◌}
 use Prim.Native.Nat.{ℕ, ◌+◌, ◌-◌, ◌≤◌, ◌<◌}
@@ -7,12 +7,16 @@ use native.Mathlib.Numerals.{add-one}
 use native.Mathlib.Omega.{arith}
 use borrow.Rule.Slice.PartMut.{mid_of, put_mid, mid_len}
 use lib.ListN.{length, length-append}
+use Rattle.std.specs.Prelude.{Result, Ok, Err}
+use Rattle.std.specs.Result.{IsOk}
 use Rattle.groundwork.proofs.Truth.{by_truth, le-leb, gt-leb}
 use Rattle.theory.specs.Lists.{over}
 use Rattle.theory.specs.Text.{Bytes}
 use Rattle.theory.specs.Check.{numbers}
 use Rattle.clause_theory.specs.ClauseTokens.{tokens_of}
 use Rattle.clause_theory.specs.Clauses.{Clause, begin}
+use Rattle.clause_theory.specs.Importations.{import_numbers}
+use Rattle.clause_theory.specs.declared.ImportRefusal.{ImportRefusal}
 use Rattle.clause_theory.specs.Import.{filled, clause_fits, Importing, refused, import_from}
 use Rattle.pages.specs.Pages.{Puts}
 use Rattle.pages.proofs.Puts.{puts_size, puts_more, puts_part, puts_over}
@@ -80,55 +84,50 @@ module _ (text : Bytes) (room : ℕ) where
     pub judged_high : at ≤ length text
     judged_high = j.upto.high
 
+    pub judged_few : clauses ≤ length text
+    judged_few = omega (arith, j.upto.few, j.upto.high)
+
+    pub judged_within : bytes ≤ room
+    judged_within = omega (arith, j.many, j.upto.within)
+
     pub judged_all : {end : ℕ} → LayoutEnds text at end → length text ≤ end → numbers 0 clauses bytes 0 ≡ (whole text room).returned
     judged_all layout past = ap (λ (n : ℕ). numbers 0 clauses n 0) j.many ∙ ap (λ (i : Importing). i.returned) (sym (upto_all text room j.upto layout past))
 
-    module _ (r : Taken) {after : Bytes} (taken : ClauseTaken text at page r after) where
-      pub judged_unfit : r.fault ≡ 25 → numbers 25 r.place 0 0 ≡ (whole text room).returned
-      judged_unfit is = by taken
-        where
-          by : ClauseTaken text at page r after → numbers 25 r.place 0 0 ≡ (whole text room).returned
-          by (is_taken c fine reaches low high fits has puts) = absurd (omega arith)
-          by (is_past_lem c rest past reaches lacks) = absurd (omega arith)
-          by (is_unfit_lem unfit fails) = ap (λ (i : Importing). i.returned) (sym (upto_unfit text room j.upto fails))
+    module _ {r : Result Taken ImportRefusal} {after : Bytes} (taken : ClauseTaken text at (clauses + 1) page after r) where
+      refused_is : {f : ImportRefusal} → ClauseTaken text at (clauses + 1) page after (Err f) → import_numbers (Err f) ≡ (whole text room).returned
+      refused_is (is_past_lem c rest reaches lacks) =
+          let unfit : clause_fits (filled c) ≡ false =
+          by_truth (λ b. b ≡ false) (clause_fits (filled c)) (λ fits. absurd (omega (arith, lacks fits, clause_room (filled c) fits, j.size))) (λ e. refl) in
+          ap (λ (i : Importing). i.returned) (sym (upto_past text room j.upto reaches unfit))
+      refused_is (is_unfit_lem fails) = ap (λ (i : Importing). i.returned) (sym (upto_unfit text room j.upto fails))
 
-      pub judged_past : r.fault ≡ 26 → numbers 26 (clauses + 1) 0 0 ≡ (whole text room).returned
-      judged_past is = by taken
-        where
-          by : ClauseTaken text at page r after → numbers 26 (clauses + 1) 0 0 ≡ (whole text room).returned
-          by (is_taken c fine reaches low high fits has puts) = absurd (omega arith)
-          by (is_past_lem c rest past reaches lacks) =
-              let unfit : clause_fits (filled c) ≡ false =
-              by_truth (λ b. b ≡ false) (clause_fits (filled c)) (λ fits. absurd (omega (arith, lacks fits, clause_room (filled c) fits, j.size))) (λ e. refl) in
-              ap (λ (i : Importing). i.returned) (sym (upto_past text room j.upto reaches unfit))
-          by (is_unfit_lem unfit fails) = absurd (omega arith)
+      pub judged_refused : {f : ImportRefusal} → r ≡ Err f → import_numbers (Err f) ≡ (whole text room).returned
+      judged_refused is = refused_is (subst (ClauseTaken text at (clauses + 1) page after) is taken)
 
       -- the clause is read and within the limits
-      module _ (fit : r.fault ≡ 25 → ⊥) (near : r.fault ≡ 26 → ⊥) where
+      module _ {t : Taken} (is : r ≡ Ok t) where
         record Whole : Type 0 where
           clause : Clause
-          reaches : Reaches begin (tokens_at text at) clause (tokens_at text r.place)
-          low : at < r.place
-          high : r.place ≤ length text
+          reaches : Reaches begin (tokens_at text at) clause (tokens_at text t.place)
+          low : at < t.place
+          high : t.place ≤ length text
           fits : clause_fits (filled clause) ≡ true
-          bytes_are : r.bytes ≡ length (text_for clause)
+          bytes_are : t.bytes ≡ length (text_for clause)
 
         is_whole : Whole
-        is_whole = by taken
+        is_whole = by (subst (ClauseTaken text at (clauses + 1) page after) is taken)
           where
-            by : ClauseTaken text at page r after → Whole
-            by (is_taken c fine reaches low high fits has puts) = record { clause = c; reaches = reaches; low = low; high = high; fits = fits; bytes_are = puts.many }
-            by (is_past_lem c rest past reaches lacks) = absurd (near past)
-            by (is_unfit_lem unfit fails) = absurd (fit unfit)
+            by : ClauseTaken text at (clauses + 1) page after (Ok t) → Whole
+            by (is_taken c reaches low high fits has puts) = record { clause = c; reaches = reaches; low = low; high = high; fits = fits; bytes_are = puts.many }
 
-        pub judged_full : room - bytes < r.bytes → numbers 27 (clauses + 1) 0 0 ≡ (whole text room).returned
+        pub judged_full : room - bytes < t.bytes → numbers 27 (clauses + 1) 0 0 ≡ (whole text room).returned
         judged_full lacks =
             ap (λ (i : Importing). i.returned) (sym (upto_full text room j.upto is_whole.reaches is_whole.fits (omega (arith, lacks, j.many, is_whole.bytes_are))))
 
-        pub judged_less : length text - r.place < length text - at
+        pub judged_less : length text - t.place < length text - at
         judged_less = omega (arith, is_whole.low, is_whole.high)
 
-        pub judged_more : r.bytes ≤ room - bytes → length after ≡ length page → Judged after (clauses + 1) (bytes + r.bytes) r.place
+        pub judged_more : t.bytes ≤ room - bytes → length after ≡ length page → Judged after (clauses + 1) (bytes + t.bytes) t.place
         judged_more enough same =
             let w = is_whole in
             record {
@@ -142,17 +141,16 @@ module _ (text : Bytes) (room : ℕ) where
 
 module _ (text buffer₀ : Bytes) where
   -- the lines of the clauses up to a place stand at the front of the buffer, and import succeeds
-  pub record Written (buffer : Bytes) (to at : ℕ) : Type 0 where
-    pub clauses : ℕ
+  pub record Written (buffer : Bytes) (clauses to at : ℕ) : Type 0 where
     pub lines : Bytes
     pub puts : Puts lines buffer₀ buffer to
     pub upto : Upto text (length buffer₀) clauses at lines
     pub succeeds : (whole text (length buffer₀)).returned.number ≡ 0
 
-  pub written_none : (whole text (length buffer₀)).returned.number ≡ 0 → Written buffer₀ 0 0
-  written_none succeeds = record { clauses = 0; lines = []; puts = record { many = refl; is = refl }; upto = upto_none text (length buffer₀); succeeds = succeeds }
+  pub written_none : (whole text (length buffer₀)).returned.number ≡ 0 → Written buffer₀ 0 0 0
+  written_none succeeds = record { lines = []; puts = record { many = refl; is = refl }; upto = upto_none text (length buffer₀); succeeds = succeeds }
 
-  module _ {buffer : Bytes} {to at : ℕ} (w : Written buffer to at) where
+  module _ {buffer : Bytes} {clauses to at : ℕ} (w : Written buffer clauses to at) where
     pub written_high : at ≤ length text
     written_high = w.upto.high
 
@@ -171,42 +169,52 @@ module _ (text buffer₀ : Bytes) where
     part_size : length (mid_of to (length buffer - to) buffer) ≡ length buffer - to
     part_size = mid_len to (length buffer) buffer (omega arith)
 
-    module _ (r : Taken) {part : Bytes} (taken : ClauseTaken text at (mid_of to (length buffer - to) buffer) r part) where
-      -- the clause is read and within the limits, and its lines have room
-      record Put : Type 0 where
-        clause : Clause
-        reaches : Reaches begin (tokens_at text at) clause (tokens_at text r.place)
-        low : at < r.place
-        high : r.place ≤ length text
-        fits : clause_fits (filled clause) ≡ true
-        has : r.bytes ≤ length buffer - to
-        puts : Puts (text_for clause) (mid_of to (length buffer - to) buffer) part r.bytes
+    pub written_few : clauses ≤ length text
+    written_few = omega (arith, w.upto.few, w.upto.high)
 
-      is_put : Put
-      is_put = by taken
+    module _ {r : Result Taken ImportRefusal} {part : Bytes} (taken : ClauseTaken text at (clauses + 1) (mid_of to (length buffer - to) buffer) part r) where
+      -- the clause is read and within the limits, and its lines have room
+      record Put (t : Taken) : Type 0 where
+        clause : Clause
+        reaches : Reaches begin (tokens_at text at) clause (tokens_at text t.place)
+        low : at < t.place
+        high : t.place ≤ length text
+        fits : clause_fits (filled clause) ≡ true
+        has : t.bytes ≤ length buffer - to
+        puts : Puts (text_for clause) (mid_of to (length buffer - to) buffer) part t.bytes
+
+      is_put : {t : Taken} → r ≡ Ok t → Put t
+      is_put {t} is = by (subst (ClauseTaken text at (clauses + 1) (mid_of to (length buffer - to) buffer) part) is taken)
         where
-          by : ClauseTaken text at (mid_of to (length buffer - to) buffer) r part → Put
-          by (is_taken c fine reaches low high fits has puts) = record { clause = c; reaches = reaches; low = low; high = high; fits = fits; has = omega (arith, part_size); puts = puts }
-          by (is_past_lem c rest past reaches lacks) =
+          by : ClauseTaken text at (clauses + 1) (mid_of to (length buffer - to) buffer) part (Ok t) → Put t
+          by (is_taken c reaches low high fits has puts) = record { clause = c; reaches = reaches; low = low; high = high; fits = fits; has = omega (arith, part_size); puts = puts }
+
+      -- none is refused
+      pub written_taken : IsOk r
+      written_taken = by taken
+        where
+          by : {q : Result Taken ImportRefusal} → ClauseTaken text at (clauses + 1) (mid_of to (length buffer - to) buffer) part q → IsOk q
+          by (is_taken c reaches low high fits has puts) = refl
+          by (is_past_lem c rest reaches lacks) =
               absurd
               (by_truth (λ b. clause_fits (filled c) ≡ b → ⊥) (clause_fits (filled c))
-              (λ _ fits. never_refused 27 (w.clauses + 1) (λ e. omega arith) (upto_full text (length buffer₀) w.upto reaches fits (omega (arith, lacks fits, part_size, written_size_lem, w.puts.many, w.upto.within))))
-              (λ _ unfit. never_refused 26 (w.clauses + 1) (λ e. omega arith) (upto_past text (length buffer₀) w.upto reaches unfit)) refl)
-          by (is_unfit_lem unfit fails) = absurd (never_refused 25 r.place (λ e. omega arith) (upto_unfit text (length buffer₀) w.upto fails))
+              (λ _ fits. never_refused 27 (clauses + 1) (λ e. omega arith) (upto_full text (length buffer₀) w.upto reaches fits (omega (arith, lacks fits, part_size, written_size_lem, w.puts.many, w.upto.within))))
+              (λ _ unfit. never_refused 26 (clauses + 1) (λ e. omega arith) (upto_past text (length buffer₀) w.upto reaches unfit)) refl)
+          by (is_unfit_lem {place = place} fails) = absurd (never_refused 25 place (λ e. omega arith) (upto_unfit text (length buffer₀) w.upto fails))
 
-      pub written_less : length text - r.place < length text - at
-      written_less = omega (arith, is_put.low, is_put.high)
+      module _ {t : Taken} (is : r ≡ Ok t) where
+        pub written_less : length text - t.place < length text - at
+        written_less = omega (arith, (is_put is).low, (is_put is).high)
 
-      pub written_room : to + r.bytes ≤ length buffer
-      written_room = omega (arith, is_put.has, written_within)
+        pub written_room : to + t.bytes ≤ length buffer
+        written_room = omega (arith, (is_put is).has, written_within)
 
-      pub written_more : Written (put_mid to (length buffer - to) buffer part) (to + r.bytes) r.place
-      written_more =
-          let p = is_put in
-          record {
-            clauses = w.clauses + 1;
-            lines = w.lines ++ text_for p.clause;
-            puts = puts_more w.puts (text_for p.clause) (puts_part written_within p.puts);
-            upto = upto_more text (length buffer₀) w.upto p.reaches p.low p.high p.fits (omega (arith, p.has, p.puts.many, written_within, written_size_lem, w.puts.many));
-            succeeds = w.succeeds;
-          }
+        pub written_more : Written (put_mid to (length buffer - to) buffer part) (clauses + 1) (to + t.bytes) t.place
+        written_more =
+            let p = is_put is in
+            record {
+              lines = w.lines ++ text_for p.clause;
+              puts = puts_more w.puts (text_for p.clause) (puts_part written_within p.puts);
+              upto = upto_more text (length buffer₀) w.upto p.reaches p.low p.high p.fits (omega (arith, p.has, p.puts.many, written_within, written_size_lem, w.puts.many));
+              succeeds = w.succeeds;
+            }

@@ -1,86 +1,94 @@
 -- What `take_clause` cites of the readers and the writer of a clause.
-use mathlib.Core.Path.{◌≡◌, refl, sym, subst}
-use mathlib.Core.Bool.{true, false, not}
-use mathlib.Core.List.{List}
+use mathlib.Core.Path.{◌≡◌, refl, sym, ◌∙◌, subst}
 use Prim.Native.Nat.{ℕ, ◌≤◌, ◌<◌}
 use lib.ListN.{length}
-use Rattle.groundwork.proofs.Truth.{never_both, not-true, not-false}
+use Rattle.std.specs.Prelude.{Option, Some, None, Result, Ok, Err}
+use Rattle.std.specs.Option.{ok_or}
+use Rattle.std.specs.Result.{MatchResult, IsErrAnd}
+use Rattle.groundwork.proofs.Truth.{never_both}
 use Rattle.theory.specs.Text.{Bytes}
 use Rattle.clause_theory.specs.Clauses.{Clause, begin}
 use Rattle.clause_theory.specs.Import.{clause_variables}
+use Rattle.clause_theory.specs.declared.ImportRefusal.TheVariants.{NoClauses, OverLimit}
 use Rattle.clause_tokens.specs.NextTokens.{tokens_at}
-use Rattle.clauses.specs.Endings.{Reaches, Fails, EndFound, found_clause, found_none}
-use Rattle.clauses.specs.declared.Ending.{Ending}
-use Rattle.clause_variables.specs.Variables.{Gathered, Known, all_known, over, VariablesFound}
+use Rattle.clauses.specs.Endings.{Reaches, EndFound, found_clause, found_none}
 use Rattle.clause_variables.specs.declared.Variables.{Variables}
+use Rattle.clause_variables.specs.Variables.{Gathered, Known, all_known, over, VariablesFound}
 use Rattle.clause_variables.proofs.Gathering.{too_many_unfit}
 use Rattle.clause_lines.specs.WholeClauses.{ClausePut, clause_put, not_put, ClauseReady, LinesPut}
-use Rattle.clause_lines.specs.declared.Lines.{Lines}
-use Rattle.imports.specs.declared.Taken.{Taken}
 use Rattle.imports.specs.Takings.{ClauseTaken, is_taken, is_past_lem, is_unfit_lem}
 use Rattle.imports.proofs.ClauseByClause.{clause_at}
 
-module _ {text : Bytes} {at : ℕ} {e : Ending} (found : EndFound text at e) where
-  pub taken_unfit : {page : Bytes} (r : Taken) → (r.fault ≡ 25) × (r.place ≡ e.place) → not e.fine ≡ true → ClauseTaken text at page r page
-  taken_unfit {page} r told refused = by found
-    where
-      by : EndFound text at e → ClauseTaken text at page r page
-      by (found_clause c fine low high reaches) = never_both fine (not-true e.fine refused)
-      by (found_none not_fine fails) = is_unfit_lem told.0 (subst (Fails (length text) begin (tokens_at text at)) (sym told.1) fails)
+-- what `ok_or` refuses and passes on
+pub refused_or : {A E : Type 0} (o : Option A) {e f : E} {r : Result A E} → r ≡ ok_or o e → r ≡ Err f → (o ≡ None) × (f ≡ e)
+refused_or None told is = (refl, let h = sym told ∙ is in cc)
+refused_or (Some a) told is = let h = sym told ∙ is in cc
 
-  module _ (accepted : not e.fine ≡ false) where
-    -- the clause that was read
-    record Read : Type 0 where
-      clause : Clause
-      low : at < e.place
-      high : e.place ≤ length text
-      reaches : Reaches begin (tokens_at text at) clause (tokens_at text e.place)
+pub passed_or : {A E : Type 0} (o : Option A) (e : E) {a : A} {r : Result A E} → r ≡ ok_or o e → r ≡ Ok a → o ≡ Some a
+passed_or None e told is = let h = sym told ∙ is in cc
+passed_or (Some b) e told is = let h = sym told ∙ is in cc
 
-    was_read : Read
-    was_read = by found
-      where
-        by : EndFound text at e → Read
-        by (found_clause c fine low high reaches) = record { clause = c; low = low; high = high; reaches = reaches }
-        by (found_none not_fine fails) = never_both (not-false e.fine accepted) not_fine
+-- what `map_err` passes on, and of what it makes a refusal
+pub passed_mapped : {A E F : Type 0} (make : E → F) (q : Result A E) {r : Result A F} {a : A} → MatchResult q (λ b. r ≡ Ok b) (λ e. IsErrAnd r (λ f. f ≡ make e)) → r ≡ Ok a → q ≡ Ok a
+passed_mapped make (Ok b) told is = let h = sym told ∙ is in cc
+passed_mapped make (Err e) told is = elim (subst (λ s. IsErrAnd s (λ f. f ≡ make e)) is told) [ ]
 
-    module _ (v : Variables) {names : List ℕ} (gathers : VariablesFound text at v names) where
-      variables_known : Known v names (clause_variables was_read.clause)
-      variables_known = gathers.found was_read.clause (clause_at was_read.reaches)
+pub refused_mapped : {A E F : Type 0} (make : E → F) (q : Result A E) {r : Result A F} {f : F} → MatchResult q (λ b. r ≡ Ok b) (λ e. IsErrAnd r (λ g. g ≡ make e)) → r ≡ Err f → (e : E) × (q ≡ Err e) × (f ≡ make e)
+refused_mapped make (Ok b) told is = let h = sym told ∙ is in cc
+refused_mapped make (Err e) told is = (e, refl, subst (λ s. IsErrAnd s (λ g. g ≡ make e)) is told)
 
-      pub taken_many : {page : Bytes} (r : Taken) → (r.fault ≡ 26) × (r.place ≡ e.place) → not v.fine ≡ true → ClauseTaken text at page r page
-      taken_many {page} r told refused = by variables_known
-        where
-          by : Known v names (clause_variables was_read.clause) → ClauseTaken text at page r page
-          by (all_known fine gathered) = never_both fine (not-true v.fine refused)
-          by (over not_fine past) =
-              is_past_lem was_read.clause (tokens_at text e.place) told.0 was_read.reaches (λ fits. never_both fits (too_many_unfit was_read.clause past))
+-- the clause that was read
+record Read (text : Bytes) (at place : ℕ) : Type 0 where
+  clause : Clause
+  low : at < place
+  high : place ≤ length text
+  reaches : Reaches begin (tokens_at text at) clause (tokens_at text place)
 
-      module _ (few : not v.fine ≡ false) where
-        gathered_all : Gathered names v.named v.lones (clause_variables was_read.clause)
-        gathered_all = by variables_known
+module _ {text : Bytes} {at : ℕ} where
+  unfit : {number : ℕ} {page : Bytes} {place : ℕ} → EndFound text at (Err place) → ClauseTaken text at number page page (Err (NoClauses place))
+  unfit (found_none fails) = is_unfit_lem fails
+
+  read_of : {place : ℕ} → EndFound text at (Ok place) → Read text at place
+  read_of (found_clause c low high reaches) = record { clause = c; low = low; high = high; reaches = reaches }
+
+  module _ {q : Result ℕ ℕ} (found : EndFound text at q) where
+    pub taken_unfit : {number : ℕ} {page : Bytes} {place : ℕ} → q ≡ Err place → ClauseTaken text at number page page (Err (NoClauses place))
+    taken_unfit is = unfit (subst (EndFound text at) is found)
+
+    module _ {place : ℕ} (ended : q ≡ Ok place) where
+      was_read : Read text at place
+      was_read = read_of (subst (EndFound text at) ended found)
+
+      module _ {r : Option (Unit {0})} {v : Variables} (gathers : VariablesFound text at r v) where
+        variables_known : {s : Option (Unit {0})} → r ≡ s → Known v (clause_variables was_read.clause) s
+        variables_known is = subst (Known v (clause_variables was_read.clause)) is (gathers.found was_read.clause (clause_at was_read.reaches))
+
+        pub taken_many : {number : ℕ} {page : Bytes} → r ≡ None → ClauseTaken text at number page page (Err (OverLimit number))
+        taken_many {number} {page} is = by (variables_known is)
           where
-            by : Known v names (clause_variables was_read.clause) → Gathered names v.named v.lones (clause_variables was_read.clause)
-            by (all_known fine gathered) = gathered
-            by (over not_fine past) = never_both (not-false v.fine few) not_fine
+            by : Known v (clause_variables was_read.clause) None → ClauseTaken text at number page page (Err (OverLimit number))
+            by (over past) = is_past_lem was_read.clause (tokens_at text place) was_read.reaches (λ fits. never_both fits (too_many_unfit was_read.clause past))
 
-        pub taken_ready : ClauseReady text at names v.named
-        taken_ready = record { clause = was_read.clause; alone = v.lones; stands = clause_at was_read.reaches; gathered = gathered_all }
+        module _ (few : r ≡ Some tt) where
+          gathered_of : Known v (clause_variables was_read.clause) (Some tt) → Gathered v (clause_variables was_read.clause)
+          gathered_of (all_known gathered) = gathered
 
-        module _ {page₀ page : Bytes} (l : Lines) (put : LinesPut text at names v.named page₀ l page) where
-          lines_put : ClausePut was_read.clause page₀ l page
-          unfolding taken_ready
-          lines_put = put.put taken_ready
+          pub taken_ready : ClauseReady text at v
+          taken_ready = record { clause = was_read.clause; stands = clause_at was_read.reaches; gathered = gathered_of (variables_known few) }
 
-          pub taken_over : (r : Taken) → (r.fault ≡ 26) × (r.place ≡ e.place) → not l.fine ≡ true → ClauseTaken text at page₀ r page
-          taken_over r told refused = by lines_put
-            where
-              by : ClausePut was_read.clause page₀ l page → ClauseTaken text at page₀ r page
-              by (clause_put fine fits room puts) = never_both fine (not-true l.fine refused)
-              by (not_put not_fine lacks) = is_past_lem was_read.clause (tokens_at text e.place) told.0 was_read.reaches lacks
+          module _ {page₀ page : Bytes} {b : Option ℕ} (put : LinesPut text at v page₀ b page) where
+            lines_put : {s : Option ℕ} → b ≡ s → ClausePut was_read.clause page₀ page s
+            unfolding taken_ready
+            lines_put is = subst (ClausePut was_read.clause page₀ page) is (put.put taken_ready)
 
-          pub taken_lines : not l.fine ≡ false → ClauseTaken text at page₀ (record { fault = 0; place = e.place; bytes = l.bytes }) page
-          taken_lines written = by lines_put
-            where
-              by : ClausePut was_read.clause page₀ l page → ClauseTaken text at page₀ (record { fault = 0; place = e.place; bytes = l.bytes }) page
-              by (clause_put fine fits room puts) = is_taken was_read.clause refl was_read.reaches was_read.low was_read.high fits room puts
-              by (not_put not_fine lacks) = never_both (not-false l.fine written) not_fine
+            pub taken_over : {number : ℕ} → b ≡ None → ClauseTaken text at number page₀ page (Err (OverLimit number))
+            taken_over {number} is = by (lines_put is)
+              where
+                by : ClausePut was_read.clause page₀ page None → ClauseTaken text at number page₀ page (Err (OverLimit number))
+                by (not_put lacks) = is_past_lem was_read.clause (tokens_at text place) was_read.reaches lacks
+
+            pub taken_lines : {number bytes : ℕ} → b ≡ Some bytes → ClauseTaken text at number page₀ page (Ok (record { place = place; bytes = bytes }))
+            taken_lines {number} {bytes} is = by (lines_put is)
+              where
+                by : ClausePut was_read.clause page₀ page (Some bytes) → ClauseTaken text at number page₀ page (Ok (record { place = place; bytes = bytes }))
+                by (clause_put fits room puts) = is_taken was_read.clause was_read.reaches was_read.low was_read.high fits room puts
