@@ -8,6 +8,7 @@ use native.Mathlib.Omega.{arith}
 use lib.Dec.{ltb}
 use lib.IntN.{ℤ}
 use lib.ListN.{length, drop}
+use Rattle.std.specs.Prelude.{Result, Ok, Err}
 use Rattle.groundwork.proofs.Lists.{member_get_d}
 use Rattle.groundwork.proofs.Truth.{by_truth, ltb-lt, ltb-ge}
 use Rattle.theory.specs.Lists.{is_empty}
@@ -25,18 +26,16 @@ use Rattle.theory.proofs.Judging.Keys.{on_arity}
 use Rattle.theory.proofs.Judging.LineWriting.{writes_letter}
 use Rattle.theory.proofs.Judging.Variables.{member_numbered}
 use Rattle.theory.proofs.Judging.Sections.{facts_stand}
+use Rattle.words.specs.declared.Words.{Words}
+use Rattle.tables.specs.declared.Signature.{Signature}
 use Rattle.tables.specs.declared.State.{State}
 use Rattle.tables.specs.declared.Opened.{Opened}
 use Rattle.tables.specs.declared.Fault.{Fault}
 use Rattle.tables.specs.declared.Fault.TheVariants.{NotGround}
-use Rattle.tables.specs.declared.Fielding.{Fielding}
-use Rattle.tables.specs.declared.Fielding.TheVariants.{Misread}
-use Rattle.tables.specs.declared.Closing.{Closing}
-use Rattle.tables.specs.declared.Closing.TheVariants.{Done, Misclosed}
 use Rattle.tables.specs.Faults.{number_of, closing_number}
 use Rattle.tables.specs.Tables.{Tables, tables, SafeRows, Holds, Safe}
 use Rattle.tables.specs.Lines.{Passed, at, ClosedFor}
-use Rattle.tables.proofs.Outcomes.{done_misclosed, done_state, misclosed_fault}
+use Rattle.tables.proofs.Outcomes.{ok_never_err, same_ok, same_err}
 use Rattle.tables.proofs.PredicateSets.{key_alone}
 use Rattle.tables.proofs.Shipping.{ships_more}
 use Rattle.atoms.specs.Fields.{FieldTerm, ProgressTerms}
@@ -44,8 +43,8 @@ use Rattle.atoms.proofs.AtomLines.{atom_ended, atom_fault, count_terms, few_term
 use Rattle.facts.specs.Ends.{met_by, with_fact, ended, ClosesG}
 use Rattle.facts.proofs.Meeting.{met_is}
 
-pub g_fault : {manner : Manner} {m : Measure} {line : Bytes} {s : State} {w : Written} {o : Opened} {atom index many : ℕ} {variables₀ variables rows₀ rows : List ℕ} {r : Fielding} {f : Fault} → Passed manner G line s w o → index < length (drop 2 (fields_of line))
-    → FieldTerm m atom index (at (drop 2 (fields_of line)) index) many variables₀ rows₀ r variables rows → r ≡ Misread f → fault manner w line ≡ number_of f
+pub g_fault : {manner : Manner} {m : Measure} {line : Bytes} {s : State} {w : Written} {o : Opened} {atom index many : ℕ} {variables₀ variables : List Words} {rows₀ rows : List ℕ} {r : Result ℕ Fault} {f : Fault} → Passed manner G line s w o → index < length (drop 2 (fields_of line))
+    → FieldTerm m atom index (at (drop 2 (fields_of line)) index) many variables₀ rows₀ r variables rows → r ≡ Err f → fault manner w line ≡ number_of f
 unfolding tests fact_tests
 g_fault {line = line} {w = w} passed inside done bad = passed.left ∙ atom_fault G false (_ ∷ []) _ (fields_of line) w.pack inside done bad
 
@@ -53,21 +52,21 @@ g_fault {line = line} {w = w} passed inside done bad = passed.left ∙ atom_faul
 
 module _ (o : Opened) (s : State) where
   -- the numbers of its last tests, where the second is told only of a ground fact
-  end_number : (varies met meets : Bool) → (varies ≡ false → met ≡ meets) → {r : Closing} → r ≡ cond varies (Misclosed NotGround) (ended met o s) → first_given (test 21 varies ∷ test 22 (not meets) ∷ []) ≡ closing_number r
+  end_number : (varies met meets : Bool) → (varies ≡ false → met ≡ meets) → {r : Result State Fault} → r ≡ cond varies (Err NotGround) (ended met o s) → first_given (test 21 varies ∷ test 22 (not meets) ∷ []) ≡ closing_number r
   unfolding first_given
   end_number true met meets same is = sym (ap closing_number is)
   end_number false true meets same is = rw (← same refl) (sym (ap closing_number is))
   end_number false false meets same is = rw (← same refl) (sym (ap closing_number is))
 
-  end_done : (varies met : Bool) {r : Closing} {next : State} → r ≡ cond varies (Misclosed NotGround) (ended met o s) → r ≡ Done next → (varies ≡ false) × (met ≡ true) × (with_fact o.predicate s ≡ next)
-  end_done true met is e = absurd (done_misclosed (sym e ∙ is))
-  end_done false true is e = (refl, refl, done_state (sym is ∙ e))
-  end_done false false is e = absurd (done_misclosed (sym e ∙ is))
+  end_done : (varies met : Bool) {r : Result State Fault} {next : State} → r ≡ cond varies (Err NotGround) (ended met o s) → r ≡ Ok next → (varies ≡ false) × (met ≡ true) × (with_fact o.predicate s ≡ next)
+  end_done true met is e = absurd (ok_never_err (sym e ∙ is))
+  end_done false true is e = (refl, refl, same_ok (sym is ∙ e))
+  end_done false false is e = absurd (ok_never_err (sym e ∙ is))
 
-  end_other : (varies met : Bool) {r : Closing} {f : Fault} → r ≡ cond varies (Misclosed NotGround) (ended met o s) → r ≡ Misclosed f → number_of f ≡ 13 → ⊥
-  end_other true met is e n = omega (arith, ap number_of (misclosed_fault (sym is ∙ e)))
-  end_other false true is e n = done_misclosed (sym is ∙ e)
-  end_other false false is e n = omega (arith, ap number_of (misclosed_fault (sym is ∙ e)))
+  end_other : (varies met : Bool) {r : Result State Fault} {f : Fault} → r ≡ cond varies (Err NotGround) (ended met o s) → r ≡ Err f → number_of f ≡ 13 → ⊥
+  end_other true met is e n = omega (arith, ap number_of (same_err (sym is ∙ e)))
+  end_other false true is e n = ok_never_err (sym is ∙ e)
+  end_other false false is e n = omega (arith, ap number_of (same_err (sym is ∙ e)))
 
 -- ---- whether the fact is ground
 
@@ -80,7 +79,7 @@ some_numbered : (xs : List Bytes) → 0 < length (numbered [] xs) → xs ≡ [] 
 unfolding numbered
 some_numbered xs h e = omega (arith, ap (λ (ys : List Bytes). length (numbered [] ys)) e)
 
-module _ {m : Measure} {fs : List Bytes} {many : ℕ} {variables rows₀ rows : List ℕ} (terms : Finished m 0 fs (numbered [] (all_variables (terms_from fs))) many variables rows₀ rows) where
+module _ {m : Measure} {fs : List Bytes} {many : ℕ} {variables : List Words} {rows₀ rows : List ℕ} (terms : Finished m 0 fs (numbered [] (all_variables (terms_from fs))) many variables rows₀ rows) where
   ground_told : ltb 0 many ≡ not (is_empty (all_variables (terms_from fs)))
   ground_told =
       by_truth (λ (b : Bool). b ≡ not (is_empty (all_variables (terms_from fs)))) (ltb 0 many)
@@ -95,7 +94,7 @@ module _ {m : Measure} {fs : List Bytes} {many : ℕ} {variables rows₀ rows : 
 
 -- ---- the line's end
 
-module _ {manner : Manner} {line : Bytes} {t : Tables} {s : State} {w : Written} {o : Opened} {many : ℕ} {variables rows : List ℕ} (holds : Holds t s w) (safe : Safe t s) (passed : Passed manner G line s w o)
+module _ {manner : Manner} {line : Bytes} {t : Tables} {s : State} {w : Written} {o : Opened} {many : ℕ} {variables : List Words} {rows : List ℕ} (holds : Holds t s w) (safe : Safe t s) (passed : Passed manner G line s w o)
     (done : ProgressTerms (measure_in w.pack) 0 [] (drop 2 (fields_of line)) (length (drop 2 (fields_of line))) many variables t.rows rows) where
   abbrev fact : Atom
   fact = atom_from (fields_of line)
@@ -120,7 +119,7 @@ module _ {manner : Manner} {line : Bytes} {t : Tables} {s : State} {w : Written}
       (λ j less. rw key at (holds.claims.at p j below (rw key less)))
       (on_arity (atom_key fact) w.pack.claims))
 
-  fact_holds : Holds (tables t.names t.signatures t.claims variables rows t.slots) (with_fact o.predicate s) (record { pack = add G (fields_of line) w.pack; ended = w.ended })
+  fact_holds : Holds (tables t.signatures t.claims variables rows t.slots) (with_fact o.predicate s) (record { pack = add G (fields_of line) w.pack; ended = w.ended })
   unfolding add
   fact_holds = record {
     declares = holds.declares;
@@ -135,7 +134,7 @@ module _ {manner : Manner} {line : Bytes} {t : Tables} {s : State} {w : Written}
     ended = holds.ended;
   }
 
-  pub g_close : {r : Closing} → ClosesG o s many t.signatures t.claims rows r → ClosedFor manner line w r (tables t.names t.signatures t.claims variables rows t.slots)
+  pub g_close : {r : Result State Fault} → ClosesG o s many t.signatures t.claims rows r → ClosedFor manner line w r (tables t.signatures t.claims variables rows t.slots)
   unfolding tests fact_tests atom_from
   g_close closes = record {
     answer =
@@ -146,12 +145,12 @@ module _ {manner : Manner} {line : Bytes} {t : Tables} {s : State} {w : Written}
   }
 
 -- the ranges are kept
-pub g_safe : {t : Tables} {s : State} {o : Opened} {many : ℕ} {variables rows : List ℕ} {r : Closing} → Safe t s → length variables ≡ 64 → length rows ≡ 1224 → SafeRows rows → ClosesG o s many t.signatures t.claims rows r
-    → (next : State) → r ≡ Done next → Safe (tables t.names t.signatures t.claims variables rows t.slots) next
+pub g_safe : {t : Tables} {s : State} {o : Opened} {many : ℕ} {variables : List Words} {rows : List ℕ} {r : Result State Fault} → Safe t s → length variables ≡ 32 → length rows ≡ 1224 → SafeRows rows → ClosesG o s many t.signatures t.claims rows r
+    → (next : State) → r ≡ Ok next → Safe (tables t.signatures t.claims variables rows t.slots) next
 g_safe {t} {s} {o} {many} {rows = rows} safe name_size row_size small closes next fine =
     let state = safe.state in
     rw (← (end_done o s (ltb 0 many) (met_by o t.signatures t.claims rows) closes.answer fine).2) record {
-      sizes = record { names = safe.sizes.names; signatures = safe.sizes.signatures; claims = safe.sizes.claims; variables = name_size; rows = row_size; slots = safe.sizes.slots };
+      sizes = record { signatures = safe.sizes.signatures; claims = safe.sizes.claims; variables = name_size; rows = row_size; slots = safe.sizes.slots };
       state = record { predicates = state.predicates; rules = state.rules; head = state.head; subgoals = state.subgoals; variables = state.variables; slots = state.slots; multipliers = state.multipliers; lines = state.lines };
       signatures = safe.signatures;
       claims = safe.claims;
@@ -159,5 +158,5 @@ g_safe {t} {s} {o} {many} {rows = rows} safe name_size row_size small closes nex
       slots = safe.slots;
     }
 
-pub g_other : {o : Opened} {s : State} {many : ℕ} {signatures : List ℕ} {claims : List ℤ} {rows : List ℕ} {r : Closing} → ClosesG o s many signatures claims rows r → (f : Fault) → r ≡ Misclosed f → number_of f ≡ 13 → ⊥
+pub g_other : {o : Opened} {s : State} {many : ℕ} {signatures : List Signature} {claims : List ℤ} {rows : List ℕ} {r : Result State Fault} → ClosesG o s many signatures claims rows r → (f : Fault) → r ≡ Err f → number_of f ≡ 13 → ⊥
 g_other {o} {s} {many} {signatures} {claims} {rows} closes f = end_other o s (ltb 0 many) (met_by o signatures claims rows) closes.answer

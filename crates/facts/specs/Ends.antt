@@ -1,14 +1,14 @@
 -- The end of a `G` line, by the tables: the claims on its predicate at the sizes of its arguments, its last tests, and what it
 -- leaves in the state.
-use Rattle.std.specs.Prelude.{◌≡◌, Bool, true, cond, ◌&&◌, List, ℕ, zero, suc, ◌+◌, ◌^◌, ltb, ℤ, pos, ◌+ℤ◌, ◌*ℤ◌, get_or}
+use Rattle.std.specs.Prelude.{◌≡◌, Bool, true, cond, ◌&&◌, List, ℕ, zero, suc, ◌+◌, ◌^◌, ltb, ℤ, pos, ◌+ℤ◌, ◌*ℤ◌, get_or, Result, Ok, Err}
 use Rattle.std.specs.Int.Bits.{bit_or}
 use Rattle.std.specs.Int.Signed.{non_neg}
+use Rattle.tables.specs.declared.Signature.{Signature}
 use Rattle.tables.specs.declared.State.{State}
 use Rattle.tables.specs.declared.Opened.{Opened}
+use Rattle.tables.specs.declared.Fault.{Fault}
 use Rattle.tables.specs.declared.Fault.TheVariants.{NotGround, UnmetClaim}
-use Rattle.tables.specs.declared.Closing.{Closing}
-use Rattle.tables.specs.declared.Closing.TheVariants.{Done, Misclosed}
-use Rattle.tables.specs.Tables.{claim_place, row_place}
+use Rattle.tables.specs.Tables.{signature_at, claim_place, row_place}
 
 -- the claim at a place, with the first arguments of atom 0 put in by the constants of their rows
 unfoldable pub value_to : List ℤ → ℕ → List ℕ → ℕ → ℤ
@@ -28,12 +28,12 @@ abbrev pub with_fact : ℕ → State → State
 with_fact predicate s = with_shipped (bit_or s.shipped (2 ^ predicate)) s
 
 -- whether all claims on the line's predicate are
-abbrev pub met_by : Opened → List ℕ → List ℤ → List ℕ → Bool
-met_by o signatures claims rows = met_to claims o.predicate rows (get_or signatures o.predicate 0) (get_or signatures (64 + o.predicate) 0)
+abbrev pub met_by : Opened → List Signature → List ℤ → List ℕ → Bool
+met_by o signatures claims rows = met_to claims o.predicate rows (signature_at signatures o.predicate).arity (signature_at signatures o.predicate).claims
 
 -- what the claims leave of a ground fact
-abbrev pub ended : Bool → Opened → State → Closing
-ended met o s = cond met (Done (with_fact o.predicate s)) (Misclosed UnmetClaim)
+abbrev pub ended : Bool → Opened → State → Result State Fault
+ended met o s = cond met (Ok (with_fact o.predicate s)) (Err UnmetClaim)
 
-pub record ClosesG (o : Opened) (s : State) (many : ℕ) (signatures : List ℕ) (claims : List ℤ) (rows : List ℕ) (r : Closing) : Type 0 where
-  pub answer : r ≡ cond (ltb 0 many) (Misclosed NotGround) (ended (met_by o signatures claims rows) o s)
+pub record ClosesG (o : Opened) (s : State) (many : ℕ) (signatures : List Signature) (claims : List ℤ) (rows : List ℕ) (r : Result State Fault) : Type 0 where
+  pub answer : r ≡ cond (ltb 0 many) (Err NotGround) (ended (met_by o signatures claims rows) o s)

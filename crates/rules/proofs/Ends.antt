@@ -5,15 +5,15 @@ use mathlib.Core.List.{List}
 use Prim.Native.Nat.{ℕ, ◌+◌, ◌^◌, ◌≤◌, ◌<◌}
 use lib.Bits.{bit_or}
 use lib.Dec.{leb, ltb}
-use lib.ListN.{get_or}
+use Rattle.tables.specs.Tables.{signature_at}
+use Rattle.std.specs.Prelude.{Result, Ok, Err}
 use Rattle.groundwork.proofs.Truth.{never_both, leb-gt, ltb-ge, or_not_left, or_not_right}
 use Rattle.theory.specs.Packs.{rule_limit, subgoal_limit, variable_limit}
+use Rattle.tables.specs.declared.Signature.{Signature}
 use Rattle.tables.specs.declared.State.{State}
 use Rattle.tables.specs.declared.Opened.{Opened}
 use Rattle.tables.specs.declared.Fault.{Fault}
 use Rattle.tables.specs.declared.Fault.TheVariants.{CountLimit}
-use Rattle.tables.specs.declared.Closing.{Closing}
-use Rattle.tables.specs.declared.Closing.TheVariants.{Done, Misclosed}
 use Rattle.tables.proofs.Outcomes.{line_passes, line_fails}
 use Rattle.rules.specs.Ends.{with_rule, with_subgoal, is_past, ClosesH, SlotsAdded, ClosesB}
 
@@ -30,29 +30,29 @@ module _ (limit n many : ℕ) where
   pub room_left : (past : Bool) → past ≡ is_past limit n many → past ≡ false → n < limit
   room_left past test e = (within (sym test ∙ e)).room
 
-  module _ (done : State) {r : Closing} (answer : r ≡ cond (is_past limit n many) (Misclosed CountLimit) (Done done)) where
-    pub limits_kept : {next : State} → r ≡ Done next → Within limit n many × (done ≡ next)
+  module _ (done : State) {r : Result State Fault} (answer : r ≡ cond (is_past limit n many) (Err CountLimit) (Ok done)) where
+    pub limits_kept : {next : State} → r ≡ Ok next → Within limit n many × (done ≡ next)
     limits_kept e =
         let found = line_passes CountLimit done (is_past limit n many) answer e in
         (within found.0, found.1)
 
-    pub limit_broken : {f : Fault} → r ≡ Misclosed f → f ≡ CountLimit
+    pub limit_broken : {f : Fault} → r ≡ Err f → f ≡ CountLimit
     limit_broken e = sym (line_fails CountLimit done (is_past limit n many) answer e).1
 
 -- ---- what the functions answer
 
 module _ (o : Opened) (s : State) (many : ℕ) (past : Bool) where
   module _ (test : past ≡ is_past rule_limit s.rules many) where
-    pub head_refused : past ≡ true → ClosesH o s many (Misclosed CountLimit)
+    pub head_refused : past ≡ true → ClosesH o s many (Err CountLimit)
     head_refused e = record { answer = rw (sym test ∙ e) }
 
-    pub head_done : past ≡ false → {headed : ℕ} → headed ≡ bit_or s.headed (2 ^ o.predicate) → ClosesH o s many (Done (with_rule o.predicate headed many s))
+    pub head_done : past ≡ false → {headed : ℕ} → headed ≡ bit_or s.headed (2 ^ o.predicate) → ClosesH o s many (Ok (with_rule o.predicate headed many s))
     head_done e is = record { answer = rw (sym test ∙ e, is) }
 
-  module _ (signatures slots₀ : List ℕ) (test : past ≡ is_past subgoal_limit s.subgoals many) where
-    pub subgoal_refused : past ≡ true → ClosesB o s many signatures slots₀ (Misclosed CountLimit) slots₀
+  module _ (signatures : List Signature) (slots₀ : List ℕ) (test : past ≡ is_past subgoal_limit s.subgoals many) where
+    pub subgoal_refused : past ≡ true → ClosesB o s many signatures slots₀ (Err CountLimit) slots₀
     subgoal_refused e = record { answer = rw (sym test ∙ e); slots_are = never_both (sym test ∙ e) }
 
-    pub subgoal_done : past ≡ false → (count : ℕ) (slots : List ℕ) → count ≡ get_or signatures (64 + o.predicate) 0 → SlotsAdded slots₀ s.slots o.predicate count s.subgoals slots
-        → ClosesB o s many signatures slots₀ (Done (with_subgoal (s.slots + count) many s)) slots
+    pub subgoal_done : past ≡ false → (count : ℕ) (slots : List ℕ) → count ≡ (signature_at signatures o.predicate).claims → SlotsAdded slots₀ s.slots o.predicate count s.subgoals slots
+        → ClosesB o s many signatures slots₀ (Ok (with_subgoal (s.slots + count) many s)) slots
     subgoal_done e count slots counted added = record { answer = rw (sym test ∙ e, counted); slots_are = λ within. rw counted at added }

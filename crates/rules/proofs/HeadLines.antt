@@ -4,6 +4,7 @@ use mathlib.Core.List.{List, [], append-nil}
 use Prim.Native.Nat.{ℕ, ◌≤◌, ◌<◌}
 use native.Mathlib.Omega.{arith}
 use lib.ListN.{length, drop}
+use Rattle.std.specs.Prelude.{Result, Ok, Err}
 use Rattle.groundwork.proofs.Lists.{length_end}
 use Rattle.theory.specs.Lists.{ending}
 use Rattle.theory.specs.Text.{Bytes, fields_of}
@@ -17,14 +18,11 @@ use Rattle.theory.specs.Faults.{Manner, no_rule, first_given, head_tests, tests,
 use Rattle.theory.proofs.Judging.LastRule.{last_of_end}
 use Rattle.theory.proofs.Judging.LineWriting.{writes_letter}
 use Rattle.theory.proofs.Judging.RuleCounts.{multiplier_lines_end}
+use Rattle.words.specs.declared.Words.{Words}
 use Rattle.tables.specs.declared.State.{State}
 use Rattle.tables.specs.declared.Opened.{Opened}
 use Rattle.tables.specs.declared.Fault.{Fault}
 use Rattle.tables.specs.declared.Fault.TheVariants.{CountLimit}
-use Rattle.tables.specs.declared.Fielding.{Fielding}
-use Rattle.tables.specs.declared.Fielding.TheVariants.{Misread}
-use Rattle.tables.specs.declared.Closing.{Closing}
-use Rattle.tables.specs.declared.Closing.TheVariants.{Done, Misclosed}
 use Rattle.tables.specs.Faults.{number_of}
 use Rattle.tables.specs.Tables.{Tables, tables, slots_of, SafeRows, RuleStands, Holds, Safe}
 use Rattle.tables.specs.Lines.{OldPredicate, Passed, at, ClosedFor}
@@ -35,8 +33,8 @@ use Rattle.atoms.proofs.AtomLines.{atom_ended, atom_fault, few_terms, Finished, 
 use Rattle.rules.specs.Ends.{with_head, is_past, ClosesH}
 use Rattle.rules.proofs.Ends.{limits_kept, limit_broken}
 
-pub h_fault : {manner : Manner} {m : Measure} {line : Bytes} {s : State} {w : Written} {o : Opened} {atom index many : ℕ} {variables₀ variables rows₀ rows : List ℕ} {r : Fielding} {f : Fault} → Passed manner H line s w o → index < length (drop 2 (fields_of line))
-    → FieldTerm m atom index (at (drop 2 (fields_of line)) index) many variables₀ rows₀ r variables rows → r ≡ Misread f → fault manner w line ≡ number_of f
+pub h_fault : {manner : Manner} {m : Measure} {line : Bytes} {s : State} {w : Written} {o : Opened} {atom index many : ℕ} {variables₀ variables : List Words} {rows₀ rows : List ℕ} {r : Result ℕ Fault} {f : Fault} → Passed manner H line s w o → index < length (drop 2 (fields_of line))
+    → FieldTerm m atom index (at (drop 2 (fields_of line)) index) many variables₀ rows₀ r variables rows → r ≡ Err f → fault manner w line ≡ number_of f
 unfolding tests head_tests
 h_fault {line = line} {w = w} passed inside done bad = passed.left ∙ atom_fault H _ [] _ (fields_of line) w.pack inside done bad
 
@@ -53,10 +51,10 @@ variables_of_head : (fields : List Bytes) → head_variables fields ≡ numbered
 unfolding rule_variables atoms_variables atom_from
 variables_of_head fields = ap (numbered []) (append-nil (all_variables (terms_from (drop 2 fields))))
 
-module _ {line : Bytes} {t : Tables} {s : State} {w : Written} {o : Opened} {many : ℕ} {variables rows : List ℕ} (holds : Holds t s w) (named : OldPredicate (atom_key (atom_from (fields_of line))) 2 line w o) (few : many ≤ 16)
+module _ {line : Bytes} {t : Tables} {s : State} {w : Written} {o : Opened} {many : ℕ} {variables : List Words} {rows : List ℕ} (holds : Holds t s w) (named : OldPredicate (atom_key (atom_from (fields_of line))) 2 line w o) (few : many ≤ 16)
     (terms : Finished (measure_in w.pack) 0 (drop 2 (fields_of line)) (head_variables (fields_of line)) many variables t.rows rows) where
   abbrev filled : Tables
-  filled = tables t.names t.signatures t.claims variables rows t.slots
+  filled = tables t.signatures t.claims variables rows t.slots
 
   head_stands : RuleStands filled (with_head o.predicate many s) (on_rules (ending (rule_begun (fields_of line))) w.pack) (rule_begun (fields_of line))
   unfolding atom_from mathlib.Core.List.flat_map
@@ -88,8 +86,8 @@ module _ {line : Bytes} {t : Tables} {s : State} {w : Written} {o : Opened} {man
     ended = holds.ended;
   }
 
-pub h_close : {manner : Manner} {line : Bytes} {t : Tables} {s : State} {w : Written} {o : Opened} {many : ℕ} {variables rows : List ℕ} {r : Closing} → Holds t s w → Safe t s → Passed manner H line s w o
-    → ProgressTerms (measure_in w.pack) 0 [] (drop 2 (fields_of line)) (length (drop 2 (fields_of line))) many variables t.rows rows → ClosesH o s many r → ClosedFor manner line w r (tables t.names t.signatures t.claims variables rows t.slots)
+pub h_close : {manner : Manner} {line : Bytes} {t : Tables} {s : State} {w : Written} {o : Opened} {many : ℕ} {variables : List Words} {rows : List ℕ} {r : Result State Fault} → Holds t s w → Safe t s → Passed manner H line s w o
+    → ProgressTerms (measure_in w.pack) 0 [] (drop 2 (fields_of line)) (length (drop 2 (fields_of line))) many variables t.rows rows → ClosesH o s many r → ClosedFor manner line w r (tables t.signatures t.claims variables rows t.slots)
 unfolding tests head_tests first_given
 h_close {line = line} {s = s} {w = w} {many = many} holds safe passed done closes =
     let terms = finished (few_terms passed.named holds safe) (variables_of_head (fields_of line)) done in
@@ -101,13 +99,13 @@ h_close {line = line} {s = s} {w = w} {many = many} holds safe passed done close
     }
 
 -- the ranges are kept
-pub h_safe : {t : Tables} {s : State} {o : Opened} {many : ℕ} {variables rows : List ℕ} {r : Closing} → Safe t s → o.predicate < 32 → length variables ≡ 64 → length rows ≡ 1224 → SafeRows rows → ClosesH o s many r
-    → (next : State) → r ≡ Done next → Safe (tables t.names t.signatures t.claims variables rows t.slots) next
+pub h_safe : {t : Tables} {s : State} {o : Opened} {many : ℕ} {variables : List Words} {rows : List ℕ} {r : Result State Fault} → Safe t s → o.predicate < 32 → length variables ≡ 32 → length rows ≡ 1224 → SafeRows rows → ClosesH o s many r
+    → (next : State) → r ≡ Ok next → Safe (tables t.signatures t.claims variables rows t.slots) next
 unfolding slots_of
 h_safe {s = s} {many = many} safe place name_size row_size small closes next fine =
     let kept = limits_kept rule_limit s.rules many _ closes.answer fine in
     rw (← kept.1) record {
-      sizes = record { names = safe.sizes.names; signatures = safe.sizes.signatures; claims = safe.sizes.claims; variables = name_size; rows = row_size; slots = safe.sizes.slots };
+      sizes = record { signatures = safe.sizes.signatures; claims = safe.sizes.claims; variables = name_size; rows = row_size; slots = safe.sizes.slots };
       state = record {
         predicates = safe.state.predicates;
         rules = omega (arith, kept.0.room);
@@ -124,5 +122,5 @@ h_safe {s = s} {many = many} safe place name_size row_size small closes next fin
       slots = record { place = λ k h. absurd (omega arith); subgoal = λ k h. absurd (omega arith); few = λ subgoal. omega arith };
     }
 
-pub h_limit : {o : Opened} {s : State} {many : ℕ} {r : Closing} → ClosesH o s many r → (f : Fault) → r ≡ Misclosed f → f ≡ CountLimit
+pub h_limit : {o : Opened} {s : State} {many : ℕ} {r : Result State Fault} → ClosesH o s many r → (f : Fault) → r ≡ Err f → f ≡ CountLimit
 h_limit {s = s} {many = many} closes f = limit_broken rule_limit s.rules many _ closes.answer

@@ -7,6 +7,7 @@ use native.Mathlib.Omega.{arith}
 use borrow.Author.Count.{below_more}
 use lib.Dec.{leb, ltb}
 use lib.ListN.{length, get_or, drop, length-append}
+use Rattle.std.specs.Prelude.{Result, Ok, Err}
 use Rattle.groundwork.proofs.Lists.{get_d_member, length_end}
 use Rattle.groundwork.proofs.Truth.{by_truth, not-true, and_left, leb-gt}
 use Rattle.theory.specs.Lists.{◌∈◌, is_empty, ending}
@@ -26,16 +27,14 @@ use Rattle.theory.proofs.Judging.RuleVariables.{variables_of_more}
 use Rattle.theory.proofs.Judging.Variables.{head_variable, subgoal_variable}
 use Rattle.theory.proofs.Reading.Places.{each_and_last, places_every}
 use Rattle.theory.proofs.Reading.Presence.{is_filled}
+use Rattle.words.specs.declared.Words.{Words}
+use Rattle.tables.specs.declared.Signature.{Signature}
 use Rattle.tables.specs.declared.State.{State}
 use Rattle.tables.specs.declared.Opened.{Opened}
 use Rattle.tables.specs.declared.Fault.{Fault}
 use Rattle.tables.specs.declared.Fault.TheVariants.{CountLimit}
-use Rattle.tables.specs.declared.Fielding.{Fielding}
-use Rattle.tables.specs.declared.Fielding.TheVariants.{Read, Misread}
-use Rattle.tables.specs.declared.Closing.{Closing}
-use Rattle.tables.specs.declared.Closing.TheVariants.{Done, Misclosed}
 use Rattle.tables.specs.Faults.{number_of, closing_number}
-use Rattle.tables.specs.Tables.{Tables, tables, SafeRows, AtomStands, no_atom, subgoal_at, SlotStands, RuleStands, Holds, Safe}
+use Rattle.tables.specs.Tables.{signature_at, Tables, tables, SafeRows, AtomStands, no_atom, subgoal_at, SlotStands, RuleStands, Holds, Safe}
 use Rattle.tables.specs.Lines.{OldPredicate, Passed, at, ClosedFor}
 use Rattle.tables.proofs.Outcomes.{line_number}
 use Rattle.tables.proofs.PredicateSets.{set_changed}
@@ -62,16 +61,16 @@ b_begin line {t} {s} {w} holds stands =
       good = λ i h. absurd (omega arith);
     }
 
-pub b_field : {line : Bytes} {t : Tables} {s : State} {w : Written} {index many : ℕ} {variables₀ variables rows₁ rows : List ℕ} {r : Fielding} {n : ℕ} → index < 8
+pub b_field : {line : Bytes} {t : Tables} {s : State} {w : Written} {index many : ℕ} {variables₀ variables : List Words} {rows₁ rows : List ℕ} {r : Result ℕ Fault} {n : ℕ} → index < 8
     → index < length (drop 2 (fields_of line)) → length rows₁ ≡ 1224 → ProgressSubgoal line w s t index many variables₀ rows₁
-    → FieldTerm (measure_in w.pack) (subgoal_atom s.subgoals) index (at (drop 2 (fields_of line)) index) many variables₀ rows₁ r variables rows → r ≡ Read n → ProgressSubgoal line w s t (suc index) n variables rows
+    → FieldTerm (measure_in w.pack) (subgoal_atom s.subgoals) index (at (drop 2 (fields_of line)) index) many variables₀ rows₁ r variables rows → r ≡ Ok n → ProgressSubgoal line w s t (suc index) n variables rows
 b_field {line = line} {s = s} {index = index} place inside size before done fine = record {
   terms = λ room. term_field (omega arith) place inside size (before.terms room) (rw (subgoal_next s.subgoals room) at done) fine;
   good = λ i h. below_more (λ j. is_term (at (drop 2 (fields_of line)) j) ≡ true) index before.good (t_read done fine).0 i (omega arith);
 }
 
-pub b_fault : {manner : Manner} {m : Measure} {line : Bytes} {s : State} {w : Written} {o : Opened} {atom index many : ℕ} {variables₀ variables rows₀ rows : List ℕ} {r : Fielding} {f : Fault} → Passed manner B line s w o → index < length (drop 2 (fields_of line))
-    → FieldTerm m atom index (at (drop 2 (fields_of line)) index) many variables₀ rows₀ r variables rows → r ≡ Misread f → fault manner w line ≡ number_of f
+pub b_fault : {manner : Manner} {m : Measure} {line : Bytes} {s : State} {w : Written} {o : Opened} {atom index many : ℕ} {variables₀ variables : List Words} {rows₀ rows : List ℕ} {r : Result ℕ Fault} {f : Fault} → Passed manner B line s w o → index < length (drop 2 (fields_of line))
+    → FieldTerm m atom index (at (drop 2 (fields_of line)) index) many variables₀ rows₀ r variables rows → r ≡ Err f → fault manner w line ≡ number_of f
 unfolding tests subgoal_tests
 b_fault {line = line} {w = w} passed inside done bad = passed.left ∙ atom_fault B _ [] _ (fields_of line) w.pack inside done bad
 
@@ -96,8 +95,8 @@ module _ (line : Bytes) (w : Written) where
   variables_of_subgoal = variables_of_more rule.head rule.subgoals (added ∷ []) ∙ ap (numbered before) (append-nil (all_variables (terms_from (drop 2 (fields_of line)))))
 
   -- the line's fault is what closing it answers
-  subgoal_answer : (subgoals many : ℕ) (next : State) (r : Closing) → subgoals ≡ length rule.subgoals → (subgoals < 8 → ltb 16 many ≡ ltb 16 (length all))
-      → r ≡ cond (is_past subgoal_limit subgoals many) (Misclosed CountLimit) (Done next) → cond (leb 8 (length rule.subgoals) || ltb 16 (length all)) 12 0 ≡ closing_number r
+  subgoal_answer : (subgoals many : ℕ) (next : State) (r : Result State Fault) → subgoals ≡ length rule.subgoals → (subgoals < 8 → ltb 16 many ≡ ltb 16 (length all))
+      → r ≡ cond (is_past subgoal_limit subgoals many) (Err CountLimit) (Ok next) → cond (leb 8 (length rule.subgoals) || ltb 16 (length all)) 12 0 ≡ closing_number r
   subgoal_answer subgoals many next r count past answer =
       rw (← count)
       (by_truth (λ b. closing_number r ≡ cond (b || ltb 16 many) 12 0 → cond (b || ltb 16 (length all)) 12 0 ≡ closing_number r) (leb 8 subgoals)
@@ -107,13 +106,13 @@ module _ (line : Bytes) (w : Written) where
 
   -- ---- what the line leaves
 
-  module _ {t : Tables} {s : State} {o : Opened} {many : ℕ} {variables rows slots : List ℕ} (holds : Holds t s w) (named : OldPredicate (atom_key added) 2 line w o) (stands : RuleStands t s w.pack rule) (few : many ≤ 16)
-      (terms : Finished (measure_in w.pack) (suc s.subgoals) (drop 2 (fields_of line)) all many variables t.rows rows) (laid : SlotsAdded t.slots s.slots o.predicate (get_or t.signatures (64 + o.predicate) 0) s.subgoals slots) where
+  module _ {t : Tables} {s : State} {o : Opened} {many : ℕ} {variables : List Words} {rows slots : List ℕ} (holds : Holds t s w) (named : OldPredicate (atom_key added) 2 line w o) (stands : RuleStands t s w.pack rule) (few : many ≤ 16)
+      (terms : Finished (measure_in w.pack) (suc s.subgoals) (drop 2 (fields_of line)) all many variables t.rows rows) (laid : SlotsAdded t.slots s.slots o.predicate (signature_at t.signatures o.predicate).claims s.subgoals slots) where
     abbrev filled : Tables
-    filled = tables t.names t.signatures t.claims variables rows slots
+    filled = tables t.signatures t.claims variables rows slots
 
     abbrev count : ℕ
-    count = get_or t.signatures (64 + o.predicate) 0
+    count = (signature_at t.signatures o.predicate).claims
 
     -- the rows of the other atoms
     atom_kept : (atom : ℕ) (a : Atom) → atom < suc s.subgoals → ((x : Bytes) → x ∈ all_variables a.terms → x ∈ before) → AtomStands (measure_in w.pack) t.rows atom before a.terms → AtomStands (measure_in w.pack) rows atom all a.terms
@@ -178,8 +177,8 @@ module _ (line : Bytes) (w : Written) where
       ended = holds.ended;
     }
 
-pub b_close : {manner : Manner} {line : Bytes} {t : Tables} {s : State} {w : Written} {o : Opened} {many : ℕ} {variables rows slots : List ℕ} {r : Closing} → Holds t s w → Safe t s → Passed manner B line s w o
-    → ProgressSubgoal line w s t (length (drop 2 (fields_of line))) many variables rows → ClosesB o s many t.signatures t.slots r slots → ClosedFor manner line w r (tables t.names t.signatures t.claims variables rows slots)
+pub b_close : {manner : Manner} {line : Bytes} {t : Tables} {s : State} {w : Written} {o : Opened} {many : ℕ} {variables : List Words} {rows slots : List ℕ} {r : Result State Fault} → Holds t s w → Safe t s → Passed manner B line s w o
+    → ProgressSubgoal line w s t (length (drop 2 (fields_of line))) many variables rows → ClosesB o s many t.signatures t.slots r slots → ClosedFor manner line w r (tables t.signatures t.claims variables rows slots)
 unfolding tests subgoal_tests first_given
 b_close {line} {t} {s} {w} {o} {many} {variables} {rows} {slots} {r} holds safe passed done closes =
     let unempty = ruleful w.pack passed.stands in
@@ -199,14 +198,14 @@ b_close {line} {t} {s} {w} {o} {many} {variables} {rows} {slots} {r} holds safe 
     terms room = finished (few_terms passed.named holds safe) (variables_of_subgoal line w) (done.terms room)
 
 -- the ranges are kept
-pub b_safe : {t : Tables} {s : State} {o : Opened} {many : ℕ} {variables rows slots : List ℕ} {r : Closing} → Safe t s → o.predicate < 32 → length variables ≡ 64 → length rows ≡ 1224 → SafeRows rows
-    → ClosesB o s many t.signatures t.slots r slots → (next : State) → r ≡ Done next → Safe (tables t.names t.signatures t.claims variables rows slots) next
+pub b_safe : {t : Tables} {s : State} {o : Opened} {many : ℕ} {variables : List Words} {rows slots : List ℕ} {r : Result State Fault} → Safe t s → o.predicate < 32 → length variables ≡ 32 → length rows ≡ 1224 → SafeRows rows
+    → ClosesB o s many t.signatures t.slots r slots → (next : State) → r ≡ Ok next → Safe (tables t.signatures t.claims variables rows slots) next
 b_safe {t} {s} {o} {many} {variables} {rows} {slots} safe place name_size row_size small closes next fine =
     let kept = limits_kept subgoal_limit s.subgoals many _ closes.answer fine in
     let count = safe.signatures.count o.predicate place in
     let laid = closes.slots_are kept.0.unpassed in
     rw (← kept.1) record {
-      sizes = record { names = safe.sizes.names; signatures = safe.sizes.signatures; claims = safe.sizes.claims; variables = name_size; rows = row_size; slots = laid.size ∙ safe.sizes.slots };
+      sizes = record { signatures = safe.sizes.signatures; claims = safe.sizes.claims; variables = name_size; rows = row_size; slots = laid.size ∙ safe.sizes.slots };
       state = record {
         predicates = safe.state.predicates;
         rules = safe.state.rules;
@@ -220,8 +219,8 @@ b_safe {t} {s} {o} {many} {variables} {rows} {slots} safe place name_size row_si
       signatures = safe.signatures;
       claims = safe.claims;
       rows = small;
-      slots = slots_safe t.slots slots s.slots o.predicate (get_or t.signatures (64 + o.predicate) 0) s.subgoals place count safe.slots laid;
+      slots = slots_safe t.slots slots s.slots o.predicate (signature_at t.signatures o.predicate).claims s.subgoals place count safe.slots laid;
     }
 
-pub b_limit : {o : Opened} {s : State} {many : ℕ} {signatures slots₀ : List ℕ} {r : Closing} {slots : List ℕ} → ClosesB o s many signatures slots₀ r slots → (f : Fault) → r ≡ Misclosed f → f ≡ CountLimit
+pub b_limit : {o : Opened} {s : State} {many : ℕ} {signatures : List Signature} {slots₀ : List ℕ} {r : Result State Fault} {slots : List ℕ} → ClosesB o s many signatures slots₀ r slots → (f : Fault) → r ≡ Err f → f ≡ CountLimit
 b_limit {s = s} {many = many} closes f = limit_broken subgoal_limit s.subgoals many _ closes.answer

@@ -1,24 +1,15 @@
--- `facts::is_met` meets its contract. The loop's invariant: the claims so far are met. Assumes nothing.
-use mathlib.Core.Path.{sym, ◌∙◌, ap}
+-- `facts::is_met` meets its contract: what `all` says of the claims' values.
+use Rattle.std.proofs.Common.{rules, pos, ◌≤ℤ◌, ◌<ℤ◌, ℕ}
+use mathlib.Core.Path.{refl}
 use native.Mathlib.Omega.{arith}
-use borrow.Author.Rules.{rules}
-use Rattle.facts.specs.Ends.{met_to}
-use Rattle.facts.proofs.Values.{met_none, turn_unmet, turn_met}
+use borrow.Author.Tests.{tests}
+use Rattle.std.proofs.lemmas.Iterator.{cases_from_all, YieldsList-from_range}
+use Rattle.tables.specs.Tables.{claim_place}
+use Rattle.facts.specs.Ends.{value_to}
+use Rattle.facts.proofs.Values.{met_told}
 use Rattle.facts.proofs.is_met.Goals as goal
 
-pub loop-j-init : goal.loop-j-init
-loop-j-init c = (search rules, met_none _ _ _ _)
-
-pub returns-then-is_negative : goal.returns-then-is_negative
-returns-then-is_negative c =
-    turn_unmet c.requires.3 c.requires.4 c.args.predicate c.args.arity c.loop-j.j c.requires.2 c.claim_place.ensures c.before.before.value_of-value.ensures _ c.is_negative.ensures c.args.count (omega arith) c.if-is_negative.true
-
-pub loop-j-preserved : goal.loop-j-preserved
-loop-j-preserved c =
-    let turn = c.loop-j in (
-      search rules,
-      turn_met c.requires.3 c.requires.4 c.args.predicate c.args.arity turn.j c.requires.2 c.claim_place.ensures c.before.before.value_of-value.ensures _ c.is_negative.ensures c.if-is_negative.false turn.invariant.1,
-    )
-
 pub returns : goal.returns
-returns c = sym c.loop-j.invariant.1 ∙ ap (met_to _ _ _ _) (omega arith)
+returns c =
+    let each = cases_from_all _ _ _ (λ (j : ℕ). pos 0 ≤ℤ value_to c.args.claims.now (claim_place c.args.predicate j) c.args.rows.now c.args.arity) (λ (j : ℕ). value_to c.args.claims.now (claim_place c.args.predicate j) c.args.rows.now c.args.arity <ℤ pos 0) c.all.ensures.ran (YieldsList-from_range 0 c.args.count c.args.count refl (omega arith)) (λ x q k. search (rules, tests)) (λ x q k. search (rules, tests)) in
+    met_told _ _ _ _ c.args.count each
