@@ -1,5 +1,7 @@
 -- Laws that callers use.
 pub mod Cuts
+-- the lines that an iterator has left
+pub mod LinesLeft
 pub mod PlainText
 -- Parts and classes of bytes, by places; bytes as one number.
 pub mod Parts

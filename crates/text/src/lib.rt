@@ -10,10 +10,12 @@ use memchr::memchr;
 
 mod counts;
 mod eights;
+mod lines;
 mod plain;
 
 pub use counts::count;
 pub use eights::{eight_bytes, four_bytes, two_bytes};
+pub use lines::Lines;
 pub use plain::{is_plain, is_unfit_in};
 
 /// The first place at or after `from` where `wanted` stands, or the length.
