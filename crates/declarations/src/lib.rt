@@ -29,7 +29,7 @@ pub fn close_predicate(o: Opened, state: State, signatures: &mut Signatures) -> 
     ensures { ClosesP o state signatures.old result signatures.new }
 {
     let known = state.predicates;
-    if 32 <= known {
+    if signatures.len() <= known {
         return Err(Fault::CountLimit);
     }
     signatures[known] = o.signature;

@@ -2,11 +2,11 @@
 // predicate that is new, with that of a declared one, or with no name.
 #![tactic(auto)]
 
-ghost use Rattle.std.specs.Prelude.{◌≡◌, true, ℕ, ◌+◌, ◌≤◌, ◌<◌, length, drop};
+ghost use Rattle.std.specs.Prelude.{◌≡◌, true, ℕ, [], ◌∷◌, ◌+◌, ◌≤◌, ◌<◌, length, drop};
 ghost use Rattle.theory.specs.declared.Letter.TheVariants.{M, NoLetter};
 ghost use Rattle.theory.specs.Lists.{every};
 ghost use Rattle.theory.specs.Text.{between, natural, fields_of};
-ghost use Rattle.theory.specs.Written.{field};
+ghost use Rattle.theory.specs.Written.{letter_of, field};
 ghost use Rattle.theory.specs.Faults.{line_arity};
 ghost use Rattle.text.specs.Scans.{parts_from};
 ghost use Rattle.numbers.specs.Numbers.{option_of};
@@ -19,21 +19,11 @@ use tables::{Fault, Hints, Kind, Opened, Signature, Signatures, State};
 use theory::Letter;
 use words::{ClassTable, Word, Words};
 
-/// The letter that a line begins with.
-fn letter_of(line: &[u8]) -> Letter
-    ensures { LetterRead line.now result }
+/// The letter that a byte is.
+fn letter_by(byte: u8) -> Letter
+    ensures { result ≡ letter_of (byte ∷ []) }
 {
-    let n = line.len();
-    if n == 0 {
-        return Letter::NoLetter;
-    }
-    if 1 < n {
-        if line[1] != b',' {
-            return Letter::NoLetter;
-        }
-    }
-    let first = line[0];
-    match first {
+    match byte {
         b'P' => Letter::P,
         b'C' => Letter::C,
         b'G' => Letter::G,
@@ -45,18 +35,29 @@ fn letter_of(line: &[u8]) -> Letter
     }
 }
 
+/// The letter that is a line's first field.
+fn letter_of(line: &[u8]) -> Letter
+    ensures { LetterRead line.now result }
+{
+    if line.is_empty() {
+        return Letter::NoLetter;
+    }
+    if 1 < line.len() && line[1] != b',' {
+        return Letter::NoLetter;
+    }
+    letter_by(line[0])
+}
+
 /// All `M` lines of the rules so far are there.
 fn is_complete(state: State, signatures: &Signatures) -> bool
     requires { (SafeSignatures signatures.now) × (state.head < 32) }
     ensures { Completes signatures.now state result }
 {
-    if state.rules == 0 {
-        return true;
-    }
-    signatures[state.head].claims as usize <= state.multipliers
+    state.rules == 0 || signatures[state.head].claims as usize <= state.multipliers
 }
 
-/// Whether a line of this letter may stand at this point.
+/// Whether a line of this letter may stand at this point. Three tests by `&&` were tried: the proof then needs the value of the
+/// inner one, which has no name to cite.
 fn may_stand(letter: Letter, state: State, signatures: &Signatures) -> bool
     requires { (SafeSignatures signatures.now) × (state.head < 32) }
     ensures { Stands letter signatures.now state result }
@@ -65,17 +66,11 @@ fn may_stand(letter: Letter, state: State, signatures: &Signatures) -> bool
         return false;
     }
     match letter {
-        Letter::P => !state.claimed & ((state.shipped == 0) & (state.rules == 0)),
+        Letter::P => !state.claimed & (state.shipped == 0) & (state.rules == 0),
         Letter::C => (state.shipped == 0) & (state.rules == 0),
         Letter::G => state.rules == 0,
         Letter::H => is_complete(state, signatures),
-        Letter::B => {
-            if state.rules == 0 {
-                false
-            } else {
-                state.multipliers == 0
-            }
-        }
+        Letter::B => state.rules != 0 && state.multipliers == 0,
         Letter::M => !is_complete(state, signatures),
         Letter::E => is_complete(state, signatures),
         Letter::NoLetter => false,

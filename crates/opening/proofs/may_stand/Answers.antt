@@ -18,11 +18,11 @@ returns-in-G c = search (rules, standing)
 pub returns-in-H : goal.returns-in-H
 returns-in-H c = search (rules, standing)
 
-pub returns-then-state-eq0 : goal.returns-then-state-eq0
-returns-then-state-eq0 c = search (rules, standing)
+pub returns-then-state-ne0 : goal.returns-then-state-ne0
+returns-then-state-ne0 c = search (rules, standing)
 
-pub returns-else-state-eq0 : goal.returns-else-state-eq0
-returns-else-state-eq0 c = search (rules, standing)
+pub returns-else-state-ne0 : goal.returns-else-state-ne0
+returns-else-state-ne0 c = rw c.if-state-ne0.false (search (rules, standing))
 
 pub returns-in-M : goal.returns-in-M
 returns-in-M c = search (rules, standing)
