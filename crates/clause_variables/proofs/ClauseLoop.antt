@@ -132,7 +132,7 @@ module _ (text : Bytes) (from : ℕ) where
           at_next (none_left mark start end none) = omega arith
           at_next (one_found m seen low some high tokens) = omega arith
 
-      module _ {r : Option (Unit {0})} {w : Variables} (gathers : Gathers text t v r w) where
+      module _ {r : Option (Unit {0})} {w : Variables} (gathers : Gathers (part text t.start t.end) t.mark v r w) where
         -- what is known of a clause's variables after this token
         data Stepped (c : Clause) : Type 0 where
           clause_ends : is_stop_mark t.mark ≡ true → Known w (clause_variables c) r → Stepped c

@@ -3,7 +3,7 @@ use mathlib.Core.Path.{◌≡◌, refl, sym, ◌∙◌, ap, subst}
 use mathlib.Core.Bool.{true, false, cond}
 use mathlib.Core.List.Memᴰ
 use mathlib.Core.List.{List, [], ◌∷◌, ◌++◌, append_assoc, append-nil}
-use Prim.Native.Nat.{ℕ, ◌+◌, ◌-◌, ◌≤◌, ◌<◌}
+use Prim.Native.Nat.{ℕ, ◌+◌, ◌≤◌, ◌<◌}
 use native.Mathlib.Omega.{arith}
 use lib.Dec.{leb}
 use lib.ListN.{length, set}
@@ -19,8 +19,6 @@ use Rattle.clause_theory.specs.Import.{clause_variables, is_lone, lones, filled,
 use Rattle.clause_theory.proofs.Filling.{mark_variables, lones_append}
 use Rattle.clause_theory.proofs.FilledVariables.{named, filled_count}
 use Rattle.clause_theory.proofs.VariableLimits.{many_unfit, long_unfit}
-use Rattle.text.specs.Scans.{part}
-use Rattle.text.proofs.Parts.{part_length}
 use Rattle.words.specs.Words.{words_of, words_at, StandsAt}
 use Rattle.words.specs.declared.Words.{Words}
 use Rattle.terms.specs.Rows.{Holds}
@@ -29,7 +27,6 @@ use Rattle.terms.proofs.VariableTable.{found_is, not_found, holds_more}
 use Rattle.clause_tokens.specs.NextTokens.{Seen, seen_name, seen_variable, seen_lone, seen_sign, sign_opens, sign_closes, sign_comma, sign_neck, sign_stop, sign_stray}
 use Rattle.clause_tokens.specs.declared.Mark.{Mark}
 use Rattle.clause_tokens.specs.declared.Mark.TheVariants.{Variable, Lone}
-use Rattle.clause_tokens.specs.declared.Token.{Token}
 use Rattle.clause_variables.specs.declared.Variables.{Variables}
 use Rattle.std.specs.Prelude.{Option, Some, None}
 use Rattle.clause_variables.specs.Variables.{Gathered, TooMany, many, long, Known, all_known, over, Named, LoneCounted, Gathers}
@@ -136,49 +133,36 @@ by_lone : {x : Bytes} {m : T.Mark} (P : T.Mark → Type 0) → Seen x Lone m →
 by_lone P seen_lone p = p
 by_lone P (seen_sign s) p = elim s [ ]
 
-module _ (text : Bytes) (start end : ℕ) (v : Variables) (high : end ≤ length text) where
-  word : Bytes
-  word = part text start end
+module _ (x : Bytes) (v : Variables) where
+  pub name_long : 16 < length x → Named x v None v
+  name_long far = record { names = λ xs g proper written. over (long x (Memᴰ.append_right xs (Memᴰ.head refl)) written (proper ∙ gt-leb (length x) 16 far)) }
 
-  word_length : length word ≡ end - start
-  unfolding word
-  word_length = part_length text start (end - start) end refl high
+  module _ {words : Words} (told : words ≡ words_of x) (near : length x ≤ 16) {place : ℕ} (stands : StandsAt (words_at v.names) v.named words place) where
+    fits : is_variable x ≡ leb (length x) 16 → is_variable x ≡ true
+    fits proper = proper ∙ le-leb (length x) 16 near
 
-  pub name_long : 16 < end - start → Named (part text start end) v None v
-  unfolding word
-  name_long far =
-      record { names = λ xs g proper written. over (long word (Memᴰ.append_right xs (Memᴰ.head refl)) written (proper ∙ gt-leb (length word) 16 (omega (arith, word_length)))) }
+    x_stands : StandsAt (words_at v.names) v.named (words_of x) place
+    x_stands = subst (λ (w : Words). StandsAt (words_at v.names) v.named w place) told stands
 
-  module _ {words : Words} (told : words ≡ words_of (part text start end)) (near : end - start ≤ 16) {place : ℕ} (stands : StandsAt (words_at v.names) v.named words place) where
-    word_fits : is_variable word ≡ leb (length word) 16 → is_variable word ≡ true
-    word_fits proper = proper ∙ le-leb (length word) 16 (omega (arith, word_length))
-
-    word_stands : StandsAt (words_at v.names) v.named (words_of word) place
-    unfolding word
-    word_stands = subst (λ (w : Words). StandsAt (words_at v.names) v.named w place) told stands
-
-    pub name_known : {few : v.named + v.lones ≤ 16} → place < v.named → Named (part text start end) v (Some tt) (record { names = v.names; named = v.named; lones = v.lones; few = few })
-    unfolding word
+    pub name_known : {few : v.named + v.lones ≤ 16} → place < v.named → Named x v (Some tt) (record { names = v.names; named = v.named; lones = v.lones; few = few })
     name_known inside =
         record {
           names = λ xs g proper written.
-              let h = known_again g word written (word_fits proper) place word_stands inside in
+              let h = known_again g x written (fits proper) place x_stands inside in
               all_known (record { holds = h.holds; named_is = h.named_is; lones_is = h.lones_is });
         }
 
-    pub name_full : {few : v.named + v.lones ≤ 16} → v.named ≤ place → 16 ≤ v.named + v.lones → Named (part text start end) v None (record { names = v.names; named = v.named; lones = v.lones; few = few })
-    unfolding word
-    name_full past full = record { names = λ xs g proper written. over (new_over g word written (word_fits proper) place word_stands past full) }
+    pub name_full : {few : v.named + v.lones ≤ 16} → v.named ≤ place → 16 ≤ v.named + v.lones → Named x v None (record { names = v.names; named = v.named; lones = v.lones; few = few })
+    name_full past full = record { names = λ xs g proper written. over (new_over g x written (fits proper) place x_stands past full) }
 
     pub name_new : v.named ≤ place → v.named + v.lones < 16 → {few : v.named + 1 + v.lones ≤ 16}
-        → Named (part text start end) v (Some tt) (record { names = set v.names v.named words; named = v.named + 1; lones = v.lones; few = few })
-    unfolding word
+        → Named x v (Some tt) (record { names = set v.names v.named words; named = v.named + 1; lones = v.lones; few = few })
     name_new past room {few} =
         record {
           names = λ xs g proper written.
               all_known
-              (subst (λ (w : Words). Gathered (record { names = set v.names v.named w; named = v.named + 1; lones = v.lones; few = few }) (xs ++ (word ∷ []))) (sym told)
-              (new_more g word written (word_fits proper) place word_stands past room));
+              (subst (λ (w : Words). Gathered (record { names = set v.names v.named w; named = v.named + 1; lones = v.lones; few = few }) (xs ++ (x ∷ []))) (sym told)
+              (new_more g x written (fits proper) place x_stands past room));
         }
 
 line_lone : is_lone (bytes "_") ≡ true
@@ -205,22 +189,22 @@ other_plain named lone (seen_sign sign_neck) = refl
 other_plain named lone (seen_sign sign_stop) = refl
 other_plain named lone (seen_sign sign_stray) = refl
 
-module _ {text : Bytes} {t : Token} {v : Variables} where
+module _ {x : Bytes} {mark : Mark} {v : Variables} where
   module _ {r : Option (Unit {0})} {w : Variables} where
-    pub gather_named : t.mark ≡ Variable → Named (part text t.start t.end) v r w → Gathers text t v r w
+    pub gather_named : mark ≡ Variable → Named x v r w → Gathers x mark v r w
     unfolding mark_variables
     gather_named is named =
         record {
           gathers = λ xs m g seen.
-              by_written (λ k. Known w (xs ++ mark_variables (k ∷ [])) r) (subst (λ (k : Mark). Seen (part text t.start t.end) k m) is seen) (λ proper written. named.names xs g proper written);
+              by_written (λ k. Known w (xs ++ mark_variables (k ∷ [])) r) (subst (λ (k : Mark). Seen x k m) is seen) (λ proper written. named.names xs g proper written);
         }
 
-    pub gather_lone : t.mark ≡ Lone → LoneCounted v r w → Gathers text t v r w
+    pub gather_lone : mark ≡ Lone → LoneCounted v r w → Gathers x mark v r w
     unfolding mark_variables
     gather_lone is counted =
-        record { gathers = λ xs m g seen. by_lone (λ k. Known w (xs ++ mark_variables (k ∷ [])) r) (subst (λ (k : Mark). Seen (part text t.start t.end) k m) is seen) (counted.counts xs g) }
+        record { gathers = λ xs m g seen. by_lone (λ k. Known w (xs ++ mark_variables (k ∷ [])) r) (subst (λ (k : Mark). Seen x k m) is seen) (counted.counts xs g) }
 
-  pub gather_other : (t.mark ≡ Variable → ⊥) → (t.mark ≡ Lone → ⊥) → Gathers text t v (Some tt) v
+  pub gather_other : (mark ≡ Variable → ⊥) → (mark ≡ Lone → ⊥) → Gathers x mark v (Some tt) v
   gather_other named lone =
       record { gathers = λ xs m g seen. all_known (subst (Gathered v) (sym (append-nil xs) ∙ ap (λ (l : List Bytes). xs ++ l) (sym (other_plain named lone seen))) g) }
 

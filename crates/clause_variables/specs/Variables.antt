@@ -10,9 +10,8 @@ use Rattle.clause_theory.specs.Import.{clause_variables, is_lone, lones}
 use Rattle.clause_theory.proofs.Filling.{mark_variables}
 use Rattle.clause_theory.proofs.FilledVariables.{named}
 use Rattle.terms.specs.Rows.{Holds}
-use Rattle.text.specs.Scans.{part}
 use Rattle.clause_tokens.specs.NextTokens.{marks_at, Seen}
-use Rattle.clause_tokens.specs.declared.Token.{Token}
+use Rattle.clause_tokens.specs.declared.Mark.{Mark}
 use Rattle.clause_variables.specs.declared.Variables.{Variables}
 
 -- a clause stands at a place, whatever comes after it
@@ -44,9 +43,9 @@ pub record Named (x : Bytes) (v₀ : Variables) (r : Option (Unit {0})) (v : Var
 pub record LoneCounted (v₀ : Variables) (r : Option (Unit {0})) (v : Variables) : Type 0 where
   pub counts : (xs : List Bytes) → Gathered v₀ xs → Known v (xs ++ (bytes "_" ∷ [])) r
 
--- one token more
-pub record Gathers (text : Bytes) (t : Token) (v₀ : Variables) (r : Option (Unit {0})) (v : Variables) : Type 0 where
-  pub gathers : (xs : List Bytes) (m : T.Mark) → Gathered v₀ xs → Seen (part text t.start t.end) t.mark m → Known v (xs ++ mark_variables (m ∷ [])) r
+-- one token more, with these bytes
+pub record Gathers (x : Bytes) (mark : Mark) (v₀ : Variables) (r : Option (Unit {0})) (v : Variables) : Type 0 where
+  pub gathers : (xs : List Bytes) (m : T.Mark) → Gathered v₀ xs → Seen x mark m → Known v (xs ++ mark_variables (m ∷ [])) r
 
 -- a whole clause
 pub record VariablesFound (text : Bytes) (from : ℕ) (r : Option (Unit {0})) (v : Variables) : Type 0 where

@@ -1,7 +1,7 @@
 // The variables of a clause: those that it names, in a table of words, how often `_` stands in it, and fresh numbers.
 #![tactic(auto)]
 
-ghost use Rattle.std.specs.Prelude.{◌+◌, ◌≤◌};
+ghost use Rattle.std.specs.Prelude.{◌≡◌, ◌+◌, ◌≤◌};
 
 use words::{WordTable, Words};
 
@@ -20,7 +20,9 @@ pub struct Variables {
 
 impl Variables {
     /// No variables.
-    pub fn none() -> Variables {
+    pub fn none() -> Variables
+        ensures { (result.named ≡ 0) × (result.lones ≡ 0) }
+    {
         Variables {
             names: [Words {
                 first: 0,

@@ -1,13 +1,10 @@
 -- `Variables::gather_clause` meets its contract. Assumes nothing.
-use Rattle.clause_variables.proofs.ClauseLoop.{gathering_none, gathering_all, token_ordered, token_inside, gathering_less, gathering_over, gathering_found, gathering_more}
+use Rattle.clause_variables.proofs.ClauseLoop.{gathering_none, gathering_all, gathering_less, gathering_over, gathering_found, gathering_more}
 use borrow.Author.Rules.{rules}
 use Rattle.clause_variables.proofs.Variables.gather_clause.Goals as goal
 
 pub loop-at-init : goal.loop-at-init
 loop-at-init c = search (rules, gathering_none)
-
-pub gather-requires : goal.gather-requires
-gather-requires c = search (rules, token_ordered, token_inside)
 
 pub loop-at-smaller : goal.loop-at-smaller
 loop-at-smaller c = search (rules, gathering_less)

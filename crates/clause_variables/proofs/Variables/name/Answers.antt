@@ -3,8 +3,8 @@ use Rattle.clause_variables.proofs.Gathering.{name_long, name_known, name_full, 
 use borrow.Author.Rules.{rules}
 use Rattle.clause_variables.proofs.Variables.name.Goals as goal
 
-pub returns-then-end-start-gt16 : goal.returns-then-end-start-gt16
-returns-then-end-start-gt16 c = search (rules, name_long)
+pub returns-then-variable-gt16 : goal.returns-then-variable-gt16
+returns-then-variable-gt16 c = search (rules, name_long)
 
 pub returns-then-place-self : goal.returns-then-place-self
 returns-then-place-self c = search (rules, name_known)
