@@ -76,12 +76,6 @@ pub record Reading (limit : ℕ) (s : Bytes) (value i : ℕ) : Type 0 where
   pub worth : value_after 0 s ≡ value_after value (drop i s)
 
 module _ (limit : ℕ) (s : Bytes) where
-  pub reading_one : (length s ≡ 0 → ⊥) → length s ≤ 1 → Reading limit s 0 0
-  reading_one any h = record { high = omega arith; small = omega arith; formed = decimal_one s any h; worth = refl }
-
-  pub reading_several : 1 < length s → (get_or s 0 0 ≡ 48 → ⊥) → Reading limit s 0 0
-  reading_several h e = record { high = omega arith; small = omega arith; formed = decimal_more s h e; worth = refl }
-
   module _ (value i : ℕ) (r : Reading limit s value i) where
     module _ (h : i < length s) where
       digits_at : is_decimal s ≡ (is_digit (get_or s i 0) && every is_digit (drop (i + 1) s))

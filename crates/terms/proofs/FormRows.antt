@@ -15,7 +15,7 @@ use Rattle.theory.proofs.SectionForm.{section_form}
 use Rattle.words.specs.declared.Words.{Words}
 use Rattle.tokens.specs.declared.Tokens.{Tokens}
 use Rattle.tokens.specs.declared.TokenRoom.{TokenRoom}
-use Rattle.tokens.specs.TokenRows.{SmallArities, TokensStand}
+use Rattle.tokens.specs.TokenRows.{TokensStand}
 use Rattle.terms.specs.Constants.{AritiesSummed}
 use Rattle.terms.specs.Rows.{OccurrencesStand, Counted}
 use Rattle.terms.specs.TermForms.{RowStands, FormTaken}
@@ -30,9 +30,6 @@ row_of_parts rows base xs t first second = record {
 }
 
 module _ (field : Bytes) (read : Tokens) (room : TokenRoom) (stand : TokensStand field read room) where
-  pub read_arities : SmallArities room.arities read.symbols
-  read_arities = stand.symbols.digits
-
   module _ (sum : ℕ) (first : AritiesSummed room.arities read.symbols sum) (names₀ : List Words) (known : ℕ) (rows₀ : List ℕ) (base r : ℕ) (names : List Words) (counts : List ℕ) (fits : base + 17 ≤ 1224) (second : Counted field names₀ known rows₀ base r names counts) where
     abbrev rows : List ℕ
     rows = set counts base sum

@@ -1,54 +1,21 @@
--- Where a token ends: the tests `is_end` and `has_arity`, a word by its letters, and a token with an arity by its places.
+-- Where a token ends: what the test of its arity tells, a word by its letters, and a token with an arity by its places.
 use mathlib.Core.Path.{◌≡◌, refl, sym, ◌∙◌, ap}
-use mathlib.Core.Bool.{Bool, true, false, ◌&&◌, true≢false}
+use mathlib.Core.Bool.{Bool, true, ◌&&◌}
 use mathlib.Core.List.{[], ◌∷◌}
 use Prim.Native.Nat.{ℕ, ◌+◌, ◌-◌, ◌≤◌, ◌<◌}
 use native.Mathlib.Omega.{arith}
-use lib.Dec.{eqb, leb}
+use lib.Dec.{leb}
 use lib.ListN.{length, get_or, take, drop}
 use lib.Seq.{take-take}
-use Rattle.groundwork.proofs.Truth.{Decides, never_both, and_left, and_right, eqb-equal, eqb-unequal, leb-le, le-leb}
+use Rattle.groundwork.proofs.Truth.{Decides, never_both, and_left, and_right, leb-le, le-leb}
 use Rattle.theory.specs.Lists.{every}
-use Rattle.theory.specs.Text.{Bytes, is_digit, is_name_byte, is_word}
+use Rattle.theory.specs.Text.{Bytes, is_name_byte, is_word}
 use Rattle.theory.proofs.Reading.Bytes.{between_low}
 use Rattle.text.specs.Scans.{part}
 use Rattle.text.proofs.Parts.{part_length, part_at}
 use Rattle.words.proofs.WordReading.{word_is}
-use Rattle.tokens.specs.TokenRows.{EndsAt, ArityAt}
+use Rattle.tokens.specs.TokenRows.{ArityAt}
 use Rattle.tokens.proofs.SymbolTokens.{last_byte, last_but_one, front_of}
-
--- ---- the tests
-
-pub end_inside : (s : Bytes) (at : ℕ) → at < length s → Decides (eqb (get_or s at 0) 32) (EndsAt s at)
-end_inside s at inside = record { yes = λ h. record { space = λ _. eqb-equal _ _ h }; no = λ h end. eqb-unequal _ _ h (end.space inside) }
-
-module _ (s : Bytes) (at : ℕ) where
-  pub end_past : length s ≤ at → Decides true (EndsAt s at)
-  end_past past = record { yes = λ _. record { space = λ h. absurd (omega arith) }; no = λ h _. true≢false h }
-
-  no_arity_lem : (ArityAt s at → ⊥) → Decides false (ArityAt s at)
-  no_arity_lem none = record { yes = λ h. absurd (true≢false (sym h)); no = λ _. none }
-
-  pub arity_past : at ≤ length s → length s - at < 2 → Decides false (ArityAt s at)
-  arity_past low past = no_arity_lem λ a. omega (arith, a.inside)
-
-  pub no_slash : (get_or s at 0 ≡ 47 → ⊥) → Decides false (ArityAt s at)
-  no_slash other = no_arity_lem λ a. other a.slash
-
-  module _ (digit : Bool) (is : digit ≡ is_digit (get_or s (at + 1) 0)) where
-    pub no_digit : digit ≡ false → Decides false (ArityAt s at)
-    no_digit h = no_arity_lem λ a. never_both a.digit (sym is ∙ h)
-
-    module _ (slash : get_or s at 0 ≡ 47) (h : digit ≡ true) where
-      arity_by : at + 2 ≤ length s → (r : Bool) → Decides r (EndsAt s (at + 2)) → Decides r (ArityAt s at)
-      arity_by inside r ends = record { yes = λ e. record { inside = inside; slash = slash; digit = sym is ∙ h; end = ends.yes e }; no = λ e a. ends.no e a.end }
-
-      pub arity_ends : at ≤ length s → 2 ≤ length s - at → (r : Bool) → Decides r (EndsAt s (at + 2)) → Decides r (ArityAt s at)
-      arity_ends low more = arity_by (omega arith)
-
-      -- where another byte comes after
-      pub arity_spaced : at + 2 < length s → Decides (eqb (get_or s (at + 2) 0) 32) (ArityAt s at)
-      arity_spaced more = arity_by (omega arith) _ (end_inside s (at + 2) more)
 
 -- what the test of an arity tells where it holds
 module _ (s : Bytes) (at : ℕ) (arity : Bool) (decides : Decides arity (ArityAt s at)) (holds : arity ≡ true) where

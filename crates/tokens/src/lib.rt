@@ -9,24 +9,12 @@ ghost use Rattle.tokens.specs.TokenRows.{EndsAt, ArityAt, TokensRead, start_of, 
 
 use words::{Class, ClassTable};
 
-fn is_digit(b: u8) -> bool
-    ensures { result ≡ is_digit b }
-{
-    match b {
-        b'0'..=b'9' => true,
-        _ => false,
-    }
-}
-
 /// Whether a token may end at a place: a space or nothing stands there.
 fn is_end(field: &[u8], at: usize) -> bool
+    requires { at ≤ length field.now }
     ensures { Decides result (EndsAt field.now at) }
 {
-    if at < field.len() {
-        field[at] == b' '
-    } else {
-        true
-    }
+    matches!(&field[at..], [] | [b' ', ..])
 }
 
 /// Whether `/`, a digit and the end of a token stand at a place. Of most tokens three bytes tell it, since another comes after.
@@ -34,25 +22,10 @@ fn has_arity(field: &[u8], at: usize) -> bool
     requires { at ≤ length field.now }
     ensures { Decides result (ArityAt field.now at) }
 {
-    if at + 2 < field.len() {
-        if field[at] != b'/' {
-            return false;
-        }
-        if !is_digit(field[at + 1]) {
-            return false;
-        }
-        return field[at + 2] == b' ';
-    }
-    if field.len() - at < 2 {
-        return false;
-    }
-    if field[at] != b'/' {
-        return false;
-    }
-    if !is_digit(field[at + 1]) {
-        return false;
-    }
-    is_end(field, at + 2)
+    matches!(
+        &field[at..],
+        [b'/', b'0'..=b'9', b' ', ..] | [b'/', b'0'..=b'9']
+    )
 }
 
 /// The number that a digit writes.

@@ -1,19 +1,20 @@
 -- Few bytes as one number, by two halves that may overlap: the first half as it is, and of the last half what comes after it.
 use mathlib.Core.Path.{◌≡◌, refl, sym, ◌∙◌, ap, ap₂}
-use mathlib.Core.List.{[]}
-use Prim.Native.Nat.{ℕ, ◌+◌, ◌-◌, ◌*◌, ◌/◌, ◌^◌, ◌≤◌, ◌<◌}
-use native.Mathlib.Nat.{div-le_self}
+use mathlib.Core.List.{[], ◌∷◌}
+use Prim.Native.Nat.{ℕ, zero, suc, ◌+◌, ◌-◌, ◌*◌, ◌/◌, ◌%◌, ◌^◌, ◌≤◌, ◌<◌}
+use native.Mathlib.Nat.{mul_comm, one-le-pow, pow-suc}
 use native.Mathlib.Omega.{arith}
 use lib.ListN.{length, get_or, take, drop, drop_of_length-le}
+use lib.Pow.{shl_exact}
 use lib.Seq.{take_all, drop-append_seam}
 use mir.Syntax.{w8, w64}
 use mir.Val.{Fits}
 use Rattle.theory.specs.Text.{Bytes}
 use Rattle.text.specs.Scans.{part}
-use Rattle.text.specs.ByteNumbers.{number, Numbered}
+use Rattle.text.specs.ByteNumbers.{number}
 use Rattle.text.proofs.Parts.{part_rest, empty_is}
 use Rattle.text.proofs.Halves.{value_join, value_one, value_last}
-use Rattle.text.proofs.EightBytes.{number_none, number_more, bits_of, bytes_part}
+use Rattle.text.proofs.EightBytes.{number_none, number_more, bits_of, AreBytes, bytes_part}
 use Rattle.words.specs.Words.{words_of}
 
 drop_none : (s : Bytes) → drop 0 s ≡ s
@@ -35,7 +36,7 @@ module _ (s : Bytes) (small : (k : ℕ) → Fits w8 (get_or s k 0)) (half : ℕ)
       ∙ ap (λ (n : ℕ). number (part s start (length s)) / n) (bits_of over)
       ∙ value_last 256 (λ (b : ℕ). b) number number_none number_more (omega arith) s start over half (length s) place low (omega arith) (bytes_part s small start over half place low)
 
-  joined : (first last : ℕ) → first ≡ number (part s 0 half) → last ≡ number (part s (length s - half) (length s - half + half))
+  pub joined : (first last : ℕ) → first ≡ number (part s 0 half) → last ≡ number (part s (length s - half) (length s - half + half))
       → first + 256 ^ half * (last / 2 ^ (8 * (half + half - length s))) ≡ number s
   joined first last e f =
       ap₂ (λ (a b : ℕ). a + 256 ^ half * b) e (later last f)
@@ -43,28 +44,35 @@ module _ (s : Bytes) (small : (k : ℕ) → Fits w8 (get_or s k 0)) (half : ℕ)
       ∙ ap number (part_all s)
 
 module _ (s : Bytes) (small : (k : ℕ) → Fits w8 (get_or s k 0)) where
-  pub two_halves : (2 ≤ length s) × (length s ≤ 4) → (first last : ℕ) → Numbered s 0 2 65536 first → Numbered s (length s - 2) 2 65536 last → first + 65536 * (last / 2 ^ (8 * (4 - length s))) ≡ number s
-  two_halves wide first last e f = joined s small 2 wide.0 wide.1 first last e.is f.is
-
-  pub four_halves : (4 ≤ length s) × (length s ≤ 8) → (first last : ℕ) → Numbered s 0 4 4294967296 first → Numbered s (length s - 4) 4 4294967296 last → first + 4294967296 * (last / 2 ^ (8 * (8 - length s))) ≡ number s
-  four_halves wide first last e f = joined s small 4 wide.0 wide.1 first last e.is f.is
-
   pub eight_later : (8 < length s) × (length s ≤ 16) → (last : ℕ) → last ≡ number (part s (length s - 8) (length s - 8 + 8)) → last / 2 ^ (8 * (16 - length s)) ≡ number (drop 8 s)
   eight_later wide last e = later s small 8 (omega (arith, wide.0)) wide.1 last e ∙ ap number (part_rest s 8)
 
--- a half that is shifted, at its place, and with the other half
-module _ (s : Bytes) (at n k last : ℕ) where
-  pub two_fits : Numbered s at n 65536 last → Fits w64 (65536 * (last / 2 ^ k))
-  two_fits f = omega (arith, f.small, div-le_self last (2 ^ k))
+-- few bytes make a small number
+number_fits : (s : Bytes) → AreBytes s → (n : ℕ) → length s ≤ n → number s < 256 ^ n
+unfolding number
+number_fits [] f n h = one-le-pow n 256 (omega arith)
+number_fits (b ∷ bs) f zero h = absurd (omega arith)
+number_fits (b ∷ bs) f (suc n) h =
+    let low : b < 256 = f 0 (omega arith) in
+    let later : number bs < 256 ^ n = number_fits bs (λ k less. f (suc k) (omega arith)) n (omega arith) in
+    rw (pow-suc 256 n) (omega arith)
 
-  pub two_both_fit : Numbered s at n 65536 last → (from first : ℕ) → Numbered s from n 65536 first → Fits w64 (first + 65536 * (last / 2 ^ k))
-  two_both_fit f from first e = omega (arith, f.small, e.small, div-le_self last (2 ^ k))
+-- the half that is shifted, at its place, and with the other half
+module _ (s : Bytes) (small : (k : ℕ) → Fits w8 (get_or s k 0)) (half : ℕ) (few : half ≤ 4) (low : half ≤ length s) (high : length s ≤ half + half) (first last : ℕ) (e : first ≡ number (part s 0 half)) (f : last ≡ number (part s (length s - half) (length s - half + half))) where
+  raised : 1 * 2 ^ (8 * half) % 18446744073709551616 ≡ 256 ^ half
+  raised = shl_exact {a = 1} 1 (8 * half) 64 (omega arith) (omega arith) ∙ omega arith ∙ bits_of half
 
-  pub four_fits : Numbered s at n 4294967296 last → Fits w64 (4294967296 * (last / 2 ^ k))
-  four_fits f = omega (arith, f.small, div-le_self last (2 ^ k))
+  pub whole : first + last / 2 ^ (8 * (half + half - length s)) * (1 * 2 ^ (8 * half) % 18446744073709551616) ≡ number s
+  whole = ap (λ (n : ℕ). first + last / 2 ^ (8 * (half + half - length s)) * n) raised ∙ ap (λ (n : ℕ). first + n) (mul_comm _ _) ∙ joined s small half low high first last e f
 
-  pub four_both_fit : Numbered s at n 4294967296 last → (from first : ℕ) → Numbered s from n 4294967296 first → Fits w64 (first + 4294967296 * (last / 2 ^ k))
-  four_both_fit f from first e = omega (arith, f.small, e.small, div-le_self last (2 ^ k))
+  below : number s < 256 ^ 8
+  below = number_fits s (λ k _. omega (arith, small k)) 8 (omega arith)
+
+  pub halves_fit : Fits w64 (first + last / 2 ^ (8 * (half + half - length s)) * (1 * 2 ^ (8 * half) % 18446744073709551616))
+  halves_fit = omega (arith, whole, below)
+
+  pub half_fits : Fits w64 (last / 2 ^ (8 * (half + half - length s)) * (1 * 2 ^ (8 * half) % 18446744073709551616))
+  half_fits = omega (arith, whole, below)
 
 -- ---- one byte, and none
 

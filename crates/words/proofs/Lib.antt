@@ -9,4 +9,3 @@ pub mod FewBytes
 pub mod WordBytes
 pub mod WordReading
 pub mod FieldWords
-pub mod Places

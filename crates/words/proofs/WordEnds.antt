@@ -40,8 +40,3 @@ module _ (s : Bytes) (from : ℕ) where
 
     pub named_ended : class_of (get_or s i 0) ≡ Outside → EndsWord s from i
     named_ended none = record { low = n.low; high = n.high; named = n.named; ended = λ _. named_is (get_or s i 0) ∙ ap (λ (c : Class). not (is_outside c)) none }
-
-    pub named_all : length s ≤ i → EndsWord s from (length s)
-    named_all h =
-        let end : i ≡ length s = omega (arith, n.high) in
-        record { low = omega (arith, n.low); high = omega arith; named = rw (← end) n.named; ended = λ k. absurd (omega arith) }

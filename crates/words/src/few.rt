@@ -22,26 +22,13 @@ fn highest_bytes(word: u64, count: usize) -> u64
     (word >> (8 * (7 - count))) >> 8
 }
 
-/// Two to four bytes as one number: the first two, and of the last two those that come after them.
-fn to_four(bytes: &[u8]) -> u64
-    requires { (2 ≤ length bytes.now) × (length bytes.now ≤ 4) }
+/// Bytes as one number by two halves of two or four bytes, which may overlap: the first as it is, and of the last what comes
+/// after the first.
+fn by_halves(bytes: &[u8], half: usize, first: u64, last: u64) -> u64
+    requires { (half ≤ 4) × (half ≤ length bytes.now) × (length bytes.now ≤ half + half) × (first ≡ number (part bytes.now 0 half)) × (last ≡ number (part bytes.now (length bytes.now - half) (length bytes.now - half + half))) }
     ensures { result ≡ number bytes.now }
 {
-    let count = bytes.len();
-    let first = text::two_bytes(bytes, 0);
-    let last = text::two_bytes(bytes, count - 2);
-    first + 65536 * (last >> (8 * (4 - count)))
-}
-
-/// Four to eight bytes as one number, in the same way.
-fn to_eight(bytes: &[u8]) -> u64
-    requires { (4 ≤ length bytes.now) × (length bytes.now ≤ 8) }
-    ensures { result ≡ number bytes.now }
-{
-    let count = bytes.len();
-    let first = text::four_bytes(bytes, 0);
-    let last = text::four_bytes(bytes, count - 4);
-    first + 4294967296 * (last >> (8 * (8 - count)))
+    first + (last >> (8 * (half + half - bytes.len()))) * (1u64 << (8 * half))
 }
 
 /// Of nine to sixteen bytes, those after the first eight as one number.
@@ -60,10 +47,20 @@ fn few_bytes(bytes: &[u8]) -> u64
 {
     let count = bytes.len();
     if 4 <= count {
-        return to_eight(bytes);
+        return by_halves(
+            bytes,
+            4,
+            text::four_bytes(bytes, 0),
+            text::four_bytes(bytes, count - 4),
+        );
     }
     if 2 <= count {
-        return to_four(bytes);
+        return by_halves(
+            bytes,
+            2,
+            text::two_bytes(bytes, 0),
+            text::two_bytes(bytes, count - 2),
+        );
     }
     if count == 1 {
         return bytes[0] as u64;

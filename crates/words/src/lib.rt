@@ -35,10 +35,8 @@ pub fn place(names: &WordTable, known: usize, words: Words) -> usize
     requires { known ≤ 32 }
     ensures { StandsAt (words_at names.now) known words result }
 {
-    for i in 0..known {
-        if names[i] == words {
-            return i;
-        }
-    }
-    known
+    names[..known]
+        .iter()
+        .position(|name| *name == words)
+        .unwrap_or(known)
 }
