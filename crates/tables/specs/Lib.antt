@@ -1,5 +1,4 @@
 pub mod Tables
-pub mod QuerySizes
 pub mod Faults
 pub mod Manners
 pub mod Sorts

@@ -22,7 +22,9 @@ pub enum Kind {
     Given,
 }
 
-/// A declared predicate: the words of its name, its arity, its kind, and the number of claims on it.
+/// A declared predicate: the words of its name, its arity, its kind, and the number of claims on it. The bounds on the last two
+/// numbers are a relation on the table (`SafeSignatures`) and no ghost field, which would be no plainer: the definitions make
+/// signatures as values (`with_claims`, `no_signature`), and each of them would have to bring a proof. So it is with `State`.
 #[derive(Clone, Copy)]
 pub struct Signature {
     pub words: Words,
@@ -63,9 +65,6 @@ pub type Slots = [u16; 256];
 
 /// Where names and variables stood before: any content will do.
 pub type Hints = words::Hints;
-
-/// What stands for an unknown size among those that a query gives: one more than the largest.
-pub const UNKNOWN_SIZE: u32 = 65536;
 
 /// The tables that outlive the lines of a pack: what queries and the sheet ask after its last line.
 #[derive(Drop)]
