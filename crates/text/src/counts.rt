@@ -9,9 +9,7 @@ fn count_few(bytes: &[u8], wanted: u8) -> u8
 {
     let mut n = 0;
     for b in bytes {
-        if *b == wanted {
-            n += 1;
-        }
+        n += (*b == wanted) as u8;
     }
     n
 }
