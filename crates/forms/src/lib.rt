@@ -1,8 +1,7 @@
 // Forms, by value.
 #![tactic(auto)]
 
-ghost use Rattle.std.specs.Prelude.{◌≡◌, ◌≤◌, ◌^◌, pos, nat_abs};
-ghost use Rattle.std.specs.Int.Signed.{lt_z};
+ghost use Rattle.std.specs.Prelude.{◌≡◌, ◌≤◌, ◌^◌, nat_abs};
 ghost use Rattle.forms.specs.Sums.{Within, Zero, Sum, Multiple};
 
 /// A form over the variables of one rule: its constant, then a coefficient for each of them.
@@ -58,11 +57,4 @@ impl Form {
             coefficients: products,
         }
     }
-}
-
-/// Whether a number of a form, or of a claim, is below 0.
-pub fn is_negative(z: i64) -> bool
-    ensures { result ≡ lt_z z (pos 0) }
-{
-    z < 0
 }
