@@ -25,12 +25,6 @@ module _ (n : ℕ) (h : 0 < n) (f : Fits w32 n) where
       by zero k = absurd (omega arith)
       by (suc m) k = let back : suc m - 1 ≡ m = omega arith in +ℤ_idl (negsuc m) ∙ ap negsuc (sym back)
 
-  pub minus_fits : SFits w64 (pos 0 -ℤ to_z w64 n)
-  minus_fits = rw minus_is record { sfits = omega arith }
-
-  pub minus_result : to_z w64 (of_z w64 (pos 0 -ℤ to_z w64 n)) ≡ negsuc (n - 1)
-  minus_result = to_z-of_z minus_fits ∙ minus_is
-
 -- ---- answers
 
 -- where no byte stands, no minus sign does
@@ -72,10 +66,10 @@ module _ (limit : ℕ) (small : limit ≤ 99999) (s : Bytes) where
       unfolding negated
       integer_minus_zero z = sym (after_sign (some n) read ∙ rw z)
 
-      pub integer_minus : (n ≡ 0 → ⊥) → (z : ℤ) → z ≡ negsuc (n - 1) → some (to_z w64 (of_z w64 z)) ≡ integer limit s
-      integer_minus k z q =
+      pub integer_minus : (n ≡ 0 → ⊥) → some (to_z w64 (of_z w64 (pos 0 -ℤ to_z w64 n))) ≡ integer limit s
+      integer_minus k =
           let known : n ≤ limit = natural_within limit (part s 1 (length s)) n (sym read) in
-          through_bits z (negsuc (n - 1)) q (record { sfits = omega arith }) ∙ sym (after_sign (some n) read ∙ negated_some n (omega arith))
+          through_bits _ (negsuc (n - 1)) (minus_is n (omega arith) (omega arith)) (record { sfits = omega arith }) ∙ sym (after_sign (some n) read ∙ negated_some n (omega arith))
 
   module _ (sign : get_or s 0 0 ≡ 45 → ⊥) where
     pub integer_plus_none : none ≡ natural limit s → none ≡ integer limit s

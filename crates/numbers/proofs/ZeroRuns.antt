@@ -7,9 +7,9 @@ use native.Mathlib.Omega.{arith}
 use lib.Arith.{mod-mul}
 use lib.Bits.{bit_xor, xor_add_and, xor_mod, and_le_l, and_le_r}
 use lib.Count.{under, count_trailing_zeros, trailing_le}
-use lib.ListN.{length, get_or, take, drop}
+use lib.ListN.{length, get_or, take, drop, length-drop, length-append}
 use lib.Pow.{pow_pos}
-use lib.Seq.{take-take}
+use lib.Seq.{take-take, take-append-le, drop-append_seam, drop-drop, drop_at}
 use mir.Syntax.{w8}
 use mir.Val.{Fits}
 use Rattle.theory.specs.Text.{Bytes}
@@ -125,5 +125,33 @@ module _ (s : Bytes) where
           stand = rw place (part_join s from (from + 2 * a) (from + 2 * a + 2 * b) (omega arith) (omega arith)) ∙ ap₂ ◌++◌ e.stand f.1.stand ∙ zero_join a b;
         }
 
-    pub zeros_four : (a : ℕ) → Zeros s from a → (b : ℕ) → (b ≤ 4) × Zeros s (from + 2 * a) b → 4 ≤ b → Zeros s from (a + 4)
-    zeros_four a e b f h = let four : b ≡ 4 = omega arith in rw four at (zeros_more a e b f)
+-- eight bytes of a block are those of the whole from its place on
+module _ (s : Bytes) (at : ℕ) (block after : Bytes) (cut : drop at s ≡ block ++ after) (wide : length block ≡ 8) where
+  pub block_zeros : (b : ℕ) → (b ≤ 4) × Zeros block 0 b → (b ≤ 4) × Zeros s at b
+  block_zeros b e =
+      let there : at + 2 * b - at ≡ 2 * b = omega arith in
+      let here : 0 + 2 * b - 0 ≡ 2 * b = omega arith in
+      let few : b ≤ 4 = e.0 in (
+        few,
+        record {
+          high = omega (arith, sym (length-drop at s) ∙ ap length cut ∙ length-append block after);
+          stand =
+              ap₂ take there cut
+              ∙ take-append-le (2 * b) block after (omega arith)
+              ∙ ap₂ take (sym here) (sym (drop-append_seam [] block))
+              ∙ e.1.stand;
+        },
+      )
+
+  pub block_rest : drop (at + 8) s ≡ after
+  block_rest = sym (drop-drop 8 at s) ∙ ap (drop 8) cut ∙ drop_at block after 8 wide
+
+-- what all the fields passed are with those of one block more, and the blocks to come then
+module _ (s : Bytes) (from count : ℕ) (zeros : Zeros s from count) (block after rest : Bytes) (ahead : drop (from + 2 * count) s ≡ rest) (cut : rest ≡ block ++ after) (wide : length block ≡ 8) where
+  pub zeros_passed : (b : ℕ) → (b ≤ 4) × Zeros block 0 b → Zeros s from (count + b)
+  zeros_passed b e = zeros_more s from count zeros b (block_zeros s (from + 2 * count) block after (ahead ∙ cut) wide b e)
+
+  pub blocks_ahead : (b : ℕ) → b ≡ 4 → drop (from + 2 * (count + b)) s ≡ after
+  blocks_ahead b four =
+      let place : from + 2 * (count + b) ≡ from + 2 * count + 8 = omega arith in
+      rw place (block_rest s (from + 2 * count) block after (ahead ∙ cut) wide)

@@ -39,29 +39,16 @@ pub fn read_natural(field: &[u8], limit: u32) -> Option<u32>
     Some(value)
 }
 
-fn negative(n: u32) -> i64
-    requires { 0 < n }
-    ensures { result ≡ negsuc (n - 1) }
-{
-    0 - (n as i64)
-}
-
 /// A number from -limit to limit, without leading zeros, `-0` or a plus sign.
 pub fn read_integer(field: &[u8], limit: u32) -> Option<i64>
     requires { limit ≤ 99999 }
     ensures { option_of result ≡ integer limit field.now }
 {
     match field {
-        [b'-', digits @ ..] => {
-            let n = read_natural(digits, limit)?;
-            if n == 0 {
-                return None;
-            }
-            Some(negative(n))
-        }
-        _ => {
-            let n = read_natural(field, limit)?;
-            Some(n as i64)
-        }
+        [b'-', digits @ ..] => match read_natural(digits, limit)? {
+            0 => None,
+            n => Some(-(n as i64)),
+        },
+        _ => Some(read_natural(field, limit)? as i64),
     }
 }

@@ -1,16 +1,16 @@
 // Runs of fields `0`, eight bytes at a time.
-ghost use Rattle.std.specs.Prelude.{◌+◌, ◌≤◌, length};
+ghost use Rattle.std.specs.Prelude.{◌≡◌, ◌+◌, ◌≤◌, length};
 ghost use Rattle.numbers.specs.Zeros.{Zeros};
 
 /// The fields `0,0,0,0,` as one number.
 const ZEROS: u64 = 0x2c302c302c302c30;
 
 /// How many fields `0`, each with the comma after it, stand at the start of eight bytes.
-fn zeros_of_eight(bytes: &[u8], at: usize) -> usize
-    requires { at + 8 ≤ length bytes.now }
-    ensures { (result ≤ 4) × Zeros bytes.now at result }
+fn zeros_of_eight(eight: &[u8]) -> usize
+    requires { length eight.now ≡ 8 }
+    ensures { (result ≤ 4) × Zeros eight.now 0 result }
 {
-    u64::trailing_zeros(text::eight_bytes(bytes, at) ^ ZEROS) as usize / 16
+    (text::eight_bytes(eight, 0) ^ ZEROS).trailing_zeros() as usize / 16
 }
 
 /// How many fields `0`, each with the comma after it, stand from a place on. It stops where fewer than eight bytes are left,
@@ -19,19 +19,16 @@ pub fn zeros(bytes: &[u8], from: usize) -> usize
     requires { from ≤ length bytes.now }
     ensures { Zeros bytes.now from result }
 {
-    if bytes.len() - from < 8 {
-        return 0;
-    }
-    if bytes[from] != b'0' {
-        return 0;
-    }
+    let rest = &bytes[from..];
     let mut count: usize = 0;
-    while 8 <= bytes.len() - from - 2 * count {
-        let more = zeros_of_eight(bytes, from + 2 * count);
-        if more < 4 {
-            return count + more;
+    if let [b'0', ..] = rest {
+        for eight in rest.chunks_exact(8) {
+            let more = zeros_of_eight(eight);
+            count += more;
+            if more < 4 {
+                return count;
+            }
         }
-        count += 4;
     }
     count
 }

@@ -5,4 +5,4 @@ use Rattle.numbers.proofs.ZeroRuns.{zeros_eight}
 use Rattle.numbers.proofs.runs.zeros_of_eight.Goals as goal
 
 pub returns : goal.returns
-returns c = zeros_eight c.args.bytes.now c.shared_slice_known-1.given _ (search rules) _ c.eight_bytes.ensures _ refl
+returns c = zeros_eight c.args.eight.now c.type_inv.eight 0 (search rules) _ c.eight_bytes.ensures _ refl
