@@ -82,6 +82,7 @@ fn put_front(name: &[u8], letter: u8, page: &mut [u8], to: usize) -> usize
 }
 
 /// Writes a name, `/` and the digit 0.
+#[tactic(auto, using(crate::proofs::Pieces::bare_put))]
 fn put_bare(name: &[u8], page: &mut [u8], to: usize) -> usize
     requires { to + (length name.now + 2) ≤ length page.old }
     ensures { PutAt (name.now ++ (47 ∷ 48 ∷ [])) (length name.now + 2) page.old page.new to result }
@@ -126,6 +127,7 @@ impl Pen {
     }
 
     /// Whether so many bytes more have no room on the page, or in this line.
+    #[tactic(auto, using(crate::proofs::Drawing::room_told))]
     fn lacks_room(&self, count: usize, page: &[u8]) -> bool
         requires { InLine self.now page.now }
         ensures { RoomTold (length page.now - self.now.to) (self.now.to - self.now.line) count result }
@@ -136,6 +138,7 @@ impl Pen {
     }
 
     /// Writes one byte more in this line, where it has room.
+    #[tactic(auto, using(crate::proofs::Drawing::separator_none, crate::proofs::Drawing::separator_put))]
     pub fn put_separator(&mut self, separator: u8, page: &mut [u8]) -> Option<()>
         requires { InLine self.old page.old }
         ensures { Separated separator self.old page.old result self.new page.new }
