@@ -3,6 +3,7 @@ use mathlib.Core.Path.{◌≡◌, sym}
 use mathlib.Core.Bool.{Bool, true, false, cond, not, ◌&&◌, ◌||◌, or-true}
 use lib.Bits.{bit_or}
 use lib.Dec.{eqb}
+use Rattle.std.specs.Prelude.{Result, Ok, Err}
 use Rattle.theory.specs.declared.Letter.TheVariants.{E}
 use Rattle.theory.specs.Lists.{any}
 use Rattle.theory.specs.Text.{Bytes, fields_of}
@@ -13,8 +14,6 @@ use Rattle.tables.specs.declared.State.{State}
 use Rattle.tables.specs.declared.Opened.{Opened}
 use Rattle.tables.specs.declared.Fault.{Fault}
 use Rattle.tables.specs.declared.Fault.TheVariants.{Headless}
-use Rattle.tables.specs.declared.Closing.{Closing}
-use Rattle.tables.specs.declared.Closing.TheVariants.{Done, Misclosed}
 use Rattle.tables.specs.Tables.{Tables, Holds, Safe}
 use Rattle.tables.specs.Lines.{Passed, ClosedFor}
 use Rattle.tables.proofs.Outcomes.{line_number, line_passes, line_fails}
@@ -24,10 +23,10 @@ use Rattle.lines.specs.Steps.{with_end, ClosesE}
 -- ---- what `close_end` answers
 
 module _ (manner : Manner) (s : State) (refuses within : Bool) (asked : refuses ≡ manner.refuses_headless) (told : within ≡ eqb (bit_or s.owing s.headed) s.headed) where
-  pub end_refused : (refuses && not within) ≡ true → ClosesE manner s (Misclosed Headless)
+  pub end_refused : (refuses && not within) ≡ true → ClosesE manner s (Err Headless)
   end_refused e = record { answer = rw (← asked, ← told, e) }
 
-  pub end_done : (refuses && not within) ≡ false → ClosesE manner s (Done (with_end s))
+  pub end_done : (refuses && not within) ≡ false → ClosesE manner s (Ok (with_end s))
   end_done e = record { answer = rw (← asked, ← told, e) }
 
 -- ---- what it says of the line
@@ -69,18 +68,18 @@ e_holds line t s w holds =
       ended = sym (or-true w.ended);
     }
 
-pub e_close : {manner : Manner} (line : Bytes) (t : Tables) (s : State) (w : Written) (o : Opened) (r : Closing) → Holds t s w → Passed manner E line s w o → ClosesE manner s r → ClosedFor manner line w r t
+pub e_close : {manner : Manner} (line : Bytes) (t : Tables) (s : State) (w : Written) (o : Opened) (r : Result State Fault) → Holds t s w → Passed manner E line s w o → ClosesE manner s r → ClosedFor manner line w r t
 e_close {manner} line t s w o r holds passed closes =
     record {
       answer = rw (e_left manner line s w o passed, within_told holds.owing holds.headed) (sym (line_number Headless (with_end s) (is_lacking manner s) closes.answer));
       holds = λ next is. rw (← (line_passes Headless (with_end s) (is_lacking manner s) closes.answer is).1, write_as E w line passed.first) (e_holds line t s w holds);
     }
 
-pub e_fault : {manner : Manner} {s : State} {r : Closing} → ClosesE manner s r → (f : Fault) → r ≡ Misclosed f → f ≡ Headless
+pub e_fault : {manner : Manner} {s : State} {r : Result State Fault} → ClosesE manner s r → (f : Fault) → r ≡ Err f → f ≡ Headless
 e_fault {manner} {s} closes f is = sym (line_fails Headless (with_end s) (is_lacking manner s) closes.answer is).1
 
 -- the ranges are kept
-pub e_safe : {manner : Manner} (t : Tables) (s next : State) (r : Closing) → Safe t s → ClosesE manner s r → r ≡ Done next → Safe t next
+pub e_safe : {manner : Manner} (t : Tables) (s next : State) (r : Result State Fault) → Safe t s → ClosesE manner s r → r ≡ Ok next → Safe t next
 e_safe {manner} t s next r safe closes is =
     let state = safe.state in
     rw (← (line_passes Headless (with_end s) (is_lacking manner s) closes.answer is).1) record {

@@ -16,12 +16,13 @@ use Rattle.tables.specs.Sorts.{Sort, multiplying, sort_of}
 use Rattle.tables.specs.Tables.{Tables, Safe}
 use Rattle.tables.specs.Lines.{most}
 use Rattle.certificates.proofs.MultiplierFields.{zero_weighed}
-use Rattle.lines.specs.Steps.{Stores, Skips, none, zeros}
+use Rattle.lines.specs.declared.Room.{Room}
+use Rattle.lines.specs.Steps.{Skips, none, zeros}
 use Rattle.lines.specs.Between.{FieldsRead}
 use Rattle.lines.proofs.Steps.{field_done}
 use Rattle.lines.proofs.FieldLoop.{fields_from, fields_more}
 
-module _ {line : Bytes} {t : Tables} {s : State} {o : Opened} (safe : Safe t s) (short : length line ≤ 1024) {many : ℕ} {x : Stores} where
+module _ {line : Bytes} {t : Tables} {s : State} {o : Opened} (safe : Safe t s) (short : length line ≤ 1024) {many : ℕ} {x : Room} where
   none_read : (letter : Letter) {from index : ℕ} → FieldsRead letter line t s o many from index x → FieldsRead letter line t s o many (from + 2 * 0) (index + 0) x
   none_read letter {from} {index} read =
       let at : from ≡ from + 2 * 0 = omega arith in

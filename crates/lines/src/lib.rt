@@ -2,53 +2,150 @@
 #![tactic(auto)]
 
 ghost use Rattle.std.specs.Prelude.{◌≡◌, ◌≤◌, length};
-ghost use Rattle.words.specs.Classes.{Classes};
 ghost use Rattle.tables.specs.Manners.{manner_of};
 ghost use Rattle.tables.specs.Sorts.{sort_of};
 ghost use Rattle.tables.specs.Tables.{Safe};
-ghost use Rattle.lines.specs.Steps.{stores, FieldReady, FieldDone, Skips, variables_before, tabled, ClosesE, CloseReady, CloseDone};
+ghost use Rattle.residuals.specs.Sums.{Summable};
+ghost use Rattle.lines.specs.Steps.{IsEmpty, FieldReady, FieldDone, Skips, variables_before, ClosesE, CloseReady, CloseDone, LeavesResidual};
 ghost use Rattle.lines.specs.LineLoading.{unruled, LoadsLines};
 
 use forms::Form;
 use tables::{
-    Claims, Closing, Fault, Fielding, Hints, Manner, Names, Opened, Opening, Rows, Signatures,
-    Slots, State, Variables, Weights,
+    Claims, Fault, Hints, Manner, Opened, Rows, Slots, State, Tables, Variables, Weights,
 };
 use theory::Letter;
+use tokens::TokenRoom;
+use words::{ClassTable, Words};
 
-/// One field of a line, by the line's letter. A `P` line has none left, and an `E` line has none at all.
-fn field(
-    letter: Letter,
-    index: usize,
-    part: &[u8],
-    state: State,
-    many: usize,
-    claims: &Claims,
-    slots: &Slots,
-    classes: &[u8; 256],
-    row: &mut [i16; 9],
-    variables: &mut Variables,
-    rows: &mut Rows,
-    weights: &mut Weights,
-    hints: &mut Hints,
-    arities: &mut [u8; 512],
-    places: &mut [u16; 512],
-) -> Fielding
-    requires { (FieldReady letter index part.now state many claims.now slots.now (stores row.old variables.old rows.old weights.old)) × (length arities.old ≡ 512) × (length places.old ≡ 512) × Classes classes.now }
-    ensures kept { (length arities.new ≡ 512) × (length places.new ≡ 512) }
-    ensures done { FieldDone letter index part.now state many claims.now slots.now (stores row.old variables.old rows.old weights.old) result (stores row.new variables.new rows.new weights.new) }
-{
-    match letter {
-        Letter::C => declarations::field_claim(index, part, row, many),
-        Letter::G | Letter::H | Letter::B => {
-            let atom = atoms::atom_of(letter, state.subgoals);
-            atoms::field_term(
-                atom, index, part, many, variables, rows, hints, arities, places, classes,
-            )
+/// The words of no name.
+const NO_WORDS: Words = Words {
+    first: 0,
+    second: 0,
+};
+
+/// What the fields of a line are read into: the row of a `C` line, the tables of the last rule, the weights of an `M` line, and
+/// room to work in. The loops lend it as one.
+#[derive(Drop)]
+struct Room {
+    /// Zeros before the first field of a line.
+    row: [i16; 9],
+    variables: Variables,
+    rows: Rows,
+    weights: Weights,
+    slots: Slots,
+    hints: Hints,
+    tokens: TokenRoom,
+}
+
+impl Room {
+    /// The room before any line: zeros.
+    fn empty() -> Room
+        ensures { IsEmpty result }
+    {
+        Room {
+            row: [0i16; 9],
+            variables: [NO_WORDS; 32],
+            rows: [0u16; 1224],
+            weights: [0i32; 81],
+            slots: [0u16; 256],
+            hints: [0u8; 128],
+            tokens: TokenRoom::empty(),
         }
-        Letter::M => certificates::field_multiplier(index, part, many, claims, slots, weights),
-        Letter::P | Letter::E => Fielding::Misread(Fault::FieldCount),
-        Letter::NoLetter => Fielding::Misread(Fault::Letter),
+    }
+
+    /// One field of a line, by the line's letter. A `P` line has none left, and an `E` line has none at all.
+    fn read_field(
+        &mut self,
+        letter: Letter,
+        index: usize,
+        part: &[u8],
+        state: State,
+        many: usize,
+        claims: &Claims,
+        classes: &ClassTable,
+    ) -> Result<usize, Fault>
+        requires { FieldReady letter index part.now state many claims.now self.old }
+        ensures { FieldDone letter index part.now state many claims.now self.old result self.new }
+    {
+        match letter {
+            Letter::C => declarations::field_claim(index, part, &mut self.row, many),
+            Letter::G | Letter::H | Letter::B => atoms::field_term(
+                atoms::atom_of(letter, state.subgoals),
+                index,
+                part,
+                many,
+                &mut self.variables,
+                &mut self.rows,
+                &mut self.hints,
+                &mut self.tokens,
+                classes,
+            ),
+            Letter::M => certificates::field_multiplier(
+                index,
+                part,
+                many,
+                claims,
+                &self.slots,
+                &mut self.weights,
+            ),
+            Letter::P | Letter::E => Err(Fault::FieldCount),
+            Letter::NoLetter => Err(Fault::Letter),
+        }
+    }
+
+    /// A line's last tests, and what it adds to the tables, by its letter.
+    fn close_line(
+        &mut self,
+        manner: Manner,
+        o: Opened,
+        state: State,
+        many: usize,
+        tables: &mut Tables,
+    ) -> Result<State, Fault>
+        requires { CloseReady o.letter o state tables.old self.old }
+        ensures { CloseDone (manner_of manner) o.letter o state many tables.old self.old result tables.new self.new }
+    {
+        match o.letter {
+            Letter::P => declarations::close_predicate(o, state, &mut tables.signatures),
+            Letter::C => declarations::close_claim(
+                o,
+                state,
+                &self.row,
+                &mut tables.signatures,
+                &mut tables.claims,
+            ),
+            Letter::G => facts::close_fact(
+                o,
+                state,
+                many,
+                &tables.signatures,
+                &tables.claims,
+                &self.rows,
+            ),
+            Letter::H => rules::close_head(o, state, many),
+            Letter::B => {
+                rules::close_subgoal(o, state, many, &tables.signatures, &mut self.slots)
+            }
+            Letter::M => certificates::close_multipliers(
+                state,
+                &tables.claims,
+                &mut self.weights,
+                &self.rows,
+            ),
+            Letter::E => close_end(manner, state),
+            Letter::NoLetter => Err(Fault::Letter),
+        }
+    }
+
+    /// The residual that a line leaves at whose end there is a fault: there is one only where a claim is not justified.
+    fn residual(&self, fault: Fault, state: State) -> Option<Form>
+        requires { (state.subgoals ≤ 8) × Summable self.now.weights self.now.rows }
+        ensures { LeavesResidual self.now.weights self.now.rows state fault result }
+    {
+        if fault != Fault::Unjustified {
+            return None;
+        }
+        Some(residuals::residual(&self.weights, &self.rows, state.subgoals, state.variables))
     }
 }
 
@@ -56,67 +153,30 @@ fn field(
 fn refuses_headless(manner: Manner) -> bool
     ensures { result ≡ (manner_of manner).refuses_headless }
 {
-    match manner {
-        Manner::Whole => true,
-        Manner::ButForHeads => false,
-    }
+    matches!(manner, Manner::Whole)
 }
 
 /// The end of an `E` line: every ruled predicate with a claim heads a rule, where that is asked.
-fn close_end(manner: Manner, state: State) -> Closing
+fn close_end(manner: Manner, state: State) -> Result<State, Fault>
     ensures { ClosesE (manner_of manner) state result }
 {
     if refuses_headless(manner) & !tables::is_within(state.owing, state.headed) {
-        return Closing::Misclosed(Fault::Headless);
+        return Err(Fault::Headless);
     }
-    let mut next = state;
-    next.ended = true;
-    Closing::Done(next)
-}
-
-/// A line's last tests, and what it adds to the tables, by its letter.
-fn close(
-    manner: Manner,
-    o: Opened,
-    state: State,
-    many: usize,
-    row: &[i16; 9],
-    rows: &Rows,
-    names: &mut Names,
-    signatures: &mut Signatures,
-    claims: &mut Claims,
-    slots: &mut Slots,
-    weights: &mut Weights,
-) -> Closing
-    requires { CloseReady o.letter o state rows.now (tabled names.old signatures.old claims.old slots.old weights.old) }
-    ensures { CloseDone (manner_of manner) o.letter o state many row.now rows.now (tabled names.old signatures.old claims.old slots.old weights.old) result (tabled names.new signatures.new claims.new slots.new weights.new) }
-{
-    let letter = o.letter;
-    match letter {
-        Letter::P => declarations::close_predicate(o, state, names, signatures),
-        Letter::C => declarations::close_claim(o, state, row, signatures, claims),
-        Letter::G => facts::close_fact(o, state, many, signatures, claims, rows),
-        Letter::H => rules::close_head(o, state, many),
-        Letter::B => rules::close_subgoal(o, state, many, signatures, slots),
-        Letter::M => certificates::close_multipliers(state, claims, weights, rows),
-        Letter::E => close_end(manner, state),
-        Letter::NoLetter => Closing::Misclosed(Fault::Letter),
-    }
+    Ok(State {
+        ended: true,
+        ..state
+    })
 }
 
 /// How many variables the rule has when the fields of a line begin.
 fn variables_before(letter: Letter, state: State) -> usize
     ensures { result ≡ variables_before (sort_of letter) state }
 {
-    match letter {
-        Letter::P => state.variables,
-        Letter::C => state.variables,
-        Letter::G => 0,
-        Letter::H => 0,
-        Letter::B => state.variables,
-        Letter::M => state.variables,
-        Letter::E => state.variables,
-        Letter::NoLetter => state.variables,
+    if matches!(letter, Letter::G | Letter::H) {
+        0
+    } else {
+        state.variables
     }
 }
 
@@ -127,71 +187,57 @@ fn zeros_ahead(letter: Letter, line: &[u8], from: usize) -> usize
 {
     match letter {
         Letter::M => numbers::zeros(line, from),
-        Letter::P | Letter::C | Letter::G | Letter::H | Letter::B | Letter::E | Letter::NoLetter =>
-            0,
+        _ => 0,
     }
 }
 
-/// How the lines of a text end: all pass, or the first fault.
-#[derive(Clone, Copy)]
-pub enum Ending {
-    AllPass,
-    Stopped(Fault),
-}
-
-/// A text whose lines are judged: how they end, the number of the last line that was read, the state there, and the
-/// residual where that line's claim is not justified.
+/// A text whose lines are judged: whether all pass, or the first fault; the number of the last line that was read, the state
+/// there, and the residual where that line's claim is not justified.
 #[derive(Clone, Copy)]
 pub struct LoadedLines {
-    pub ending: Ending,
+    pub ending: Result<(), Fault>,
     pub line: usize,
     pub state: State,
-    pub residual: Form,
+    pub residual: Option<Form>,
 }
 
-/// Judges the lines of a text in some manner, after lines that have filled the tables and left the state, with no rule among them. Left at
-/// the first fault.
-pub fn load_lines(
-    manner: Manner,
-    text: &[u8],
-    start: State,
-    names: &mut Names,
-    signatures: &mut Signatures,
-    claims: &mut Claims,
-) -> LoadedLines
-    requires { Safe (unruled names.old signatures.old claims.old) start }
-    ensures { LoadsLines (manner_of manner) text.now start (unruled names.old signatures.old claims.old) result names.new signatures.new claims.new }
+/// Judges the lines of a text in some manner, after lines that have filled the tables and left the state, with no rule among
+/// them. Left at the first fault.
+pub fn load_lines(manner: Manner, text: &[u8], start: State, tables: &mut Tables) -> LoadedLines
+    requires { Safe (unruled tables.old) start }
+    ensures { LoadsLines (manner_of manner) text.now start (unruled tables.old) result tables.new }
 {
-    let classes = words::class_table();
+    let classes = ClassTable::standard();
     let plain = text::is_plain(text);
-    let mut variables = [0u64; 64];
-    let mut rows = [0u16; 1224];
-    let mut weights = [0i32; 81];
-    let mut slots = [0u16; 256];
-    let mut hints = [0u8; 128];
-    let mut arities = [0u8; 512];
-    let mut places = [0u16; 512];
+    let mut room = Room::empty();
     let len = text.len();
     let mut state = start;
-    let mut ending = Ending::AllPass;
-    let mut residual = Form::zero();
+    let mut ending = Ok(());
+    let mut residual = None;
     let mut number: usize = 0;
     let mut at: usize = 0;
     'lines: while at < len {
-        let end = text::find_far(text, b'\n', at);
+        let end = text::find(text, b'\n', at);
         let line = &text[at..end];
         number += 1;
-        let opened = opening::open(line, state, names, signatures, &mut hints, &classes, plain);
+        let opened = opening::open(
+            line,
+            state,
+            &tables.signatures,
+            &mut room.hints,
+            &classes,
+            plain,
+        );
         let o = match opened {
-            Opening::Line(o) => o,
-            Opening::Misopened(fault) => {
-                ending = Ending::Stopped(fault);
+            Ok(o) => o,
+            Err(fault) => {
+                ending = Err(fault);
                 break 'lines;
             }
         };
         let letter = o.letter;
         let width = line.len();
-        let mut row = [0i16; 9];
+        room.row = [0i16; 9];
         let mut many = variables_before(letter, state);
         let mut from = o.from;
         let mut index: usize = 0;
@@ -200,55 +246,26 @@ pub fn load_lines(
             index += skipped;
             from += 2 * skipped;
             let stop = reader::field_end(line, from);
-            let read = field(
-                letter,
-                index,
-                &line[from..stop],
-                state,
-                many,
-                claims,
-                &slots,
-                &classes,
-                &mut row,
-                &mut variables,
-                &mut rows,
-                &mut weights,
-                &mut hints,
-                &mut arities,
-                &mut places,
-            );
-            match read {
-                Fielding::Read(known) => {
+            let part = &line[from..stop];
+            match room.read_field(letter, index, part, state, many, &tables.claims, &classes) {
+                Ok(known) => {
                     many = known;
                 }
-                Fielding::Misread(fault) => {
-                    ending = Ending::Stopped(fault);
+                Err(fault) => {
+                    ending = Err(fault);
                     break 'lines;
                 }
             }
             index += 1;
             from = stop + 1;
         }
-        let closed = close(
-            manner,
-            o,
-            state,
-            many,
-            &row,
-            &rows,
-            names,
-            signatures,
-            claims,
-            &mut slots,
-            &mut weights,
-        );
-        match closed {
-            Closing::Done(next) => {
+        match room.close_line(manner, o, state, many, tables) {
+            Ok(next) => {
                 state = next;
             }
-            Closing::Misclosed(fault) => {
-                ending = Ending::Stopped(fault);
-                residual = residuals::residual(&weights, &rows, state.subgoals, state.variables);
+            Err(fault) => {
+                ending = Err(fault);
+                residual = room.residual(fault, state);
                 break 'lines;
             }
         }

@@ -1,6 +1,6 @@
 -- What loading a text answers, by the tests of the whole text and what loading its lines leaves; and what check makes of it.
 use mathlib.Core.Path.{◌≡◌, refl, sym, ◌∙◌, ap, subst⁻¹}
-use mathlib.Core.Bool.{Bool, true, false}
+use mathlib.Core.Bool.{true, false}
 use mathlib.Core.List.{List, [], ◌∷◌, ◌++◌}
 use Prim.Native.Nat.{ℕ, zero, suc, ◌+◌, ◌-◌, ◌≤◌, ◌<◌}
 use native.Mathlib.Omega.{arith}
@@ -8,7 +8,8 @@ use lib.Dec.{eqb}
 use lib.IntN.{ℤ}
 use lib.ListN.{length, get_or, drop}
 use borrow.Author.Tests.{lt-ltb, le-ltb, eq-eqb, ne_eqb}
-use Rattle.groundwork.proofs.Truth.{by_truth, never_both, eqb-equal}
+use Rattle.std.specs.Prelude.{Option, Some, None, Result, Ok, Err}
+use Rattle.groundwork.proofs.Truth.{by_truth, eqb-equal}
 use Rattle.theory.specs.Lists.{over}
 use Rattle.theory.specs.Text.{Bytes, lines_of}
 use Rattle.theory.specs.Written.{nothing}
@@ -16,19 +17,19 @@ use Rattle.theory.specs.Faults.{whole}
 use Rattle.theory.specs.Check.{Numbers, Judgement, numbers, plain, judge, is_finished, judgement_of, verdict_of, check_of}
 use Rattle.theory.specs.Answers.{numbers_of, refusal_numbers}
 use Rattle.theory.specs.declared.Refusal.{Refusal}
-use Rattle.theory.specs.declared.Verdict.TheVariants.{Refused}
+use Rattle.theory.specs.declared.Counts.{Counts}
 use Rattle.forms.specs.declared.Form.{Form}
 use Rattle.tables.specs.declared.State.{State}
-use Rattle.tables.specs.declared.Fault.{Fault}
 use Rattle.tables.specs.Faults.{number_of}
+use Rattle.tables.specs.declared.Tables.{Tables as Lasting}
+use Rattle.tables.specs.declared.Fault.{Fault}
 use Rattle.tables.specs.Tables.{Tables, Holds}
 use Rattle.residuals.specs.Sums.{form_numbers}
-use Rattle.lines.specs.declared.Ending.TheVariants.{AllPass, Stopped}
 use Rattle.lines.specs.declared.LoadedLines.{LoadedLines}
 use Rattle.lines.specs.LineLoading.{fault_numbers, LinesLoadedFor, LoadsLines}
 use Rattle.tables.proofs.FaultNumbers.{number_some}
 use Rattle.packs.specs.declared.Loaded.{Loaded}
-use Rattle.packs.specs.Loading.{begun, fresh, Laid, Loads}
+use Rattle.packs.specs.Loading.{begun, fresh, Judges, Laid, Loads}
 use Rattle.packs.proofs.FreshTables.{fresh_holds}
 
 -- ---- the tests of the whole text
@@ -72,15 +73,18 @@ judged_text text short finished = rw (le-ltb _ _ short, finished) refl
 
 -- what the answer of a refusal is
 abbrev pub IsRefusal : Refusal → Loaded → Type 0
-IsRefusal refusal r = (r.verdict ≡ Refused refusal) × (r.unjustified ≡ false)
+IsRefusal refusal r = (r.verdict ≡ Err refusal) × (r.residual ≡ None)
 
-pub refused_text : (text : Bytes) (refusal : Refusal) {r : Loaded} {names signatures : List ℕ} {claims : List ℤ} → IsRefusal refusal r → verdict_of text ≡ plain (refusal_numbers refusal) → ((refusal_numbers refusal).number ≡ 0 → ⊥) → Loads text r names signatures claims
+some_none : {form : Form} → ◌≡◌ {A = Option Form} None (Some form) → ⊥
+some_none e = cc
+
+pub refused_text : (text : Bytes) (refusal : Refusal) {r : Loaded} {t : Lasting} → IsRefusal refusal r → verdict_of text ≡ plain (refusal_numbers refusal) → ((refusal_numbers refusal).number ≡ 0 → ⊥) → Loads text r t
 refused_text text refusal is verdict some =
     let answer = ap numbers_of is.0 in
     record {
       answer = answer ∙ ap (λ (j : Judgement). j.returned) (sym verdict);
-      residue = λ said long. never_both said is.1;
-      none = λ not-said. ap (λ (j : Judgement). j.residue) verdict;
+      residue = λ form e. absurd (some_none (sym is.1 ∙ e));
+      none = λ e. ap (λ (j : Judgement). j.residue) verdict;
       holds = λ zero. absurd (some (sym (ap (λ (n : Numbers). n.number) answer) ∙ zero));
     }
 
@@ -88,50 +92,55 @@ refused_text text refusal is verdict some =
 pub fault_numbers_lem : (g f : Fault) (line rule claim : ℕ) {n : Numbers} → f ≡ g → n ≡ fault_numbers g line rule claim → n ≡ fault_numbers f line rule claim
 fault_numbers_lem g f line rule claim is e = e ∙ ap (λ (h : Fault). fault_numbers h line rule claim) (sym is)
 
-pub fault_flag : (g f : Fault) {b : Bool} → f ≡ g → b ≡ eqb (number_of g) 13 → b ≡ eqb (number_of f) 13
-fault_flag g f is e = e ∙ ap (λ (h : Fault). eqb (number_of h) 13) (sym is)
-
 -- the number of a fault is the first of its numbers
 fault_number : (f : Fault) (line rule claim : ℕ) → (fault_numbers f line rule claim).number ≡ number_of f
 fault_number f line rule claim = by_truth (λ b. (fault_numbers f line rule claim).number ≡ number_of f) (eqb (number_of f) 13) (λ e. rw e (sym (eqb-equal _ _ e))) (λ e. rw e refl)
 
 -- ---- the lines are judged
 
-module _ (text : Bytes) (short : length text ≤ 32768) (finished : is_finished text ≡ true) {s : State} {l : LoadedLines} {t₀ : Tables} {names signatures : List ℕ} {claims : List ℤ} (isBegun : s ≡ begun) (isFresh : t₀ ≡ fresh) (loads : LoadsLines whole text s t₀ l names signatures claims) where
-  loaded : LinesLoadedFor whole text nothing l names signatures claims
+module _ (text : Bytes) (short : length text ≤ 32768) (finished : is_finished text ≡ true) {s : State} {l : LoadedLines} {t₀ : Tables} {t : Lasting} (isBegun : s ≡ begun) (isFresh : t₀ ≡ fresh) (loads : LoadsLines whole text s t₀ l t) where
+  loaded : LinesLoadedFor whole text nothing l t
   loaded = loads.tells nothing (subst⁻¹ (λ (x : State). Holds t₀ x nothing) isBegun (subst⁻¹ (λ (x : Tables). Holds x begun nothing) isFresh fresh_holds))
 
   verdict : verdict_of text ≡ judge whole nothing 0 (lines_of text)
   verdict = judged_text text short finished
 
-  -- a line is refused
-  pub refused_line : (f : Fault) → l.ending ≡ Stopped f → (refusal : Refusal) {line rule claim : ℕ} → line ≡ l.line → rule ≡ l.state.rules → claim ≡ l.state.multipliers + 1 → refusal_numbers refusal ≡ fault_numbers f line rule claim → {unjustified : Bool} → unjustified ≡ eqb (number_of f) 13
-      → Loads text (record { verdict = Refused refusal; residual = l.residual; state = l.state; unjustified = unjustified }) names signatures claims
-  refused_line f stopped refusal is_line is_rule is_claim told said = let numbered = rw (is_line, is_rule, is_claim) at told in record {
-    answer = numbered ∙ sym (loaded.refused f stopped) ∙ ap (λ (j : Judgement). j.returned) (sym verdict);
-    residue = λ yes long. ap (λ (j : Judgement). j.residue) verdict ∙ loaded.residue f stopped (λ is. long) ∙ rw (sym said ∙ yes) refl;
-    none = λ no. ap (λ (j : Judgement). j.residue) verdict ∙ loaded.residue f stopped (λ is. never_both (ap (λ (g : Fault). eqb (number_of g) 13) is) (sym said ∙ no)) ∙ rw (sym said ∙ no) refl;
-    holds = λ zero. absurd (number_some f (sym (fault_number f l.line l.state.rules (l.state.multipliers + 1)) ∙ sym (ap (λ (n : Numbers). n.number) numbered) ∙ zero));
-  }
+  module _ {answer : Result Counts Refusal} (judges : Judges l.ending l.line l.state answer) where
+    -- a line is refused
+    line_refused : (f : Fault) → l.ending ≡ Err f → Loads text (record { verdict = answer; residual = l.residual; state = l.state }) t
+    line_refused f stopped = let numbered = judges.refused f stopped in record {
+      answer = numbered ∙ sym (loaded.refused f stopped) ∙ ap (λ (j : Judgement). j.returned) (sym verdict);
+      residue = λ form is long. ap (λ (j : Judgement). j.residue) verdict ∙ loaded.residue form is long;
+      none = λ is. ap (λ (j : Judgement). j.residue) verdict ∙ loaded.none f stopped is;
+      holds = λ zero. absurd (number_some f (sym (fault_number f l.line l.state.rules (l.state.multipliers + 1)) ∙ sym (ap (λ (n : Numbers). n.number) numbered) ∙ zero));
+    }
 
-  module _ (fine : l.ending ≡ AllPass) where
-    -- all lines pass, and the last is no end
-    pub unended : {r : Loaded} → IsRefusal Refusal.NoEnd r → l.state.ended ≡ false → Loads text r names signatures claims
-    unfolding judge
-    unended is still = refused_text text Refusal.NoEnd is (verdict ∙ loaded.passed fine ∙ rw (sym (loaded.holds fine).holds.ended ∙ still) refl) (λ zero. omega arith)
+    module _ (fine : l.ending ≡ Ok tt) where
+      -- all lines pass, and the last is no end
+      unended : l.state.ended ≡ false → Loads text (record { verdict = answer; residual = l.residual; state = l.state }) t
+      unfolding judge
+      unended still = refused_text text Refusal.NoEnd (judges.unended fine still, loads.plain fine) (verdict ∙ loaded.passed fine ∙ rw (sym (loaded.holds fine).holds.ended ∙ still) refl) (λ zero. omega arith)
 
-    -- accepted: the lines, the rules and the lines of multipliers; the tables hold the pack
-    pub accepted : {r : Loaded} → r.unjustified ≡ false → r.state ≡ l.state → numbers_of r.verdict ≡ numbers 0 l.line l.state.rules l.state.multiplier_lines → l.state.ended ≡ true → Loads text r names signatures claims
-    unfolding judge
-    accepted plainly same counts ended =
-        let is : verdict_of text ≡ plain (numbers 0 l.line l.state.rules l.state.multiplier_lines) =
-        verdict ∙ loaded.passed fine ∙ rw (sym (loaded.holds fine).holds.ended ∙ ended, (loaded.holds fine).holds.rules, (loaded.holds fine).holds.lines) refl in
-        record {
-          answer = counts ∙ ap (λ (j : Judgement). j.returned) (sym is);
-          residue = λ said long. never_both said plainly;
-          none = λ not-said. ap (λ (j : Judgement). j.residue) is;
-          holds = λ zero. rw same (loaded.holds fine);
-        }
+      -- accepted: the lines, the rules and the lines of multipliers; the tables hold the pack
+      accepted : l.state.ended ≡ true → Loads text (record { verdict = answer; residual = l.residual; state = l.state }) t
+      unfolding judge
+      accepted ended =
+          let is : verdict_of text ≡ plain (numbers 0 l.line l.state.rules l.state.multiplier_lines) =
+          verdict ∙ loaded.passed fine ∙ rw (sym (loaded.holds fine).holds.ended ∙ ended, (loaded.holds fine).holds.rules, (loaded.holds fine).holds.lines) refl in
+          record {
+            answer = judges.accepted fine ended ∙ ap (λ (j : Judgement). j.returned) (sym is);
+            residue = λ form e. absurd (some_none (sym (loads.plain fine) ∙ e));
+            none = λ e. ap (λ (j : Judgement). j.residue) is;
+            holds = λ zero. loaded.holds fine;
+          }
+
+    by_ending : (ending : Result (Unit {0}) Fault) → l.ending ≡ ending → Loads text (record { verdict = answer; residual = l.residual; state = l.state }) t
+    by_ending (Err f) stopped = line_refused f stopped
+    by_ending (Ok tt) fine = by_truth (λ b. Loads text (record { verdict = answer; residual = l.residual; state = l.state }) t) l.state.ended (accepted fine) (unended fine)
+
+    -- the verdict by how the lines end is that of the text
+    pub lines_judged : Loads text (record { verdict = answer; residual = l.residual; state = l.state }) t
+    lines_judged = by_ending l.ending refl
 
 -- ---- check
 
@@ -142,14 +151,18 @@ short_area_lem text area short = rw (lt-ltb _ _ short) (refl, refl)
 same_rest : (form : Form) (area : List ℤ) → length form.coefficients ≡ 16 → form_numbers form ++ drop 17 area ≡ over (form_numbers form) area
 same_rest form area long = ap (λ (n : ℕ). form_numbers form ++ drop (suc n) area) (sym long)
 
-module _ (text : Bytes) (area : List ℤ) (room : 17 ≤ length area) {r : Loaded} {names signatures : List ℕ} {claims : List ℤ} (loads : Loads text r names signatures claims) where
+pub none_left : {r : Option Form} → ((form : Form) → r ≡ Some form → ⊥) → r ≡ None
+none_left {r = None} other = refl
+none_left {r = Some form} other = absurd (other form refl)
+
+module _ (text : Bytes) (area : List ℤ) (room : 17 ≤ length area) {r : Loaded} {t : Lasting} (loads : Loads text r t) where
   -- the residual lies over the area
-  pub laid_area : {exit : List ℤ} → r.unjustified ≡ true → Laid area r.residual exit → (numbers_of r.verdict ≡ (check_of text area).returned) × (exit ≡ (check_of text area).area)
+  pub laid_area : {exit : List ℤ} (form : Form) → r.residual ≡ Some form → Laid area form exit → (numbers_of r.verdict ≡ (check_of text area).returned) × (exit ≡ (check_of text area).area)
   unfolding check_of
-  laid_area said laid =
-      rw (le-ltb _ _ room, loads.residue said laid.long) (loads.answer, laid.is ∙ same_rest r.residual area laid.long)
+  laid_area form is laid =
+      rw (le-ltb _ _ room, loads.residue form is laid.long) (loads.answer, laid.is ∙ same_rest form area laid.long)
 
   -- the area stays
-  pub same_area : r.unjustified ≡ false → (numbers_of r.verdict ≡ (check_of text area).returned) × (area ≡ (check_of text area).area)
+  pub same_area : r.residual ≡ None → (numbers_of r.verdict ≡ (check_of text area).returned) × (area ≡ (check_of text area).area)
   unfolding check_of
-  same_area not-said = rw (le-ltb _ _ room, loads.none not-said) (loads.answer, refl)
+  same_area none = rw (le-ltb _ _ room, loads.none none) (loads.answer, refl)

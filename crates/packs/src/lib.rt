@@ -1,18 +1,16 @@
 // Check: loading a pack, which is the tests of the whole text around its lines, and the residual area.
 #![tactic(auto)]
 
-ghost use Rattle.std.specs.Prelude.{◌≡◌, false, ◌≤◌, eqb, length};
+ghost use Rattle.std.specs.Prelude.{◌≡◌, ◌≤◌, length, None, Err};
 ghost use Rattle.theory.specs.Answers.{refusal_numbers, numbers_of};
 ghost use Rattle.theory.specs.Check.{check_of};
-ghost use Rattle.theory.specs.declared.Verdict.TheVariants.{Refused};
-ghost use Rattle.tables.specs.Faults.{number_of};
+ghost use Rattle.tables.specs.Tables.{SafeState};
 ghost use Rattle.lines.specs.LineLoading.{fault_numbers, unruled};
-ghost use Rattle.packs.specs.Loading.{begun, fresh, Laid, Loads};
+ghost use Rattle.packs.specs.Loading.{begun, fresh, Judges, Laid, Loads};
 
 use forms::Form;
-use lines::Ending;
-use tables::{Claims, Fault, Manner, Names, Signatures, State};
-use theory::{Counts, Refusal, Verdict};
+use tables::{Fault, Manner, State, Tables};
+use theory::{Counts, Refusal};
 
 fn start() -> State
     ensures { result ≡ begun }
@@ -55,72 +53,51 @@ fn refusal(fault: Fault, line: u16, rule: u8, claim: u8) -> Refusal
     }
 }
 
-/// Lays the residual over the area's first 17 numbers.
-fn lay(area: &mut [i64], form: Form)
-    requires { 17 ≤ length area.old }
-    ensures { Laid area.old form area.new }
+/// Check's verdict by how the lines end: the number of the last line that was read, and the state there.
+fn verdict(ending: Result<(), Fault>, line: usize, state: State) -> Result<Counts, Refusal>
+    requires { (SafeState state) × (line ≤ 32768) }
+    ensures { Judges ending line state result }
 {
-    let constant = form.constant;
-    let coefficients = form.coefficients;
-    area[0] = constant;
-    let mut i: usize = 0;
-    while i < Form::VARIABLES {
-        let z = coefficients[i];
-        area[1 + i] = z;
-        i += 1;
+    let lines = line as u16;
+    let rules = state.rules as u8;
+    if let Err(fault) = ending {
+        return Err(refusal(fault, lines, rules, (state.multipliers + 1) as u8));
     }
+    if !state.ended {
+        return Err(Refusal::NoEnd);
+    }
+    Ok(Counts {
+        lines,
+        rules,
+        multiplier_lines: state.multiplier_lines as u16,
+    })
 }
 
-/// A text that is judged: the verdict, whether that is for an unjustified claim, the state, and the residual of that claim.
+/// A text that is judged: the verdict, the residual where a claim is not justified, and the state after the last line that was
+/// read.
 #[derive(Clone, Copy)]
 pub struct Loaded {
-    pub verdict: Verdict,
-    pub residual: Form,
+    pub verdict: Result<Counts, Refusal>,
+    pub residual: Option<Form>,
     pub state: State,
-    pub unjustified: bool,
 }
 
+/// A text that is refused before any line is read.
 fn refused(refusal: Refusal) -> Loaded
-    ensures { (result.verdict ≡ Refused refusal) × (result.unjustified ≡ false) }
+    ensures { (result.verdict ≡ Err refusal) × (result.residual ≡ None) }
 {
     Loaded {
-        verdict: Verdict::Refused(refusal),
-        residual: Form::zero(),
+        verdict: Err(refusal),
+        residual: None,
         state: start(),
-        unjustified: false,
-    }
-}
-
-fn is_unjustified(fault: Fault) -> bool
-    ensures { result ≡ eqb (number_of fault) 13 }
-{
-    match fault {
-        Fault::UnfitLine => false,
-        Fault::Letter => false,
-        Fault::Name => false,
-        Fault::Declaration => false,
-        Fault::FieldCount => false,
-        Fault::Number => false,
-        Fault::NoTerm => false,
-        Fault::CountLimit => false,
-        Fault::Unjustified => true,
-        Fault::RuledFact => false,
-        Fault::NotGround => false,
-        Fault::UnmetClaim => false,
-        Fault::Headless => false,
     }
 }
 
 /// Judges a text and fills the tables, which are empty at first, with what its lines write.
 #[tactic(auto, using(crate::proofs::LoadAnswers::long_text_lem))]
-pub fn load(
-    text: &[u8],
-    names: &mut Names,
-    signatures: &mut Signatures,
-    claims: &mut Claims,
-) -> Loaded
-    requires { unruled names.old signatures.old claims.old ≡ fresh }
-    ensures { Loads text.now result names.new signatures.new claims.new }
+pub fn load(text: &[u8], tables: &mut Tables) -> Loaded
+    requires { unruled tables.old ≡ fresh }
+    ensures { Loads text.now result tables.new }
 {
     let len = text.len();
     if 32768 < len {
@@ -132,57 +109,36 @@ pub fn load(
     if text[len - 1] != b'\n' {
         return refused(Refusal::UnfinishedText);
     }
-    let l = lines::load_lines(Manner::Whole, text, start(), names, signatures, claims);
-    let ending = l.ending;
-    let state = l.state;
-    let residual = l.residual;
-    let line = widths::usize_to_u16(l.line);
-    let rule = widths::usize_to_u8(state.rules);
-    match ending {
-        Ending::Stopped(fault) => Loaded {
-            verdict: Verdict::Refused(refusal(
-                fault,
-                line,
-                rule,
-                widths::usize_to_u8(state.multipliers + 1),
-            )),
-            residual,
-            state,
-            unjustified: is_unjustified(fault),
-        },
-        Ending::AllPass => {
-            if !state.ended {
-                return refused(Refusal::NoEnd);
-            }
-            Loaded {
-                verdict: Verdict::Accepted(Counts {
-                    lines: line,
-                    rules: rule,
-                    multiplier_lines: widths::usize_to_u16(state.multiplier_lines),
-                }),
-                residual,
-                state,
-                unjustified: false,
-            }
-        }
+    let l = lines::load_lines(Manner::Whole, text, start(), tables);
+    Loaded {
+        verdict: verdict(l.ending, l.line, l.state),
+        residual: l.residual,
+        state: l.state,
+    }
+}
+
+/// Lays a residual over the area's first 17 numbers.
+fn lay(area: &mut [i64], form: Form)
+    requires { 17 ≤ length area.old }
+    ensures { Laid area.old form area.new }
+{
+    area[0] = form.constant;
+    for i in 0..Form::VARIABLES {
+        area[1 + i] = form.coefficients[i];
     }
 }
 
 /// Checks a pack. For an unjustified claim the area's first 17 numbers are the residual; otherwise it stays.
-pub fn check(text: &[u8], area: &mut [i64]) -> Verdict
+pub fn check(text: &[u8], area: &mut [i64]) -> Result<Counts, Refusal>
     ensures { (numbers_of result ≡ (check_of text.now area.old).returned) × (area.new ≡ (check_of text.now area.old).area) }
 {
     if area.len() < 17 {
-        return Verdict::Refused(Refusal::ShortArea);
+        return Err(Refusal::ShortArea);
     }
-    let mut names = tables::no_names();
-    let mut signatures = tables::no_signatures();
-    let mut claims = tables::no_claims();
-    let l = load(text, &mut names, &mut signatures, &mut claims);
-    if l.unjustified {
-        let residual = l.residual;
+    let mut tables = Tables::empty();
+    let l = load(text, &mut tables);
+    if let Some(residual) = l.residual {
         lay(area, residual);
-        return l.verdict;
     }
     l.verdict
 }

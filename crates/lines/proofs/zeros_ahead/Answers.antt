@@ -7,5 +7,5 @@ use Rattle.lines.proofs.zeros_ahead.Goals as goal
 pub returns-in-M : goal.returns-in-M
 returns-in-M c = search (rules, zeros_skipped)
 
-pub returns-in-P : goal.returns-in-P
-returns-in-P c = none
+pub returns-in_default : goal.returns-in_default
+returns-in_default c = none

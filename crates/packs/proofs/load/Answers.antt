@@ -1,11 +1,9 @@
 -- `packs::load` meets its contract. Assumes nothing.
-use mathlib.Core.Path.{refl}
 use native.Mathlib.Omega.{arith}
 use borrow.Author.Rules.{rules}
-use Rattle.groundwork.proofs.Truth.{not-true, not-false}
 use Rattle.theory.specs.declared.Refusal.TheVariants.{UnfinishedText}
 use Rattle.packs.proofs.FreshTables.{fresh_ready}
-use Rattle.packs.proofs.LoadAnswers.{is_finished_lem, not_finished, none_unfinished, unfinished_text, refused_text, refused_line, unended, accepted}
+use Rattle.packs.proofs.LoadAnswers.{is_finished_lem, not_finished, none_unfinished, unfinished_text, refused_text, lines_judged}
 use Rattle.packs.proofs.load.Goals as goal
 
 pub returns-then-len-eq0 : goal.returns-then-len-eq0
@@ -17,14 +15,6 @@ returns-then-text-len-ne10 c = refused_text _ UnfinishedText c.refused-then-text
 pub load_lines-l-requires : goal.load_lines-l-requires
 load_lines-l-requires c = search (rules, fresh_ready)
 
-pub returns-then-not-state : goal.returns-then-not-state
-returns-then-not-state c =
-    unended _ (omega arith) (is_finished_lem _ c.if-len-eq0.false c.if-text-len-ne10.false) c.start.ensures c.requires c.load_lines-l.ensures (search rules) c.refused-then-not-state.ensures (search (rules, not-true))
-
-pub returns-in-Stopped : goal.returns-in-Stopped
-returns-in-Stopped c =
-    search (rules, refused_line _ (omega arith) (is_finished_lem _ c.if-len-eq0.false c.if-text-len-ne10.false) c.start.ensures c.requires c.load_lines-l.ensures)
-
-pub returns-else-not-state : goal.returns-else-not-state
-returns-else-not-state c =
-    accepted _ (omega arith) (is_finished_lem _ c.if-len-eq0.false c.if-text-len-ne10.false) c.start.ensures c.requires c.load_lines-l.ensures (search rules) refl refl (rw (c.usize_to_u16-line.ensures, c.usize_to_u8-rule.ensures, c.usize_to_u16.ensures) refl) (search (rules, not-false))
+pub returns : goal.returns
+returns c =
+    lines_judged _ (omega arith) (is_finished_lem _ c.if-len-eq0.false c.if-text-len-ne10.false) c.start.ensures c.requires c.load_lines-l.ensures c.verdict.ensures
