@@ -5,7 +5,7 @@ use Prim.Native.Nat.{ℕ, ◌+◌, ◌-◌, ◌≤◌, ◌<◌}
 use native.Mathlib.Decide.{dec_le}
 use native.Mathlib.Omega.{arith}
 use lib.IntN.{pos}
-use lib.ListN.{length, get_or, set, length-set}
+use lib.ListN.{length, get_or, take, set, length-set}
 use lib.Seq.{get_or-set_same, get_or-set_other}
 use Rattle.groundwork.proofs.Stretches.{replaced}
 use Rattle.theory.specs.Text.{Bytes}
@@ -30,7 +30,7 @@ row_of_parts rows base xs t first second = record {
 }
 
 module _ (field : Bytes) (read : Tokens) (room : TokenRoom) (stand : TokensStand field read room) where
-  module _ (sum : ℕ) (first : AritiesSummed room.arities read.symbols sum) (names₀ : List Words) (known : ℕ) (rows₀ : List ℕ) (base r : ℕ) (names : List Words) (counts : List ℕ) (fits : base + 17 ≤ 1224) (second : Counted field names₀ known rows₀ base r names counts) where
+  module _ (sum : ℕ) (first : AritiesSummed (take read.symbols room.arities) sum) (names₀ : List Words) (known : ℕ) (rows₀ : List ℕ) (base r : ℕ) (names : List Words) (counts : List ℕ) (fits : base + 17 ≤ 1224) (second : Counted field names₀ known rows₀ base r names counts) where
     abbrev rows : List ℕ
     rows = set counts base sum
 

@@ -4,7 +4,7 @@ use mathlib.Core.Bool.{Bool, true, false}
 use mathlib.Core.Option.{some}
 use Prim.Native.Nat.{ℕ, ◌≤◌, ◌<◌}
 use native.Mathlib.Omega.{arith}
-use lib.ListN.{length, drop_of_length-le}
+use lib.ListN.{length, take, drop_of_length-le}
 use Rattle.groundwork.proofs.Truth.{ltb-ge, or_not_left}
 use Rattle.std.specs.Prelude.{Option, Some, None, is_some}
 use Rattle.theory.specs.Text.{Bytes}
@@ -52,7 +52,7 @@ module _ (s : Bytes) (unfit : Bool) (unfit-is : unfit ≡ is_unfit s) where
         unfolding measure_of measure_term
         measure_variable h = rw (sym unfit-is ∙ fit, found.1, filled_is (variables term) (λ e. omega (arith, many, ap length e)))
 
-        module _ (sum : ℕ) (sum_is_lem : AritiesSummed room.arities read.symbols sum) where
+        module _ (sum : ℕ) (sum_is_lem : AritiesSummed (take read.symbols room.arities) sum) where
           summed : sum ≡ size structural term
           summed = term_summed sum_is_lem stands.symbols term found.1 ∙ sym (section_form term).first
 

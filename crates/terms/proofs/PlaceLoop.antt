@@ -5,8 +5,8 @@ use mathlib.Core.Option.{some}
 use Prim.Native.Nat.{ℕ, ◌+◌, ◌≤◌, ◌<◌}
 use native.Mathlib.Numerals.{add-one}
 use native.Mathlib.Omega.{arith}
-use lib.ListN.{length, get_or, take}
-use lib.Seq.{take-suc}
+use lib.ListN.{length, get_or, take, length-take}
+use lib.Seq.{take-suc, take_all, get_or-take}
 use Rattle.theory.specs.Text.{Bytes}
 use Rattle.theory.specs.Terms.{Term, read_term, variables}
 use Rattle.text.specs.Scans.{part}
@@ -54,7 +54,7 @@ module _ (field : Bytes) (places : List ℕ) (count : ℕ) (stand : PlacesStand 
       token = standing_at field (get_or places i 0)
 
       longer : map (standing_at field) (take (i + 1) places) ≡ map (standing_at field) (take i places) ++ (token ∷ [])
-      longer = rw (add-one i, take-suc places i 0 (omega (arith, stand.few, stand.wide)), map-append)
+      longer = rw (add-one i, take-suc places i 0 (omega (arith, stand.wide)), map-append)
 
       after : (r : ℕ) (names₁ : List Words) (rows₁ : List ℕ) → CountsOne (words_of token) names many rows base r names₁ rows₁ → Counting field places count names₀ known rows₀ base (i + 1) r names₁ rows₁
       after r names₁ rows₁ counts =
@@ -89,3 +89,12 @@ module _ (field : Bytes) (places : List ℕ) (count : ℕ) (stand : PlacesStand 
             name_size = before.name_size;
             from = λ seen holds number size t e. tally_counted t (rw (all_passed t e) at (before.tallied seen holds number (cleared.elsewhere.size ∙ size)));
           }
+
+-- the first places of a row, by themselves
+pub places_first : {field : Bytes} {places : List ℕ} {count : ℕ} → PlacesStand field places count → PlacesStand field (take count places) (length (take count places))
+places_first {field} {places} {count} stand = record {
+  few = omega (arith, stand.few, length-take count places);
+  wide = omega arith;
+  each = λ i h. let less : i < count = omega (arith, length-take count places) in rw (get_or-take count places i 0 less) (stand.each i less);
+  all = λ t e. rw (take_all (length (take count places)) (take count places) (omega arith)) (stand.all t e);
+}

@@ -1,8 +1,8 @@
 -- The first step of a term's size (000, section 1.4): the sum of a row of arities.
-use Rattle.std.specs.Prelude.{◌≡◌, List, ℕ, ◌≤◌, take}
+use Rattle.std.specs.Prelude.{◌≡◌, List, ℕ, ◌≤◌}
 use Rattle.theory.specs.Lists.{total}
 
--- r is the sum of the first numbers in the row, whatever they were read from
-pub record AritiesSummed (arities : List ℕ) (symbols r : ℕ) : Type 0 where
-  pub is : r ≡ total (take symbols arities)
+-- r is the sum of the numbers, whatever they were read from
+pub record AritiesSummed (arities : List ℕ) (r : ℕ) : Type 0 where
+  pub is : r ≡ total arities
   pub small : r ≤ 4608

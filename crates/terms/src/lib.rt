@@ -2,7 +2,7 @@
 // then the occurrences of the variables. Every size and every coefficient comes of these two steps.
 #![tactic(auto)]
 
-ghost use Rattle.std.specs.Prelude.{◌≡◌, ◌+◌, ◌≤◌};
+ghost use Rattle.std.specs.Prelude.{◌≡◌, ◌+◌, ◌≤◌, length};
 ghost use Rattle.theory.specs.Sizes.{structural};
 ghost use Rattle.theory.specs.Measure.{measure_of};
 ghost use Rattle.theory.specs.Answers.{measured_of};
@@ -17,12 +17,12 @@ use tokens::{TokenRoom, Tokens};
 use words::{ClassTable, Hints, WordTable, Words};
 
 /// The first step of section 1.4: the sum of the arities of a term's symbols. Of a ground term it is the size.
-pub fn sum_of_arities(arities: &[u8; 512], symbols: usize) -> u16
-    requires { SmallArities arities.now symbols }
-    ensures { AritiesSummed arities.now symbols result }
+pub fn sum_of_arities(arities: &[u8]) -> u16
+    requires { SmallArities arities.now (length arities.now) }
+    ensures { AritiesSummed arities.now result }
 {
     let mut sum: u16 = 0;
-    for arity in &arities[..symbols] {
+    for arity in arities {
         sum += *arity as u16;
     }
     sum
@@ -43,7 +43,7 @@ pub fn measure(term: &[u8]) -> Result<u32, TermRefusal>
     if 0 < read.variables {
         return Err(TermRefusal::HasVariable);
     }
-    Ok(sum_of_arities(&room.arities, read.symbols) as u32)
+    Ok(sum_of_arities(&room.arities[..read.symbols]) as u32)
 }
 
 /// Rows of 17 numbers, one for each argument of a rule's atoms: its constant, and how often each variable occurs.
@@ -92,23 +92,21 @@ fn count_variable(
 /// the answer is right.
 pub fn count_occurrences(
     field: &[u8],
-    places: &[u16; 512],
-    count: usize,
+    places: &[u16],
     names: &mut WordTable,
     known: usize,
     hints: &mut Hints,
     rows: &mut Rows,
     base: usize,
 ) -> usize
-    requires { (PlacesStand field.now places.now count) × (known ≤ 17) × (base + 17 ≤ 1224) }
+    requires { (PlacesStand field.now places.now (length places.now)) × (known ≤ 17) × (base + 17 ≤ 1224) }
     ensures { Counted field.now names.old known rows.old base result names.new rows.new }
 {
     clear_row(rows, base);
     let mut many = known;
-    for counted in 0..count {
-        let place = places[counted];
-        let start = tokens::start_of(place);
-        let end = tokens::end_of(place);
+    for place in places {
+        let start = tokens::start_of(*place);
+        let end = tokens::end_of(*place);
         let words = words::words_at(field, start, end);
         many = count_variable(words, names, many, hints, rows, base);
     }
@@ -130,9 +128,9 @@ pub fn form_of_term(
     requires { (TokensStand field.now read room.now) × (known ≤ 17) × (base + 17 ≤ 1224) }
     ensures { FormTaken structural field.now names.old known rows.old base result names.new rows.new }
 {
-    let constant = sum_of_arities(&room.arities, read.symbols);
-    let count = read.variables;
-    let many = count_occurrences(field, &room.places, count, names, known, hints, rows, base);
+    let constant = sum_of_arities(&room.arities[..read.symbols]);
+    let places = &room.places[..read.variables];
+    let many = count_occurrences(field, places, names, known, hints, rows, base);
     rows[base] = constant;
     many
 }

@@ -174,7 +174,7 @@ module _ (field : Bytes) (room : TokenRoom) (wanted symbols variables from : ℕ
         let many : length (variable_tokens (parts_at 32 field)) ≡ variables = ap length (sym found) ∙ length-map (take variables places) (standing_at field) ∙ length-take-le variables places (omega (arith, reading.place_size)) in
         let stand : TokensStand field record { symbols = symbols; variables = variables } room = record {
           symbols = record { digits = record { few = omega arith; small = reading.digits }; all = λ t e. sym (term_tokens field t e).numbers ∙ sym (sym (append-nil _) ∙ rw none_after at reading.numbers) };
-          places = record { few = omega arith; wide = reading.place_size; each = reading.each; all = λ t e. sym (found ∙ (term_tokens field t e).names) };
+          places = record { few = omega arith; wide = omega (arith, reading.place_size); each = reading.each; all = λ t e. sym (found ∙ (term_tokens field t e).names) };
           many = λ t e. sym (ap length (sym (term_tokens field t e).names) ∙ many);
         } in
         record { fine = sym (equal-eqb wanted 0 e) ∙ all_read; stand = λ read is. let same : record { symbols = symbols; variables = variables } ≡ read = cc in subst (λ (r : Tokens). TokensStand field r room) same stand }

@@ -47,7 +47,7 @@ pub record SymbolsStand (field : Bytes) (arities : List ℕ) (symbols : ℕ) : T
 -- at the first places stand the field's variables, in order
 pub record PlacesStand (field : Bytes) (places : List ℕ) (count : ℕ) : Type 0 where
   pub few : count ≤ 512
-  pub wide : length places ≡ 512
+  pub wide : count ≤ length places
   pub each : (i : ℕ) → i < count → VariableAt field (get_or places i 0)
   pub all : (t : Term) → read_term field ≡ some t → variables t ≡ map (standing_at field) (take count places)
 
