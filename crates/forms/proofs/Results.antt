@@ -1,6 +1,6 @@
 -- What plus and times share: a signed result that fits is the integer that it should be, and an array is filled from the front.
 use mathlib.Core.Path.{◌≡◌, ◌∙◌}
-use mathlib.Core.List.{List, []}
+use mathlib.Core.List.{List}
 use Prim.Native.Nat.{ℕ, ◌+◌, ◌^◌, ◌≤◌, ◌<◌}
 use native.Mathlib.Omega.{arith}
 use native.Mathlib.Nat.{mul-le-mul}
@@ -49,16 +49,6 @@ module _ {f g : Form} (small : Within (2 ^ 61) f × Within (2 ^ 61) g) where
 
   pub coefficients_add : (i : ℕ) → i < 16 → Exact ◌+ℤ◌ (at f i) (at g i)
   coefficients_add i h = exact_sum (at f i) (at g i) (small.0.coefficient i h) (small.1.coefficient i h)
-
--- a number as a form with no variables
-abbrev alone : ℤ → Form
-alone z = record { constant = z; coefficients = [] }
-
-alone_within : (z : ℤ) → nat_abs z < 2 ^ 60 → Within (2 ^ 61) (alone z)
-alone_within z small = record { constant = omega arith; coefficient = λ i less. omega arith }
-
-pub constant_adds : (x y : ℤ) → (nat_abs x < 2 ^ 60) × (nat_abs y < 2 ^ 60) → Exact ◌+ℤ◌ x y
-constant_adds x y small = constants_add {f = alone x} {g = alone y} (alone_within x small.0, alone_within y small.1)
 
 module _ {f : Form} (k : ℤ) (small : Within (2 ^ 24) f × nat_abs k ≤ 2 ^ 36) where
   pub constant_multiplies : Exact ◌*ℤ◌ k f.constant

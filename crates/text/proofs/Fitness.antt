@@ -35,9 +35,6 @@ module _ (s : Bytes) where
   unfolding is_unfit
   unfit_fine short fine = rw (ge-ltb 1024 (length s) short, fine)
 
-  pub scanned_none : Scanned s false 0
-  scanned_none = record { high = omega arith; rest = refl }
-
   module _ (unfit : Bool) (i : ℕ) (c : Scanned s unfit i) where
     pub scanned_more : i < length s → Scanned s (unfit || ltb (get_or s i 0) 32 || ltb 126 (get_or s i 0)) (i + 1)
     scanned_more h = record {
