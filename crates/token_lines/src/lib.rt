@@ -1,8 +1,8 @@
 // What each token makes of the lines of a clause.
 #![tactic(auto)]
 
-ghost use Rattle.std.specs.Prelude.{◌≡◌, [], ◌<◌, Some};
-ghost use Rattle.clause_tokens.specs.declared.Mark.TheVariants.{Opens, Closes, Comma};
+ghost use Rattle.std.specs.Prelude.{◌≡◌, [], ◌<◌};
+ghost use Rattle.clause_tokens.specs.declared.Mark.TheVariants.{Opens, Comma};
 ghost use Rattle.term_lines.specs.Drawings.{Drawable, Draws};
 ghost use Rattle.token_lines.specs.LineEnds.{EndsLine};
 
@@ -31,14 +31,6 @@ fn next_argument(pen: &mut Pen, page: &mut [u8]) -> Option<()>
     pen.put_separator(b',', page)?;
     pen.arguments += 1;
     Some(())
-}
-
-/// The innermost open compound is complete.
-fn close(pen: &mut Pen, page: &[u8])
-    requires { Drawable [] Closes 0 pen.old page.now }
-    ensures { Draws [] Closes 0 pen.old page.now (Some tt) pen.new page.now }
-{
-    pen.compounds.pop();
 }
 
 /// A head or a subgoal is complete.
@@ -127,7 +119,7 @@ pub fn put_token(
         Mark::Lone => pen.put_lone(number, page),
         Mark::Opens => put_opening(pen, page),
         Mark::Closes => {
-            close(pen, page);
+            pen.compounds.pop();
             Some(())
         }
         Mark::Comma => put_comma(pen, page),

@@ -1,5 +1,6 @@
 -- `token_lines::put_token` meets its contract. Assumes nothing.
 use Rattle.token_lines.proofs.ByMark.{given_name, given_variable, given_lone, given_opens, given_closes, given_comma, drawable_as, draws_as, draws_other, ends_by_tag, ends_shut, drawable_ends, draws_ends}
+use Rattle.token_lines.proofs.Punctuation.{closes_deep, closes_put}
 use borrow.Author.Rules.{rules}
 use Rattle.token_lines.proofs.put_token.Goals as goal
 
@@ -15,8 +16,8 @@ put_lone-requires c = search (rules, drawable_as, given_lone)
 pub put_opening-requires : goal.put_opening-requires
 put_opening-requires c = search (rules, drawable_as, given_opens)
 
-pub close-requires : goal.close-requires
-close-requires c = search (rules, drawable_as, given_closes)
+pub pop-requires : goal.pop-requires
+pop-requires c = closes_deep (drawable_as given_closes c.in-Closes.is c.requires)
 
 pub put_comma-requires : goal.put_comma-requires
 put_comma-requires c = search (rules, drawable_as, given_comma)
@@ -37,7 +38,7 @@ pub returns-in-Opens : goal.returns-in-Opens
 returns-in-Opens c = search (rules, draws_as, given_opens)
 
 pub returns-in-Closes : goal.returns-in-Closes
-returns-in-Closes c = search (rules, draws_as, given_closes)
+returns-in-Closes c = draws_as given_closes c.in-Closes.is (closes_put c.pop.ensures)
 
 pub returns-in-Comma : goal.returns-in-Comma
 returns-in-Comma c = search (rules, draws_as, given_comma)
