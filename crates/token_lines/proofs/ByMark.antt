@@ -17,7 +17,7 @@ use Rattle.clause_tokens.specs.declared.Mark.TheVariants.{Name, Variable, Lone, 
 use Rattle.term_lines.specs.declared.Pen.{Pen}
 use Rattle.term_lines.specs.Texts.{EndsAtom, Moves, ends_line}
 use Rattle.term_lines.specs.Drawings.{Shows, shows_name, shows_variable, shows_lone, shows_sign, Drawable, Draws, passes}
-use Rattle.token_lines.specs.LineEnds.{EndsLine, comma_ends, neck_ends, stop_ends}
+use Rattle.token_lines.specs.LineEnds.{EndsLine, comma_ends, neck_ends, stop_ends, EndComes, LineEnded}
 
 -- a stray token leads nowhere
 no_stray : {s : Bytes} → EndsAtom (T.stray s) → ⊥
@@ -112,8 +112,8 @@ module _ {x : Bytes} {mark : Mark} {number : ℕ} {d : Pen} {page : Bytes} (way 
   pub ends_shut : Drawable x mark number d page → d.compounds.depth ≡ 0
   ends_shut w = w.drawing.depth ∙ shut_there w.shows w.moves way
 
-  pub drawable_ends : Drawable x mark number d page → Drawable [] mark 0 d page
-  drawable_ends w = drawable_as (ends_given (ends_by_tag mark way)) refl w
+  pub end_comes : Drawable x mark number d page → EndComes d page
+  end_comes w = record { mark = mark; ends = ends_by_tag mark way; drawable = drawable_as (ends_given (ends_by_tag mark way)) refl w }
 
-  pub draws_ends : {r : Rust.Option (Unit {0})} {e : Pen} {after : Bytes} → Draws [] mark 0 d page r e after → Draws x mark number d page r e after
-  draws_ends draws = draws_as (ends_given (ends_by_tag mark way)) refl draws
+  pub draws_ends : {r : Rust.Option (Unit {0})} {e : Pen} {after : Bytes} → LineEnded d page r e after → Draws x mark number d page r e after
+  draws_ends ended = draws_as (ends_given (ends_by_tag mark way)) refl (ended.by mark (ends_by_tag mark way))

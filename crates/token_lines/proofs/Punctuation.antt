@@ -25,7 +25,7 @@ use Rattle.term_lines.specs.declared.OpenCompounds.{OpenCompounds}
 use Rattle.term_lines.specs.declared.Pen.{Pen}
 use Rattle.term_lines.specs.Texts.{open_text, last_text, drawn_text, Moves, opens_atom, opens_symbol, closes_one, ends_line, next_argument, next_term, atoms_of, OpenFits, OpenedFit, LastFits, current, PartsFit, StateFits}
 use Rattle.term_lines.specs.Drawings.{DigitsStand, ArgumentsBegun, Drawing, DrawnNext, drawn_on, Shows, shows_sign, Drawable, Draws, RoomTold, Separated, separated, no_separator}
-use Rattle.token_lines.specs.LineEnds.{EndsLine, comma_ends, neck_ends, stop_ends}
+use Rattle.token_lines.specs.LineEnds.{EndsLine, comma_ends, neck_ends, stop_ends, LineEnded}
 use Rattle.term_lines.proofs.DrawnTexts.{arity_more, drawn_atom_opens, drawn_symbol_opens, drawn_symbol_digit, drawn_closes, drawn_line, drawn_argument}
 use Rattle.term_lines.proofs.DrawnLimits.{drawn_length, no_line, line_atom_opens, line_symbol_opens, line_closes, line_argument, atom_named, symbol_named, atom_fits_lem, symbol_fits, terms_fit_more, atoms_added, line_fits_lem, deep_line}
 use Rattle.term_lines.proofs.Drawing.{page_size, to_is, to_within, no_room, draws_none, separator_refused, in_line}
@@ -202,6 +202,14 @@ module _ {mark : Mark} {d : Pen} {page : Bytes} (shut : d.compounds.depth ≡ 0)
           fits = line_fits_lem before t g.fits;
         })) w.drawing;
   }
+
+module _ {d : Pen} {page : Bytes} (shut : d.compounds.depth ≡ 0) where
+  pub ended_no_room : length page ≤ d.to → LineEnded d page None d page
+  ended_no_room full = record { by = λ mark ends. end_no_room shut ends full }
+
+  pub ended_put : {after : Bytes} {q : ℕ} → d.to < length page → PutAt (10 ∷ []) 1 page after d.to q
+      → LineEnded d page (Some tt) (record { to = q; line = q; atoms = d.atoms + 1; arguments = 0; compounds = d.compounds }) after
+  ended_put room copied = record { by = λ mark ends. end_put shut ends room copied }
 
 -- ---- `(` after the name of a symbol
 

@@ -4,7 +4,7 @@
 ghost use Rattle.std.specs.Prelude.{◌≡◌, [], ◌<◌};
 ghost use Rattle.clause_tokens.specs.declared.Mark.TheVariants.{Opens, Comma};
 ghost use Rattle.term_lines.specs.Drawings.{Drawable, Draws};
-ghost use Rattle.token_lines.specs.LineEnds.{EndsLine};
+ghost use Rattle.token_lines.specs.LineEnds.{EndComes, LineEnded};
 
 use clause_tokens::Mark;
 use term_lines::Pen;
@@ -34,9 +34,9 @@ fn next_argument(pen: &mut Pen, page: &mut [u8]) -> Option<()>
 }
 
 /// A head or a subgoal is complete.
-fn end_line(mark: Mark, pen: &mut Pen, page: &mut [u8]) -> Option<()>
-    requires { (pen.old.compounds.depth ≡ 0) × EndsLine mark × Drawable [] mark 0 pen.old page.old }
-    ensures { Draws [] mark 0 pen.old page.old result pen.new page.new }
+fn end_line(pen: &mut Pen, page: &mut [u8]) -> Option<()>
+    requires { (pen.old.compounds.depth ≡ 0) × EndComes pen.old page.old }
+    ensures { LineEnded pen.old page.old result pen.new page.new }
 {
     if page.len() <= pen.to {
         return None;
@@ -96,7 +96,7 @@ fn put_comma(pen: &mut Pen, page: &mut [u8]) -> Option<()>
     ensures { Draws [] Comma 0 pen.old page.old result pen.new page.new }
 {
     match pen.compounds.depth {
-        0 => end_line(Mark::Comma, pen, page),
+        0 => end_line(pen, page),
         1 => next_argument(pen, page),
         _ => next_term(pen, page),
     }
@@ -123,7 +123,7 @@ pub fn put_token(
             Some(())
         }
         Mark::Comma => put_comma(pen, page),
-        Mark::Neck | Mark::Stop => end_line(mark, pen, page),
+        Mark::Neck | Mark::Stop => end_line(pen, page),
         Mark::Stray | Mark::Nothing => None,
     }
 }

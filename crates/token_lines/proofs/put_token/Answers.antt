@@ -1,5 +1,5 @@
 -- `token_lines::put_token` meets its contract. Assumes nothing.
-use Rattle.token_lines.proofs.ByMark.{given_name, given_variable, given_lone, given_opens, given_closes, given_comma, drawable_as, draws_as, draws_other, ends_by_tag, ends_shut, drawable_ends, draws_ends}
+use Rattle.token_lines.proofs.ByMark.{given_name, given_variable, given_lone, given_opens, given_closes, given_comma, drawable_as, draws_as, draws_other, ends_shut, end_comes, draws_ends}
 use Rattle.token_lines.proofs.Punctuation.{closes_deep, closes_put}
 use borrow.Author.Rules.{rules}
 use Rattle.token_lines.proofs.put_token.Goals as goal
@@ -23,7 +23,7 @@ pub put_comma-requires : goal.put_comma-requires
 put_comma-requires c = search (rules, drawable_as, given_comma)
 
 pub end_line-requires : goal.end_line-requires
-end_line-requires c = (search (rules, ends_shut), search (rules, ends_by_tag), search (rules, drawable_ends))
+end_line-requires c = (search (rules, ends_shut), search (rules, end_comes))
 
 pub returns-in-Name : goal.returns-in-Name
 returns-in-Name c = search (rules, draws_as, given_name)
