@@ -29,14 +29,6 @@ pub fn find(bytes: &[u8], wanted: u8, from: usize) -> usize
     }
 }
 
-/// As `find`, by the name that the crate `lines` still calls.
-pub fn find_far(bytes: &[u8], wanted: u8, from: usize) -> usize
-    requires { from ≤ length bytes.now }
-    ensures { Finds bytes.now wanted from result }
-{
-    find(bytes, wanted, from)
-}
-
 /// Whether a line is over 1,024 bytes or has a byte outside 32 to 126.
 pub fn is_unfit(line: &[u8]) -> bool
     ensures { result ≡ is_unfit line.now }
