@@ -61,7 +61,7 @@ fn owing_with(owing: PredicateSet, place: usize, kind: Kind) -> PredicateSet
 }
 
 /// The end of a `C` line: the claim is put after the others on its predicate.
-#[tactic(auto, using(crate::proofs::Laying::claim_refused))]
+#[tactic(auto, using(crate::proofs::Laying::claim_refused, crate::proofs::Laying::claim_added))]
 pub fn close_claim(
     o: Opened,
     state: State,

@@ -84,6 +84,7 @@ pub struct Named {
     pub stop: usize,
 }
 
+#[tactic(auto, using(crate::proofs::NameReading::name_none, crate::proofs::NameReading::name_other, crate::proofs::NameReading::name_found))]
 fn name_of(line: &[u8], classes: &ClassTable) -> Option<Named>
     requires { Begins line.now }
     ensures { NameRead line.now result }
@@ -111,6 +112,7 @@ fn read_arity(line: &[u8], from: usize) -> Option<usize>
 }
 
 /// The kind that a field writes.
+#[tactic(auto, using(crate::proofs::WrittenKinds::none_long, crate::proofs::WrittenKinds::given_is, crate::proofs::WrittenKinds::ruled_is, crate::proofs::WrittenKinds::neither_is))]
 fn kind_of(field: &[u8]) -> Option<Kind>
     ensures { result ≡ kind_written field.now }
 {
@@ -125,6 +127,7 @@ fn kind_of(field: &[u8]) -> Option<Kind>
 }
 
 /// The kind in the field after the one from a place on.
+#[tactic(auto, using(crate::proofs::WrittenKinds::kind_past, crate::proofs::WrittenKinds::kind_missing, crate::proofs::WrittenKinds::kind_there))]
 fn read_kind(line: &[u8], from: usize) -> Option<Kind>
     ensures { result ≡ kind_written (field 1 (parts_from 44 line.now from)) }
 {
