@@ -2,11 +2,9 @@
 // number. Fields are handed on as parts of their line; nothing is copied.
 #![tactic(auto)]
 
-ghost use Rattle.std.specs.Prelude.{◌≡◌, ◌≤◌, length};
+ghost use Rattle.std.specs.Prelude.{◌≡◌, ◌≤◌, ◌==◌, length, position};
 ghost use Rattle.theory.specs.Faults.{is_unfit};
 ghost use Rattle.text.specs.Scans.{Finds};
-
-use memchr::memchr;
 
 mod counts;
 mod eights;
@@ -18,12 +16,19 @@ pub use eights::{eight_bytes, four_bytes, two_bytes};
 pub use lines::Lines;
 pub use plain::{is_plain, is_unfit_in};
 
+/// The first place where `wanted` stands.
+fn place_of(bytes: &[u8], wanted: u8) -> Option<usize>
+    ensures { result ≡ position (λ b. b == wanted) bytes.now }
+{
+    bytes.iter().position(|b| *b == wanted)
+}
+
 /// The first place at or after `from` where `wanted` stands, or the length.
 pub fn find(bytes: &[u8], wanted: u8, from: usize) -> usize
     requires { from ≤ length bytes.now }
     ensures { Finds bytes.now wanted from result }
 {
-    match memchr(wanted, &bytes[from..]) {
+    match place_of(&bytes[from..], wanted) {
         Some(ahead) => from + ahead,
         None => bytes.len(),
     }
