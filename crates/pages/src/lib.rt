@@ -2,10 +2,17 @@
 // them. Spaces fill all that is lent.
 #![tactic(auto)]
 
-ghost use Rattle.std.specs.Prelude.{◌≡◌, [], ◌∷◌, ◌++◌, ◌+◌, ◌≤◌, length};
+ghost use Rattle.std.specs.Prelude.{◌≡◌, [], ◌∷◌, ◌++◌, ◌+◌, ◌≤◌, ◌<◌, length};
 ghost use Rattle.theory.specs.Text.{decimal};
 ghost use Rattle.theory.specs.Sheet.{spaces};
-ghost use Rattle.pages.specs.Pages.{PutAt};
+ghost use Rattle.pages.specs.Pages.{Puts, PutAt};
+
+fn digit(n: u64) -> u8
+    requires { n < 10 }
+    ensures { result ≡ 48 + n }
+{
+    b'0' + n as u8
+}
 
 /// How many digits a number has.
 pub fn digits(n: u64) -> usize
@@ -20,14 +27,30 @@ pub fn digits(n: u64) -> usize
     many
 }
 
+/// Writes a number in decimal at the front of a page, and gives how many digits it has. By hand: std writes a number into a
+/// `String` or to a stream, and a crate that writes it into a slice (the kit's `itoa`) would be one more to trust.
+fn put_decimal(page: &mut [u8], n: u64) -> usize
+    requires { length (decimal n) ≤ length page.old }
+    ensures { Puts (decimal n) page.old page.new result }
+{
+    let many = digits(n);
+    let mut left = n;
+    let mut at = many - 1;
+    while 10 <= left {
+        page[at] = digit(left % 10);
+        left = left / 10;
+        at -= 1;
+    }
+    page[at] = digit(left);
+    many
+}
+
 /// Writes a number in decimal at a place, and gives the place after it.
 pub fn put_number(number: u64, page: &mut [u8], to: usize) -> usize
     requires { to + length (decimal number) ≤ length page.old }
     ensures { PutAt (decimal number) (length (decimal number)) page.old page.new to result }
 {
-    let end = to + digits(number);
-    itoa::write_digits(number, page, end);
-    end
+    to + put_decimal(&mut page[to..], number)
 }
 
 /// Writes a byte at a place, and gives the place after it.
