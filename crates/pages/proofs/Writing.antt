@@ -2,6 +2,7 @@
 use mathlib.Core.Path.{◌≡◌, refl, sym, ◌∙◌, ap}
 use mathlib.Core.List.{[], ◌∷◌, ◌++◌, append_assoc, append-nil}
 use Prim.Native.Nat.{ℕ, suc, ◌+◌, ◌-◌, ◌/◌, ◌%◌, ◌≤◌, ◌<◌}
+use native.Mathlib.Decide.{dec_lt}
 use native.Mathlib.Numerals.{add-one}
 use native.Mathlib.Omega.{arith}
 use lib.ListN.{length, set, drop, length-set}
@@ -66,3 +67,25 @@ module _ {n many left at : ℕ} {page₀ page : Bytes} (writing : Writing n page
         let front : 0 ≡ at = omega (arith, writing.place, digits_one left h) in
         let digits : b ∷ writing.written ≡ decimal n = sym (writing.whole ∙ rw (decimal_one left h, e)) in
         record { many = writing.all; is = digit_front 0 front ∙ ap (λ (bs : Bytes). bs ++ drop many page₀) digits }
+
+-- so many places are left to write: the digits of what is left stand there, or all is written
+pub record Turns (n : ℕ) (page₀ page : Bytes) (many left places : ℕ) : Type 0 where
+  pub more : 0 < places → Writing n page₀ page many left (places - 1)
+  pub done : places ≡ 0 → Puts (decimal n) page₀ page many
+
+pub turns_begin : {n many : ℕ} {page : Bytes} → many ≡ length (decimal n) → length (decimal n) ≤ length page → Turns n page page many n many
+turns_begin {n} all room = record { more = λ _. writing_begin all room; done = λ none. absurd (omega (arith, digits_some n)) }
+
+pub turns_more : {n many left places b : ℕ} {page₀ page : Bytes} → Turns n page₀ page many left places → 0 < places → b ≡ 48 + left % 10
+    → Turns n page₀ (set page (places - 1) b) many (left / 10) (places - 1)
+turns_more {n} {many} {left} {places} {b} {page₀} {page} turns some e = by (turns.more some) (dec_lt left 10)
+  where
+    by : Writing n page₀ page many left (places - 1) → Dec (left < 10) → Turns n page₀ (set page (places - 1) b) many (left / 10) (places - 1)
+    by writing (yes one) = record {
+      more = λ place. absurd (omega (arith, writing.place, digits_one left one));
+      done = λ _. writing_end writing one (omega arith);
+    }
+    by writing (no several) = record {
+      more = λ _. writing_more writing (omega arith) e;
+      done = λ none. absurd (omega (arith, writing_below writing (omega arith)));
+    }

@@ -35,13 +35,10 @@ fn put_decimal(page: &mut [u8], n: u64) -> usize
 {
     let many = digits(n);
     let mut left = n;
-    let mut at = many - 1;
-    while 10 <= left {
+    for at in (0..many).rev() {
         page[at] = digit(left % 10);
-        left = left / 10;
-        at -= 1;
+        left /= 10;
     }
-    page[at] = digit(left);
     many
 }
 
