@@ -84,10 +84,6 @@ module _ {x : Bytes} {mark : Mark} {number : ℕ} {d : Pen} {page : Bytes} (w : 
       (λ e. absurd (omega (arith, told.lacking lacks (leb-le count (length page - d.to) e), line, fits.line)))
       (λ e. omega (arith, leb-gt count (length page - d.to) e, drawn, page_size w.drawing, w.drawing.room))
 
-  -- where they have room
-  pub room_on_page : (used count : ℕ) (lacks : Bool) → RoomTold (length page - d.to) used count lacks → lacks ≡ false → d.to + count ≤ length page
-  room_on_page used count lacks told is = omega (arith, (told.enough is).0, to_within)
-
 -- a limit is passed: the page does not change
 module _ {x : Bytes} {mark : Mark} {number : ℕ} {d : Pen} {page : Bytes} where
   pub draws_none : {e : Pen} → ((w : Drawable x mark number d page) → StateFits w.next → length w.page₀ < length (drawn_text w.next)) → Draws x mark number d page None e page
@@ -319,7 +315,3 @@ module _ {x : Bytes} {number : ℕ} {d : Pen} {page : Bytes} {many : ℕ} (size 
         (λ before o opened small. in_compound (numbered_variable number) (Terms.variable (numbered_variable number)) lacks told is (subst (λ k. PutAt (numbered_variable number) (k + 1) page after d.to q) (sym size) copied)
         (drawn_variable before o opened (numbered_variable number)) (numbered_length number many size) (variable_fits (numbered_variable number) (numbered_variable_lem number small))) w.drawing;
   }
-
-pub lone_room : {x : Bytes} {number : ℕ} {d : Pen} {page : Bytes} → Drawable x Lone number d page → (many : ℕ) → many ≡ length (decimal number)
-    → (lacks : Bool) → RoomTold (length page - d.to) (d.to - d.line) (many + 1) lacks → lacks ≡ false → d.to + (length (decimal number) + 1) ≤ length page
-lone_room {d = d} w many size lacks told is = omega (arith, room_on_page w (d.to - d.line) (many + 1) lacks told is, size)
