@@ -22,9 +22,10 @@ pub enum Kind {
     Given,
 }
 
-/// A declared predicate: the words of its name, its arity, its kind, and the number of claims on it. The bounds on the last two
-/// numbers are a relation on the table (`SafeSignatures`) and no ghost field, which would be no plainer: the definitions make
-/// signatures as values (`with_claims`, `no_signature`), and each of them would have to bring a proof. So it is with `State`.
+/// A declared predicate: the words of its name, its arity, its kind, and the number of claims on it. The bounds on its numbers
+/// stand in a relation on the table (`SafeSignatures`): as ghost fields they were tried. `no_signature` and `with_claims` then
+/// have to bring proofs, and that the tables begin with `no_signature` is an equation between such proofs, which did not close.
+/// So it is with `State` and `SafeState`.
 #[derive(Clone, Copy)]
 pub struct Signature {
     pub words: Words,
@@ -177,7 +178,8 @@ pub struct Opened {
     pub letter: Letter,
     /// The place of the predicate that the line names or declares, among the declared ones.
     pub predicate: usize,
-    /// Of a line that declares a predicate, what it declares; of another `NO_SIGNATURE`.
+    /// Of a line that declares a predicate, what it declares; of another `NO_SIGNATURE`. An option would be no plainer: the end of
+    /// a `P` line, which alone reads it, would have to ask for it by a clause.
     pub signature: Signature,
     /// Where the fields that are still to be read begin.
     pub from: usize,
