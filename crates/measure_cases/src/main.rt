@@ -12,8 +12,8 @@ fn show(rt: &impl Print, term: &[u8]) -> io::Result<()> {
 }
 
 fn measure_lines(rt: &impl Print, input: &[u8]) -> io::Result<()> {
-    for line in input.split_inclusive(|b| *b == b'\n') {
-        show(rt, line.strip_suffix(b"\n").unwrap_or(line))?;
+    for line in text::Lines::of(input) {
+        show(rt, line)?;
     }
     Ok(())
 }
