@@ -15,8 +15,9 @@ use Rattle.theory.specs.Forms.{zero_form}
 use Rattle.theory.specs.Packs.{Claim, Atom, Rule, Pack, measure_in}
 use Rattle.theory.specs.Written.{multiplier_from}
 use Rattle.theory.specs.Residuals.{claim_form, subgoal_forms, combined, residual, rule_variables}
+use Rattle.tables.specs.declared.Slot.{Slot}
 use Rattle.tables.specs.declared.State.{State}
-use Rattle.tables.specs.Tables.{Tables, ClaimAt, AtomStands, subgoal_at, SlotStands, RuleStands}
+use Rattle.tables.specs.Tables.{slot_at, Tables, ClaimAt, AtomStands, subgoal_at, SlotStands, RuleStands}
 use Rattle.tables.specs.Lines.{at}
 use Rattle.residuals.specs.Sums.{width, atom_sum, atoms_sum}
 use Rattle.residuals.proofs.WeightedSums.{same_place, sum_below, sum_same, sum_none, sum_minus, sum_one, weighted_sum, weighted_none, weighted_minus, weighted_times}
@@ -33,14 +34,14 @@ weighted_part true m v row i = weighted_times m v row i
 weighted_part false m v row i = weighted_none row i
 
 -- what a subgoal's weights come to after the first multipliers
-abbrev part_after : List ℕ → ℕ → List ℤ → List ℕ → List Bytes → ℕ → ℕ → ℕ → ℤ
+abbrev part_after : List ℕ → ℕ → List ℤ → List Slot → List Bytes → ℕ → ℕ → ℕ → ℤ
 part_after rows variables claims slots fs i index s = weighted_sum (λ j. weight_after claims slots fs s j index) (row_at rows variables (suc s) i) i
 
 -- a multiplier times its form
 abbrev taken : Measure → List Claim → List Atom → List Bytes → List Bytes → ℕ → ℕ → ℤ
 taken measure cs subgoals xs fs i k = pos (multiplier_from (at fs k)) *ℤ form_number xs (get_or (subgoal_forms measure cs subgoals) k zero_form) i
 
-module _ {measure : Measure} (rows : List ℕ) (claims : List ℤ) (slots : List ℕ) (cs : List Claim) (subgoals : List Atom) (xs fs : List Bytes) (i : ℕ) (less : i < 17)
+module _ {measure : Measure} (rows : List ℕ) (claims : List ℤ) (slots : List Slot) (cs : List Claim) (subgoals : List Atom) (xs fs : List Bytes) (i : ℕ) (less : i < 17)
     (stand : (s : ℕ) → s < length subgoals → AtomStands measure rows (suc s) xs (subgoal_at subgoals s).terms) where
   subgoal_step_lem : (k : ℕ) → SlotStands measure claims slots cs subgoals k
       → sum_below (part_after rows (length xs) claims slots fs i (suc k)) (length subgoals) ≡ sum_below (part_after rows (length xs) claims slots fs i k) (length subgoals) -ℤ taken measure cs subgoals xs fs i k
@@ -51,13 +52,13 @@ module _ {measure : Measure} (rows : List ℕ) (claims : List ℤ) (slots : List
       ∙ ap (λ z. sum_below (part_after rows (length xs) claims slots fs i k) (length subgoals) -ℤ z) (sum_one (λ s. m *ℤ weighted_sum claim (row s) i) subgoal (length subgoals) slot.subgoal ∙ ap (λ z. m *ℤ z) form))
     where
       subgoal : ℕ
-      subgoal = get_or slots (128 + k) 0
+      subgoal = (slot_at slots k).subgoal
 
       m : ℤ
       m = pos (multiplier_from (at fs k))
 
       claim : ℕ → ℤ
-      claim j = from claims (get_or slots k 0) j
+      claim j = from claims (slot_at slots k).place j
 
       row : ℕ → ℕ → ℤ
       row s = row_at rows (length xs) (suc s) i
@@ -66,7 +67,7 @@ module _ {measure : Measure} (rows : List ℕ) (claims : List ℤ) (slots : List
       old s j = weight_after claims slots fs s j k
 
       form : weighted_sum claim (row subgoal) i ≡ form_number xs (get_or (subgoal_forms measure cs subgoals) k zero_form) i
-      form = claim_number rows (suc subgoal) xs (subgoal_at subgoals subgoal) claims (get_or slots k 0) _ i less (stand subgoal slot.subgoal) slot.claim slot.full
+      form = claim_number rows (suc subgoal) xs (subgoal_at subgoals subgoal) claims (slot_at slots k).place _ i less (stand subgoal slot.subgoal) slot.claim slot.full
           ∙ sym (ap (λ f. form_number xs f i) slot.form)
 
   subgoal_sums : (index : ℕ) → ((k : ℕ) → k < index → SlotStands measure claims slots cs subgoals k)

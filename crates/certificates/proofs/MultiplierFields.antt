@@ -1,5 +1,6 @@
 -- A field of an `M` line: a multiplier, and its claim's numbers taken from the weights.
 use mathlib.Core.Path.{◌≡◌, refl, sym, ◌∙◌, ap}
+use Rattle.tables.specs.Tables.{slot_at}
 use Rattle.std.specs.Prelude.{Option, Some, None, Ok, Err}
 use mathlib.Core.List.{List, [], ◌∷◌}
 use mathlib.Core.Option.{some}
@@ -16,6 +17,7 @@ use Rattle.theory.specs.Lists.{is_some}
 use Rattle.theory.specs.Text.{Bytes, natural, is_decimal, value_after}
 use Rattle.theory.proofs.Reading.Spelling.{natural_within}
 use Rattle.numbers.specs.Numbers.{option_of}
+use Rattle.tables.specs.declared.Slot.{Slot}
 use Rattle.tables.specs.declared.Fault.TheVariants.{Number}
 use Rattle.certificates.specs.Weights.{Weighs}
 use Rattle.certificates.specs.Multipliers.{FieldM}
@@ -51,8 +53,8 @@ module _ (field : Bytes) (read : Option ℕ) (is : option_of read ≡ natural 99
     pub multiplier_magnitude : nat_abs (to_z w32 m) ≤ 9999
     multiplier_magnitude = rw whole multiplier_small
 
-  module _ (index many : ℕ) (claims : List ℤ) (slots : List ℕ) (weights₀ : List ℤ) where
-    pub claim_weighed : (m : ℕ) (weights : List ℤ) → read ≡ Some m → Weighs (to_z w32 m) claims (get_or slots index 0) (get_or slots (128 + index) 0 + 1) weights₀ weights → FieldM index field many claims slots weights₀ (Ok many) weights
+  module _ (index many : ℕ) (claims : List ℤ) (slots : List Slot) (weights₀ : List ℤ) where
+    pub claim_weighed : (m : ℕ) (weights : List ℤ) → read ≡ Some m → Weighs (to_z w32 m) claims (slot_at slots index).place ((slot_at slots index).subgoal + 1) weights₀ weights → FieldM index field many claims slots weights₀ (Ok many) weights
     unfolding is_some
     claim_weighed m weights found weighs =
         record {
@@ -66,7 +68,7 @@ module _ (field : Bytes) (read : Option ℕ) (is : option_of read ≡ natural 99
     nothing_weighed m found zero =
         record {
           answer = rw (reads m found);
-          weighed = λ h. (m, reads m found, rw zero (nothing_taken claims (get_or slots index 0) (get_or slots (128 + index) 0 + 1) weights₀));
+          weighed = λ h. (m, reads m found, rw zero (nothing_taken claims (slot_at slots index).place ((slot_at slots index).subgoal + 1) weights₀));
           size = refl;
         }
 
@@ -75,6 +77,6 @@ module _ (field : Bytes) (read : Option ℕ) (is : option_of read ≡ natural 99
     no_multiplier_lem found = record { answer = rw (← is, found); weighed = λ h. never_both h (rw (← is, found)); size = refl }
 
 -- a field `0` that is not read takes nothing either
-pub zero_weighed : {index many : ℕ} {claims : List ℤ} {slots : List ℕ} {weights : List ℤ} {field : Bytes} → field ≡ 48 ∷ [] → FieldM index field many claims slots weights (Ok many) weights
+pub zero_weighed : {index many : ℕ} {claims : List ℤ} {slots : List Slot} {weights : List ℤ} {field : Bytes} → field ≡ 48 ∷ [] → FieldM index field many claims slots weights (Ok many) weights
 unfolding natural is_decimal value_after
 zero_weighed {index} {many} {claims} {slots} {weights} {field} is = nothing_weighed field (Some 0) (sym (ap (natural 9999) is)) index many claims slots weights 0 refl refl

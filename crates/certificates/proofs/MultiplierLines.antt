@@ -10,7 +10,7 @@ use native.Mathlib.Omega.{arith}
 use borrow.Author.Count.{below_more}
 use lib.Dec.{eqb}
 use lib.IntN.{ℤ, pos, nat_abs, ◌-ℤ◌, ◌*ℤ◌, +ℤ_idr}
-use lib.ListN.{length, get_or, drop, get_or-eq_default}
+use lib.ListN.{length, drop, get_or-eq_default}
 use Rattle.std.specs.Prelude.{Result, Ok, Err}
 use Rattle.groundwork.proofs.Truth.{by_truth, eqb-equal, eqb-unequal}
 use Rattle.groundwork.proofs.Stretches.{elements}
@@ -20,11 +20,12 @@ use Rattle.theory.specs.Written.{Written, multiplier_from, multipliers_from}
 use Rattle.theory.specs.Faults.{Manner, first_given, is_multiplier, residual_due, multiplier_tests, tests, fault}
 use Rattle.theory.proofs.Reading.Places.{not_every}
 use Rattle.forms.specs.declared.Form.{Form}
+use Rattle.tables.specs.declared.Slot.{Slot}
 use Rattle.tables.specs.declared.State.{State}
 use Rattle.tables.specs.declared.Opened.{Opened}
 use Rattle.tables.specs.declared.Fault.{Fault}
 use Rattle.tables.specs.declared.Fault.TheVariants.{Number, Unjustified}
-use Rattle.tables.specs.Tables.{Tables, Holds, Safe, NoWeights}
+use Rattle.tables.specs.Tables.{slot_at, Tables, Holds, Safe, NoWeights}
 use Rattle.tables.specs.Faults.{number_of}
 use Rattle.tables.specs.Lines.{at, Passed, ClosedFor}
 use Rattle.tables.proofs.Outcomes.{field_passes, field_fails}
@@ -39,7 +40,7 @@ use Rattle.certificates.proofs.WeightBounds.{weight_small, slots_few, slots_befo
 
 -- ---- fields
 
-pub m_begin : (fs : List Bytes) (claims : List ℤ) (slots : List ℕ) (weights : List ℤ) → NoWeights weights → ProgressM fs 0 claims slots weights
+pub m_begin : (fs : List Bytes) (claims : List ℤ) (slots : List Slot) (weights : List ℤ) → NoWeights weights → ProgressM fs 0 claims slots weights
 unfolding weight_after
 m_begin fs claims slots weights none =
     record {
@@ -49,10 +50,10 @@ m_begin fs claims slots weights none =
       weight = λ subgoal j below less. none.zero (suc subgoal * 9 + j);
     }
 
-pub m_count : {index : ℕ} {field : Bytes} {many : ℕ} {claims : List ℤ} {slots : List ℕ} {weights₀ weights : List ℤ} {r : Result ℕ Fault} {n : ℕ} → FieldM index field many claims slots weights₀ r weights → r ≡ Ok n → many ≡ n
+pub m_count : {index : ℕ} {field : Bytes} {many : ℕ} {claims : List ℤ} {slots : List Slot} {weights₀ weights : List ℤ} {r : Result ℕ Fault} {n : ℕ} → FieldM index field many claims slots weights₀ r weights → r ≡ Ok n → many ≡ n
 m_count {field = field} {many} done read = (field_passes many Number (is_multiplier field) done.answer read).1
 
-module _ {fs : List Bytes} {index many : ℕ} {claims : List ℤ} {slots : List ℕ} {weights₀ weights : List ℤ} {r : Result ℕ Fault} {n : ℕ} (before : ProgressM fs index claims slots weights₀) (done : FieldM index (at fs index) many claims slots weights₀ r weights) (read : r ≡ Ok n) where
+module _ {fs : List Bytes} {index many : ℕ} {claims : List ℤ} {slots : List Slot} {weights₀ weights : List ℤ} {r : Result ℕ Fault} {n : ℕ} (before : ProgressM fs index claims slots weights₀) (done : FieldM index (at fs index) many claims slots weights₀ r weights) (read : r ≡ Ok n) where
   good_here : is_multiplier (at fs index) ≡ true
   good_here = (field_passes many Number (is_multiplier (at fs index)) done.answer read).0
 
@@ -60,9 +61,9 @@ module _ {fs : List Bytes} {index many : ℕ} {claims : List ℤ} {slots : List 
   multiplier = ap (λ o. Option.get_or o 0) (done.weighed good_here).1
 
   abbrev slot : ℕ
-  slot = get_or slots (128 + index) 0
+  slot = (slot_at slots index).subgoal
 
-  weighs : Weighs (pos (done.weighed good_here).0) claims (get_or slots index 0) (slot + 1) weights₀ weights
+  weighs : Weighs (pos (done.weighed good_here).0) claims (slot_at slots index).place (slot + 1) weights₀ weights
   weighs = (done.weighed good_here).2
 
   -- the weights of another subgoal stay
@@ -81,14 +82,14 @@ module _ {fs : List Bytes} {index many : ℕ} {claims : List ℤ} {slots : List 
       old = weight_after claims slots fs subgoal j index
 
       Weight : Bool → Type 0
-      Weight b = elements weights (suc subgoal * 9 + j) ≡ old -ℤ cond b (pos (multiplier_from (at fs index)) *ℤ elements claims (get_or slots index 0 + j)) (pos 0)
+      Weight b = elements weights (suc subgoal * 9 + j) ≡ old -ℤ cond b (pos (multiplier_from (at fs index)) *ℤ elements claims ((slot_at slots index).place + j)) (pos 0)
 
       this : eqb slot subgoal ≡ true → Weight true
       this e =
           let is : slot ≡ subgoal = eqb-equal slot subgoal e in
           let before-place = same_place (elements weights₀) ((slot + 1) * 9 + j) (suc subgoal * 9 + j) (omega arith) ∙ before.weight subgoal j below less in
           same_place (elements weights) (suc subgoal * 9 + j) ((slot + 1) * 9 + j) (omega arith)
-          ∙ (weighs.weight j less ∙ ap₂ (λ a b. a -ℤ pos b *ℤ elements claims (get_or slots index 0 + j)) before-place (sym multiplier))
+          ∙ (weighs.weight j less ∙ ap₂ (λ a b. a -ℤ pos b *ℤ elements claims ((slot_at slots index).place + j)) before-place (sym multiplier))
 
       other : eqb slot subgoal ≡ false → Weight false
       other e = other_kept subgoal j (eqb-unequal slot subgoal e) less ∙ (before.weight subgoal j below less ∙ sym (+ℤ_idr old))
@@ -102,7 +103,7 @@ module _ {fs : List Bytes} {index many : ℕ} {claims : List ℤ} {slots : List 
         weight = weight_after_lem;
       }
 
-pub m_fault : {manner : Manner} {line : Bytes} {s : State} {w : Written} {o : Opened} {index many : ℕ} {claims : List ℤ} {slots : List ℕ} {weights₀ weights : List ℤ} {r : Result ℕ Fault} {f : Fault}
+pub m_fault : {manner : Manner} {line : Bytes} {s : State} {w : Written} {o : Opened} {index many : ℕ} {claims : List ℤ} {slots : List Slot} {weights₀ weights : List ℤ} {r : Result ℕ Fault} {f : Fault}
     → Passed manner M line s w o → index < length (drop 1 (fields_of line)) → FieldM index (at (drop 1 (fields_of line)) index) many claims slots weights₀ r weights → r ≡ Err f → fault manner w line ≡ number_of f
 unfolding tests multiplier_tests first_given
 m_fault {line} {index = index} {many} passed less done bad =
@@ -118,9 +119,9 @@ module _ {t : Tables} {s : State} {fs : List Bytes} {index : ℕ} {weights : Lis
       rw (progress.weight subgoal j below less)
       (omega (arith, weight_small t.claims t.slots fs subgoal j safe.claims index, slots_few t.slots s.slots s.subgoals safe.slots subgoal index few))
 
-  pub m_room : index < s.slots → ProgressM fs index t.claims t.slots weights → RoomFor weights (get_or t.slots (128 + index) 0 + 1)
+  pub m_room : index < s.slots → ProgressM fs index t.claims t.slots weights → RoomFor weights ((slot_at t.slots index).subgoal + 1)
   m_room few progress =
-      let subgoal = get_or t.slots (128 + index) 0 in
+      let subgoal = (slot_at t.slots index).subgoal in
       record {
         size = progress.size;
         weight = λ j less.

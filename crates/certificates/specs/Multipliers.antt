@@ -7,26 +7,27 @@ use Rattle.theory.specs.Packs.{number_limit}
 use Rattle.theory.specs.Written.{multiplier_from}
 use Rattle.theory.specs.Faults.{is_multiplier}
 use Rattle.forms.specs.declared.Form.{Form}
+use Rattle.tables.specs.declared.Slot.{Slot}
 use Rattle.tables.specs.declared.State.{State}
 use Rattle.tables.specs.declared.Fault.{Fault}
 use Rattle.tables.specs.declared.Fault.TheVariants.{Number, Unjustified}
-use Rattle.tables.specs.Tables.{claim_place, NoWeights}
+use Rattle.tables.specs.Tables.{slot_at, claim_place, NoWeights}
 use Rattle.tables.specs.Lines.{at}
 use Rattle.residuals.specs.Sums.{width, number_at, SumsTo}
 use Rattle.certificates.specs.Weights.{Weighs, HeadWeighed}
 
-pub record FieldM (index : ℕ) (field : Bytes) (many : ℕ) (claims : List ℤ) (slots : List ℕ) (weights₀ : List ℤ) (r : Result ℕ Fault) (weights : List ℤ) : Type 0 where
+pub record FieldM (index : ℕ) (field : Bytes) (many : ℕ) (claims : List ℤ) (slots : List Slot) (weights₀ : List ℤ) (r : Result ℕ Fault) (weights : List ℤ) : Type 0 where
   pub answer : r ≡ cond (is_multiplier field) (Ok many) (Err Number)
-  pub weighed : is_multiplier field ≡ true → (m : ℕ) × (natural number_limit field ≡ some m) × Weighs (pos m) claims (get_or slots index 0) (get_or slots (128 + index) 0 + 1) weights₀ weights
+  pub weighed : is_multiplier field ≡ true → (m : ℕ) × (natural number_limit field ≡ some m) × Weighs (pos m) claims (slot_at slots index).place ((slot_at slots index).subgoal + 1) weights₀ weights
   pub size : length weights ≡ length weights₀
 
 -- the weight of a subgoal's argument (or its constant) after the first multipliers
-unfoldable pub weight_after : List ℤ → List ℕ → List Bytes → ℕ → ℕ → ℕ → ℤ
+unfoldable pub weight_after : List ℤ → List Slot → List Bytes → ℕ → ℕ → ℕ → ℤ
 weight_after claims slots fs subgoal j zero = pos 0
 weight_after claims slots fs subgoal j (suc k) =
-    weight_after claims slots fs subgoal j k -ℤ cond (eqb (get_or slots (128 + k) 0) subgoal) (pos (multiplier_from (at fs k)) *ℤ get_or claims (get_or slots k 0 + j) (pos 0)) (pos 0)
+    weight_after claims slots fs subgoal j k -ℤ cond (eqb (slot_at slots k).subgoal subgoal) (pos (multiplier_from (at fs k)) *ℤ get_or claims ((slot_at slots k).place + j) (pos 0)) (pos 0)
 
-pub record ProgressM (fs : List Bytes) (index : ℕ) (claims : List ℤ) (slots : List ℕ) (weights : List ℤ) : Type 0 where
+pub record ProgressM (fs : List Bytes) (index : ℕ) (claims : List ℤ) (slots : List Slot) (weights : List ℤ) : Type 0 where
   pub good : (i : ℕ) → i < index → is_multiplier (at fs i) ≡ true
   pub size : length weights ≡ 81
   pub head : (j : ℕ) → j < 9 → get_or weights j (pos 0) ≡ pos 0

@@ -2,7 +2,7 @@
 #![tactic(auto)]
 
 ghost use Rattle.std.specs.Prelude.{◌≡◌, ◌+◌, ◌≤◌, ◌<◌, nat_abs, get_or};
-ghost use Rattle.tables.specs.Tables.{SafeClaims, NoWeights};
+ghost use Rattle.tables.specs.Tables.{slot_at, SafeClaims, NoWeights};
 ghost use Rattle.residuals.specs.Sums.{Summable};
 ghost use Rattle.certificates.specs.Weights.{RoomFor, Weighs, HeadWeighed};
 ghost use Rattle.certificates.specs.Multipliers.{FieldM, ClosesM};
@@ -29,16 +29,16 @@ pub fn field_multiplier(
     slots: &Slots,
     weights: &mut Weights,
 ) -> Result<usize, Fault>
-    requires { (index < 128) × (get_or slots.now index 0 + 9 ≤ 4608) × (get_or slots.now (128 + index) 0 < 8) × (SafeClaims claims.now) × (RoomFor weights.old (get_or slots.now (128 + index) 0 + 1)) }
+    requires { (index < 128) × ((slot_at slots.now index).place + 9 ≤ 4608) × ((slot_at slots.now index).subgoal < 8) × (SafeClaims claims.now) × (RoomFor weights.old ((slot_at slots.now index).subgoal + 1)) }
     ensures { FieldM index field.now many claims.now slots.now weights.old result weights.new }
 {
     let Some(m) = numbers::read_natural(field, 9999) else {
         return Err(Fault::Number);
     };
     if m != 0 {
-        let place = slots[index] as usize;
-        let subgoal = slots[128 + index] as usize;
-        weigh(m as i32, place, subgoal + 1, claims, weights);
+        let slot = slots[index];
+        let (place, atom) = (slot.place as usize, slot.subgoal as usize + 1);
+        weigh(m as i32, place, atom, claims, weights);
     }
     Ok(many)
 }

@@ -5,6 +5,7 @@ use mathlib.Core.List.{List}
 use Prim.Native.Nat.{ℕ, ◌+◌, ◌^◌, ◌≤◌, ◌<◌}
 use lib.Bits.{bit_or}
 use lib.Dec.{leb, ltb}
+use Rattle.tables.specs.declared.Slot.{Slot}
 use Rattle.tables.specs.Tables.{signature_at}
 use Rattle.std.specs.Prelude.{Result, Ok, Err}
 use Rattle.groundwork.proofs.Truth.{never_both, leb-gt, ltb-ge, or_not_left, or_not_right}
@@ -49,10 +50,10 @@ module _ (o : Opened) (s : State) (many : ℕ) (past : Bool) where
     pub head_done : past ≡ false → {headed : ℕ} → headed ≡ bit_or s.headed (2 ^ o.predicate) → ClosesH o s many (Ok (with_rule o.predicate headed many s))
     head_done e is = record { answer = rw (sym test ∙ e, is) }
 
-  module _ (signatures : List Signature) (slots₀ : List ℕ) (test : past ≡ is_past subgoal_limit s.subgoals many) where
+  module _ (signatures : List Signature) (slots₀ : List Slot) (test : past ≡ is_past subgoal_limit s.subgoals many) where
     pub subgoal_refused : past ≡ true → ClosesB o s many signatures slots₀ (Err CountLimit) slots₀
     subgoal_refused e = record { answer = rw (sym test ∙ e); slots_are = never_both (sym test ∙ e) }
 
-    pub subgoal_done : past ≡ false → (count : ℕ) (slots : List ℕ) → count ≡ (signature_at signatures o.predicate).claims → SlotsAdded slots₀ s.slots o.predicate count s.subgoals slots
+    pub subgoal_done : past ≡ false → (count : ℕ) (slots : List Slot) → count ≡ (signature_at signatures o.predicate).claims → SlotsAdded slots₀ s.slots o.predicate count s.subgoals slots
         → ClosesB o s many signatures slots₀ (Ok (with_subgoal (s.slots + count) many s)) slots
     subgoal_done e count slots counted added = record { answer = rw (sym test ∙ e, counted); slots_are = λ within. rw counted at added }

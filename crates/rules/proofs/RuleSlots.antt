@@ -2,7 +2,7 @@
 use mathlib.Core.Path.{◌≡◌, refl, sym, ◌∙◌, ap}
 use mathlib.Core.List.{List, [], ◌∷◌, ◌++◌, map, append_assoc, append-nil}
 use Prim.Native.Nat.{ℕ, ◌+◌, ◌-◌, ◌≤◌, ◌<◌}
-use native.Mathlib.Nat.{zero-add, add_assoc}
+use native.Mathlib.Nat.{zero-add}
 use native.Mathlib.Omega.{arith}
 use lib.Dec.{eqb, ltb}
 use lib.IntN.{ℤ}
@@ -15,7 +15,8 @@ use Rattle.theory.specs.Sizes.{Measure}
 use Rattle.theory.specs.Forms.{zero_form, plus, constant_form}
 use Rattle.theory.specs.Packs.{Claim, Atom, atom_key, claims_on, claims_on_all, no_claim}
 use Rattle.theory.specs.Residuals.{weighted, claim_form, subgoal_forms}
-use Rattle.tables.specs.Tables.{slots_of, SafeSlots, ClaimAt, no_atom, SlotStands}
+use Rattle.tables.specs.declared.Slot.{Slot}
+use Rattle.tables.specs.Tables.{slot_at, slots_of, SafeSlots, ClaimAt, no_atom, SlotStands}
 use Rattle.tables.proofs.SlotCounts.{slots_of_same, slots_of_most, slots_of_others}
 use Rattle.rules.specs.Ends.{SlotsAdded}
 
@@ -50,22 +51,22 @@ form_at m a cs j = get_or-map (claim_form m a) cs j no_claim
 
 -- ---- the slots
 
-module _ {m : Measure} (claims : List ℤ) (slots₀ slots : List ℕ) (cs : List Claim) (subgoals : List Atom) (a : Atom) where
-  pub slot_before : (k : ℕ) → k < length (claims_on_all cs subgoals) → get_or slots k 0 ≡ get_or slots₀ k 0 → get_or slots (128 + k) 0 ≡ get_or slots₀ (128 + k) 0
+module _ {m : Measure} (claims : List ℤ) (slots₀ slots : List Slot) (cs : List Claim) (subgoals : List Atom) (a : Atom) where
+  pub slot_before : (k : ℕ) → k < length (claims_on_all cs subgoals) → slot_at slots k ≡ slot_at slots₀ k
       → SlotStands m claims slots₀ cs subgoals k → SlotStands m claims slots cs (subgoals ++ (a ∷ [])) k
-  slot_before k inside place of stands =
+  slot_before k inside same stands =
       let claim : get_or (claims_on_all cs (subgoals ++ (a ∷ []))) k no_claim ≡ get_or (claims_on_all cs subgoals) k no_claim = rw (claims_more cs subgoals a) (get_or-append (claims_on_all cs subgoals) (claims_on (atom_key a) cs) no_claim k inside) in
       let form : get_or (subgoal_forms m cs (subgoals ++ (a ∷ []))) k zero_form ≡ get_or (subgoal_forms m cs subgoals) k zero_form = rw (forms_more m cs subgoals a) (get_or-append (subgoal_forms m cs subgoals) _ zero_form k (omega (arith, length_forms m cs subgoals))) in
-      let subgoal = get_or-append subgoals (a ∷ []) no_atom (get_or slots₀ (128 + k) 0) stands.subgoal in
+      let subgoal = get_or-append subgoals (a ∷ []) no_atom (slot_at slots₀ k).subgoal stands.subgoal in
       record {
-        claim = rw (place, claim) stands.claim;
-        subgoal = omega (arith, stands.subgoal, length_end subgoals a);
-        form = rw (of, claim, subgoal) (form ∙ stands.form);
-        full = rw (of, claim, subgoal) stands.full;
+        claim = rw (same, claim) stands.claim;
+        subgoal = rw same (omega (arith, stands.subgoal, length_end subgoals a));
+        form = rw (same, claim, subgoal) (form ∙ stands.form);
+        full = rw (same, claim, subgoal) stands.full;
       }
 
-  pub slot_after : (k j : ℕ) → k ≡ length (claims_on_all cs subgoals) + j → ClaimAt claims (get_or slots k 0) (get_or (claims_on (atom_key a) cs) j no_claim)
-      → get_or slots (128 + k) 0 ≡ length subgoals → length (get_or (claims_on (atom_key a) cs) j no_claim).coefficients ≡ arity a.terms → SlotStands m claims slots cs (subgoals ++ (a ∷ [])) k
+  pub slot_after : (k j : ℕ) → k ≡ length (claims_on_all cs subgoals) + j → ClaimAt claims (slot_at slots k).place (get_or (claims_on (atom_key a) cs) j no_claim)
+      → (slot_at slots k).subgoal ≡ length subgoals → length (get_or (claims_on (atom_key a) cs) j no_claim).coefficients ≡ arity a.terms → SlotStands m claims slots cs (subgoals ++ (a ∷ [])) k
   slot_after k j is stands of full =
       let claim : get_or (claims_on_all cs (subgoals ++ (a ∷ []))) k no_claim ≡ get_or (claims_on (atom_key a) cs) j no_claim = rw (claims_more cs subgoals a, is) (get_or-append-add (claims_on_all cs subgoals) (claims_on (atom_key a) cs) j no_claim) in
       let forms = map (claim_form m a) (claims_on (atom_key a) cs) in
@@ -80,9 +81,12 @@ module _ {m : Measure} (claims : List ℤ) (slots₀ slots : List ℕ) (cs : Lis
 
 -- ---- their ranges
 
-module _ (slots₀ slots : List ℕ) (from predicate count subgoal : ℕ) (place : predicate < 32) (few : count ≤ 16) (safe : SafeSlots slots₀ from subgoal) (laid : SlotsAdded slots₀ from predicate count subgoal slots) where
-  added_of : (j : ℕ) → j < count → get_or slots (128 + (from + j)) 0 ≡ subgoal
-  added_of j here = rw (← add_assoc 128 from j) (laid.of_subgoal j here)
+module _ (slots₀ slots : List Slot) (from predicate count subgoal : ℕ) (place : predicate < 32) (few : count ≤ 16) (safe : SafeSlots slots₀ from subgoal) (laid : SlotsAdded slots₀ from predicate count subgoal slots) where
+  added_of : (j : ℕ) → j < count → (slot_at slots (from + j)).subgoal ≡ subgoal
+  added_of j here = ap (λ (slot : Slot). slot.subgoal) (laid.added j here)
+
+  before_of : (k : ℕ) → k < from → (slot_at slots k).subgoal ≡ (slot_at slots₀ k).subgoal
+  before_of k here = ap (λ (slot : Slot). slot.subgoal) (laid.before k here)
 
   -- the slots that there were are all of earlier subgoals
   few_of : (i : ℕ) → slots_of slots i (from + count) ≤ 16
@@ -90,14 +94,14 @@ module _ (slots₀ slots : List ℕ) (from predicate count subgoal : ℕ) (place
   few_of i = by_truth (λ b. slots_of slots i (from + count) ≤ 16) (eqb i subgoal)
       (λ h.
       let none = slots_of_others slots₀ i 0 from (λ k here e. omega (arith, safe.subgoal (0 + k) (omega arith), eqb-equal i subgoal h)) in
-      omega (arith, slots_of_most slots i from count, slots_of_same slots i slots₀ from laid.subgoal_before, ap (slots_of slots₀ i) (zero-add from)))
+      omega (arith, slots_of_most slots i from count, slots_of_same slots i slots₀ from before_of, ap (slots_of slots₀ i) (zero-add from)))
       (λ h.
       let others = slots_of_others slots i from count (λ j here e. eqb-unequal i subgoal h (sym e ∙ added_of j here)) in
-      omega (arith, slots_of_same slots i slots₀ from laid.subgoal_before, safe.few i))
+      omega (arith, slots_of_same slots i slots₀ from before_of, safe.few i))
 
   pub slots_safe : SafeSlots slots (from + count) (subgoal + 1)
   slots_safe = record {
-    place = below_sum (λ k. get_or slots k 0 + 9 ≤ 4608) from count (λ k here. rw (laid.before k here) (safe.place k here)) (λ j here. rw (laid.place j here) (omega arith));
-    subgoal = below_sum (λ k. get_or slots (128 + k) 0 < subgoal + 1) from count (λ k here. rw (laid.subgoal_before k here) (omega (arith, safe.subgoal k here))) (λ j here. rw (added_of j here) (omega arith));
+    place = below_sum (λ k. (slot_at slots k).place + 9 ≤ 4608) from count (λ k here. rw (laid.before k here) (safe.place k here)) (λ j here. rw (laid.added j here) (omega arith));
+    subgoal = below_sum (λ k. (slot_at slots k).subgoal < subgoal + 1) from count (λ k here. rw (before_of k here) (omega (arith, safe.subgoal k here))) (λ j here. rw (added_of j here) (omega arith));
     few = few_of;
   }

@@ -6,7 +6,7 @@ use Prim.Native.Nat.{ℕ, suc, ◌+◌, ◌≤◌, ◌<◌}
 use native.Mathlib.Omega.{arith}
 use borrow.Author.Count.{below_more}
 use lib.Dec.{leb, ltb}
-use lib.ListN.{length, get_or, drop, length-append}
+use lib.ListN.{length, drop, length-append}
 use Rattle.std.specs.Prelude.{Result, Ok, Err}
 use Rattle.groundwork.proofs.Lists.{get_d_member, length_end}
 use Rattle.groundwork.proofs.Truth.{by_truth, not-true, and_left, leb-gt}
@@ -28,6 +28,7 @@ use Rattle.theory.proofs.Judging.Variables.{head_variable, subgoal_variable}
 use Rattle.theory.proofs.Reading.Places.{each_and_last, places_every}
 use Rattle.theory.proofs.Reading.Presence.{is_filled}
 use Rattle.words.specs.declared.Words.{Words}
+use Rattle.tables.specs.declared.Slot.{Slot}
 use Rattle.tables.specs.declared.Signature.{Signature}
 use Rattle.tables.specs.declared.State.{State}
 use Rattle.tables.specs.declared.Opened.{Opened}
@@ -106,7 +107,7 @@ module _ (line : Bytes) (w : Written) where
 
   -- ---- what the line leaves
 
-  module _ {t : Tables} {s : State} {o : Opened} {many : ℕ} {variables : List Words} {rows slots : List ℕ} (holds : Holds t s w) (named : OldPredicate (atom_key added) 2 line w o) (stands : RuleStands t s w.pack rule) (few : many ≤ 16)
+  module _ {t : Tables} {s : State} {o : Opened} {many : ℕ} {variables : List Words} {rows : List ℕ} {slots : List Slot} (holds : Holds t s w) (named : OldPredicate (atom_key added) 2 line w o) (stands : RuleStands t s w.pack rule) (few : many ≤ 16)
       (terms : Finished (measure_in w.pack) (suc s.subgoals) (drop 2 (fields_of line)) all many variables t.rows rows) (laid : SlotsAdded t.slots s.slots o.predicate (signature_at t.signatures o.predicate).claims s.subgoals slots) where
     abbrev filled : Tables
     filled = tables t.signatures t.claims variables rows slots
@@ -139,13 +140,13 @@ module _ (line : Bytes) (w : Written) where
     slot_added j inside =
         let here = rw (holds.claims.count o.predicate named.below) at inside in
         slot_after t.claims t.slots slots w.pack.claims rule.subgoals added (s.slots + j) j (omega (arith, stands.slots))
-        (rw (laid.place j inside, ← named.is) (holds.claims.at o.predicate j named.below here))
-        (ap (λ i. get_or slots i 0) (omega arith) ∙ laid.of_subgoal j inside ∙ stands.subgoals)
+        (rw (laid.added j inside, ← named.is) (holds.claims.at o.predicate j named.below here))
+        (ap (λ (slot : Slot). slot.subgoal) (laid.added j inside) ∙ stands.subgoals)
         (on_arity (atom_key added) w.pack.claims j (rw claims_counted at inside))
 
     slot_stands : (k : ℕ) → k < s.slots + count → SlotStands (measure_in w.pack) t.claims slots w.pack.claims (rule.subgoals ++ (added ∷ [])) k
     slot_stands = below_sum (SlotStands (measure_in w.pack) t.claims slots w.pack.claims (rule.subgoals ++ (added ∷ []))) s.slots count
-        (λ k here. slot_before t.claims t.slots slots w.pack.claims rule.subgoals added k (omega (arith, stands.slots)) (laid.before k here) (laid.subgoal_before k here) (stands.slot k here))
+        (λ k here. slot_before t.claims t.slots slots w.pack.claims rule.subgoals added k (omega (arith, stands.slots)) (laid.before k here) (stands.slot k here))
         slot_added
 
     subgoal_stands : RuleStands filled (with_subgoal (s.slots + count) many s) (on_rules (on_last (on_subgoals (ending added))) w.pack) (on_subgoals (ending added) rule)
@@ -177,7 +178,7 @@ module _ (line : Bytes) (w : Written) where
       ended = holds.ended;
     }
 
-pub b_close : {manner : Manner} {line : Bytes} {t : Tables} {s : State} {w : Written} {o : Opened} {many : ℕ} {variables : List Words} {rows slots : List ℕ} {r : Result State Fault} → Holds t s w → Safe t s → Passed manner B line s w o
+pub b_close : {manner : Manner} {line : Bytes} {t : Tables} {s : State} {w : Written} {o : Opened} {many : ℕ} {variables : List Words} {rows : List ℕ} {slots : List Slot} {r : Result State Fault} → Holds t s w → Safe t s → Passed manner B line s w o
     → ProgressSubgoal line w s t (length (drop 2 (fields_of line))) many variables rows → ClosesB o s many t.signatures t.slots r slots → ClosedFor manner line w r (tables t.signatures t.claims variables rows slots)
 unfolding tests subgoal_tests first_given
 b_close {line} {t} {s} {w} {o} {many} {variables} {rows} {slots} {r} holds safe passed done closes =
@@ -198,7 +199,7 @@ b_close {line} {t} {s} {w} {o} {many} {variables} {rows} {slots} {r} holds safe 
     terms room = finished (few_terms passed.named holds safe) (variables_of_subgoal line w) (done.terms room)
 
 -- the ranges are kept
-pub b_safe : {t : Tables} {s : State} {o : Opened} {many : ℕ} {variables : List Words} {rows slots : List ℕ} {r : Result State Fault} → Safe t s → o.predicate < 32 → length variables ≡ 32 → length rows ≡ 1224 → SafeRows rows
+pub b_safe : {t : Tables} {s : State} {o : Opened} {many : ℕ} {variables : List Words} {rows : List ℕ} {slots : List Slot} {r : Result State Fault} → Safe t s → o.predicate < 32 → length variables ≡ 32 → length rows ≡ 1224 → SafeRows rows
     → ClosesB o s many t.signatures t.slots r slots → (next : State) → r ≡ Ok next → Safe (tables t.signatures t.claims variables rows slots) next
 b_safe {t} {s} {o} {many} {variables} {rows} {slots} safe place name_size row_size small closes next fine =
     let kept = limits_kept subgoal_limit s.subgoals many _ closes.answer fine in
@@ -222,5 +223,5 @@ b_safe {t} {s} {o} {many} {variables} {rows} {slots} safe place name_size row_si
       slots = slots_safe t.slots slots s.slots o.predicate (signature_at t.signatures o.predicate).claims s.subgoals place count safe.slots laid;
     }
 
-pub b_limit : {o : Opened} {s : State} {many : ℕ} {signatures : List Signature} {slots₀ : List ℕ} {r : Result State Fault} {slots : List ℕ} → ClosesB o s many signatures slots₀ r slots → (f : Fault) → r ≡ Err f → f ≡ CountLimit
+pub b_limit : {o : Opened} {s : State} {many : ℕ} {signatures : List Signature} {slots₀ : List Slot} {r : Result State Fault} {slots : List Slot} → ClosesB o s many signatures slots₀ r slots → (f : Fault) → r ≡ Err f → f ≡ CountLimit
 b_limit {s = s} {many = many} closes f = limit_broken subgoal_limit s.subgoals many _ closes.answer

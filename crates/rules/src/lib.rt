@@ -6,7 +6,7 @@ ghost use Rattle.tables.specs.Tables.{SafeSignatures};
 ghost use Rattle.rules.specs.Ends.{is_past, ClosesH, SlotsAdded, ClosesB};
 
 use forms::Form;
-use tables::{Fault, Opened, Signatures, Slots, State};
+use tables::{Fault, Opened, Signatures, Slot, Slots, State};
 
 /// Whether there are as many rules, or subgoals, as there may be, or a rule has more variables than it may.
 fn is_past(limit: usize, n: usize, many: usize) -> bool
@@ -37,14 +37,17 @@ pub fn close_head(o: Opened, state: State, many: usize) -> Result<State, Fault>
 }
 
 /// Adds a slot for each claim on a subgoal's predicate.
-#[tactic(auto, using(crate::proofs::AddedSlots::slots_none, crate::proofs::AddedSlots::slots_more, crate::proofs::AddedSlots::slots_all))]
+#[tactic(auto, using(crate::proofs::AddedSlots::slots_more, crate::proofs::AddedSlots::slots_all))]
 fn add_slots(slots: &mut Slots, from: usize, predicate: usize, count: usize, subgoal: usize)
     requires { (from + count ≤ 128) × (predicate < 32) × (count ≤ 16) × (subgoal < 8) }
     ensures { SlotsAdded slots.old from predicate count subgoal slots.new }
 {
     for j in 0..count {
-        slots[from + j] = tables::claim_place(predicate, j) as u16;
-        slots[128 + from + j] = subgoal as u16;
+        let place = tables::claim_place(predicate, j) as u16;
+        slots[from + j] = Slot {
+            place,
+            subgoal: subgoal as u16,
+        };
     }
 }
 

@@ -6,17 +6,17 @@ use Prim.Native.Nat.{ℕ, zero, suc, ◌+◌, ◌≤◌, ◌<◌}
 use native.Mathlib.Numerals.{unary_clauses}
 use native.Mathlib.Omega.{arith}
 use lib.Dec.{eqb}
-use lib.ListN.{get_or}
 use Rattle.groundwork.proofs.Truth.{eqb-different}
-use Rattle.tables.specs.Tables.{slots_of}
+use Rattle.tables.specs.declared.Slot.{Slot}
+use Rattle.tables.specs.Tables.{slot_at, slots_of}
 
 one_at_most : (b : Bool) → cond b 1 0 ≤ 1
 one_at_most true = omega arith
 one_at_most false = omega arith
 
-module _ (slots : List ℕ) (subgoal : ℕ) where
+module _ (slots : List Slot) (subgoal : ℕ) where
   -- those of the same slots
-  pub slots_of_same : (slots₀ : List ℕ) (n : ℕ) → ((k : ℕ) → k < n → get_or slots (128 + k) 0 ≡ get_or slots₀ (128 + k) 0) → slots_of slots subgoal n ≡ slots_of slots₀ subgoal n
+  pub slots_of_same : (slots₀ : List Slot) (n : ℕ) → ((k : ℕ) → k < n → (slot_at slots k).subgoal ≡ (slot_at slots₀ k).subgoal) → slots_of slots subgoal n ≡ slots_of slots₀ subgoal n
   unfolding slots_of
   slots_of_same slots₀ zero same = refl
   slots_of_same slots₀ (suc n) same = rw (same n (omega arith), slots_of_same slots₀ n (λ k h. same k (omega arith)))
@@ -25,10 +25,10 @@ module _ (slots : List ℕ) (subgoal : ℕ) where
   pub slots_of_most : (n more : ℕ) → slots_of slots subgoal (n + more) ≤ slots_of slots subgoal n + more
   unfolding slots_of
   slots_of_most n zero = simp unary_clauses (omega arith)
-  slots_of_most n (suc more) = simp unary_clauses (omega (arith, slots_of_most n more, one_at_most (eqb (get_or slots (128 + (n + more)) 0) subgoal)))
+  slots_of_most n (suc more) = simp unary_clauses (omega (arith, slots_of_most n more, one_at_most (eqb (slot_at slots (n + more)).subgoal subgoal)))
 
   -- some more slots of others
-  pub slots_of_others : (n more : ℕ) → ((j : ℕ) → j < more → get_or slots (128 + (n + j)) 0 ≡ subgoal → ⊥) → slots_of slots subgoal (n + more) ≡ slots_of slots subgoal n
+  pub slots_of_others : (n more : ℕ) → ((j : ℕ) → j < more → (slot_at slots (n + j)).subgoal ≡ subgoal → ⊥) → slots_of slots subgoal (n + more) ≡ slots_of slots subgoal n
   unfolding slots_of
   slots_of_others n zero other = simp unary_clauses
   slots_of_others n (suc more) other = simp unary_clauses (rw (eqb-different _ subgoal (other more (omega arith))) (omega (arith, slots_of_others n more (λ j h. other j (omega arith)))))

@@ -19,6 +19,7 @@ use Rattle.terms.specs.TermForms.{RowStands}
 use Rattle.tables.specs.declared.Kind.{Kind}
 use Rattle.tables.specs.declared.Kind.TheVariants.{Ruled, Given}
 use Rattle.tables.specs.declared.Signature.{Signature}
+use Rattle.tables.specs.declared.Slot.{Slot}
 use Rattle.tables.specs.declared.State.{State}
 
 -- what the arrays hold
@@ -27,9 +28,9 @@ pub record Tables : Type 0 where
   pub claims : List ℤ
   pub variables : List Words
   pub rows : List ℕ
-  pub slots : List ℕ
+  pub slots : List Slot
 
-abbrev pub tables : List Signature → List ℤ → List Words → List ℕ → List ℕ → Tables
+abbrev pub tables : List Signature → List ℤ → List Words → List ℕ → List Slot → Tables
 tables f c v r s = record { signatures = f; claims = c; variables = v; rows = r; slots = s }
 
 -- where the numbers of a claim on a predicate begin, and where the row of an atom's argument does
@@ -44,7 +45,7 @@ pub record Sizes (t : Tables) : Type 0 where
   pub claims : length t.claims ≡ 4608
   pub variables : length t.variables ≡ 32
   pub rows : length t.rows ≡ 1224
-  pub slots : length t.slots ≡ 256
+  pub slots : length t.slots ≡ 128
 
 -- ## The table of predicates
 
@@ -110,14 +111,22 @@ pub record SafeClaims (claims : List ℤ) : Type 0 where
 pub record SafeRows (rows : List ℕ) : Type 0 where
   pub small : (i : ℕ) → get_or rows i 0 < 65536
 
--- how many of the first slots are of a subgoal
-unfoldable pub slots_of : List ℕ → ℕ → ℕ → ℕ
-slots_of slots subgoal zero = 0
-slots_of slots subgoal (suc k) = slots_of slots subgoal k + cond (eqb (get_or slots (128 + k) 0) subgoal) 1 0
+-- what stands where no claim is on a subgoal yet
+abbrev pub no_slot : Slot
+no_slot = record { place = 0; subgoal = 0 }
 
-pub record SafeSlots (slots : List ℕ) (n subgoals : ℕ) : Type 0 where
-  pub place : (k : ℕ) → k < n → get_or slots k 0 + 9 ≤ 4608
-  pub subgoal : (k : ℕ) → k < n → get_or slots (128 + k) 0 < subgoals
+-- what stands at a place, from 0
+abbrev pub slot_at : List Slot → ℕ → Slot
+slot_at slots k = get_or slots k no_slot
+
+-- how many of the first slots are of a subgoal
+unfoldable pub slots_of : List Slot → ℕ → ℕ → ℕ
+slots_of slots subgoal zero = 0
+slots_of slots subgoal (suc k) = slots_of slots subgoal k + cond (eqb (slot_at slots k).subgoal subgoal) 1 0
+
+pub record SafeSlots (slots : List Slot) (n subgoals : ℕ) : Type 0 where
+  pub place : (k : ℕ) → k < n → (slot_at slots k).place + 9 ≤ 4608
+  pub subgoal : (k : ℕ) → k < n → (slot_at slots k).subgoal < subgoals
   pub few : (subgoal : ℕ) → slots_of slots subgoal n ≤ 16
 
 -- ## Predicates
@@ -191,11 +200,11 @@ abbrev pub subgoal_at : List Atom → ℕ → Atom
 subgoal_at subgoals s = get_or subgoals s no_atom
 
 -- the kth claim on the subgoals' predicates: where it stands, and of which subgoal it is
-pub record SlotStands (m : Measure) (claims : List ℤ) (slots : List ℕ) (cs : List Claim) (subgoals : List Atom) (k : ℕ) : Type 0 where
-  pub claim : ClaimAt claims (get_or slots k 0) (get_or (claims_on_all cs subgoals) k no_claim)
-  pub subgoal : get_or slots (128 + k) 0 < length subgoals
-  pub form : get_or (subgoal_forms m cs subgoals) k zero_form ≡ claim_form m (subgoal_at subgoals (get_or slots (128 + k) 0)) (get_or (claims_on_all cs subgoals) k no_claim)
-  pub full : length (get_or (claims_on_all cs subgoals) k no_claim).coefficients ≡ arity (subgoal_at subgoals (get_or slots (128 + k) 0)).terms
+pub record SlotStands (m : Measure) (claims : List ℤ) (slots : List Slot) (cs : List Claim) (subgoals : List Atom) (k : ℕ) : Type 0 where
+  pub claim : ClaimAt claims (slot_at slots k).place (get_or (claims_on_all cs subgoals) k no_claim)
+  pub subgoal : (slot_at slots k).subgoal < length subgoals
+  pub form : get_or (subgoal_forms m cs subgoals) k zero_form ≡ claim_form m (subgoal_at subgoals (slot_at slots k).subgoal) (get_or (claims_on_all cs subgoals) k no_claim)
+  pub full : length (get_or (claims_on_all cs subgoals) k no_claim).coefficients ≡ arity (subgoal_at subgoals (slot_at slots k).subgoal).terms
 
 pub record RuleStands (t : Tables) (s : State) (p : Pack) (r : Rule) : Type 0 where
   pub head : s.head < length p.predicates

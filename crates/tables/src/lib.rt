@@ -61,8 +61,21 @@ pub type Rows = terms::Rows;
 /// The weights of an `M` line, nine for each atom: of its constant, then of its arguments.
 pub type Weights = [i32; 81];
 
-/// For the kth claim on the last rule's subgoals: its place among the claims at k, its subgoal at 128 + k.
-pub type Slots = [u16; 256];
+/// A claim on one of the last rule's subgoals: where its numbers begin, and which subgoal it is on.
+#[derive(Clone, Copy)]
+pub struct Slot {
+    pub place: u16,
+    pub subgoal: u16,
+}
+
+/// What stands in the table where no claim is on a subgoal yet.
+pub const NO_SLOT: Slot = Slot {
+    place: 0,
+    subgoal: 0,
+};
+
+/// The claims on the last rule's subgoals, in the order of the rule's multipliers.
+pub type Slots = [Slot; 128];
 
 /// Where names and variables stood before: any content will do.
 pub type Hints = words::Hints;

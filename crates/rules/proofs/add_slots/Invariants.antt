@@ -1,5 +1,7 @@
-use Rattle.rules.specs.Ends.{SlotsAdded}
+use Rattle.groundwork.proofs.Stretches.{Stored}
+use Rattle.tables.specs.Tables.{no_slot}
+use Rattle.rules.proofs.AddedSlots.{slot_for}
 use Rattle.rules.proofs.add_slots.Given as goal
 
 abbrev pub invariant-loop-j : goal.invariant-loop-j
-invariant-loop-j l = SlotsAdded l.initial.slots l.from l.predicate l.j l.subgoal l.slots
+invariant-loop-j l = Stored no_slot (slot_for l.predicate l.subgoal) l.from l.initial.slots l.slots l.j
