@@ -12,6 +12,7 @@ use Rattle.theory.specs.Text.{Bytes, fields_of}
 use Rattle.theory.specs.Written.{Written}
 use Rattle.theory.specs.Faults.{Manner}
 use Rattle.words.specs.declared.Words.{Words}
+use Rattle.tables.specs.declared.Slot.{Slot}
 use Rattle.tables.specs.declared.State.{State}
 use Rattle.tables.specs.declared.Fault.{Fault}
 use Rattle.tables.specs.declared.Fault.TheVariants.{CountLimit, Unjustified}
@@ -77,7 +78,7 @@ unclosed t = lasting t.signatures t.claims
 
 -- the tables after a line's end, by what it writes to
 module _ {y y₁ : Lasting} {x x₁ : Room} (same : y ≡ y₁) (kept : x ≡ x₁) where
-  after : {variables : List Words} {rows slots : List ℕ} → x₁.variables ≡ variables → x₁.rows ≡ rows → x₁.slots ≡ slots → with_rule y x ≡ tables y₁.signatures y₁.claims variables rows slots
+  after : {variables : List Words} {rows : List ℕ} {slots : List Slot} → x₁.variables ≡ variables → x₁.rows ≡ rows → x₁.slots ≡ slots → with_rule y x ≡ tables y₁.signatures y₁.claims variables rows slots
   after {variables} {rows} {slots} v r z =
       let vs : x.variables ≡ variables = ap (λ (b : Room). b.variables) kept ∙ v in
       let rs : x.rows ≡ rows = ap (λ (b : Room). b.rows) kept ∙ r in

@@ -6,11 +6,12 @@ use Rattle.theory.specs.Faults.{Manner}
 use Rattle.theory.specs.Check.{Numbers, numbers, judge}
 use Rattle.forms.specs.declared.Form.{Form}
 use Rattle.words.specs.declared.Words.{Words}
+use Rattle.tables.specs.declared.Slot.{Slot}
 use Rattle.tables.specs.declared.State.{State}
 use Rattle.tables.specs.Faults.{number_of}
 use Rattle.tables.specs.declared.Tables.{Tables as Lasting}
 use Rattle.tables.specs.declared.Fault.{Fault}
-use Rattle.tables.specs.Tables.{Tables, tables, Holds, SafeState, Safe}
+use Rattle.tables.specs.Tables.{no_slot, Tables, tables, Holds, SafeState, Safe}
 use Rattle.residuals.specs.Sums.{form_numbers}
 use Rattle.lines.specs.Steps.{no_words}
 use Rattle.lines.specs.declared.LoadedLines.{LoadedLines}
@@ -21,13 +22,13 @@ fault_numbers f line rule claim = cond (eqb (number_of f) 13) (numbers 13 line r
 
 -- the tables before any rule: those of a rule are zeros
 abbrev pub unruled : Lasting → Tables
-unruled t = tables t.signatures t.claims (replicate 32 no_words) (replicate 1224 0) (replicate 256 0)
+unruled t = tables t.signatures t.claims (replicate 32 no_words) (replicate 1224 0) (replicate 128 no_slot)
 
 -- the tables hold what lines write, with some tables of the last rule
 pub record HoldsWith (t : Lasting) (s : State) (w : Written) : Type 0 where
   pub variables : List Words
   pub rows : List ℕ
-  pub slots : List ℕ
+  pub slots : List Slot
   pub safe : Safe (tables t.signatures t.claims variables rows slots) s
   pub holds : Holds (tables t.signatures t.claims variables rows slots) s w
 

@@ -11,6 +11,7 @@ use Rattle.theory.specs.Faults.{Manner}
 use Rattle.numbers.specs.Zeros.{Zeros}
 use Rattle.words.specs.declared.Words.{Words}
 use Rattle.forms.specs.declared.Form.{Form}
+use Rattle.tables.specs.declared.Slot.{Slot}
 use Rattle.tables.specs.declared.State.{State}
 use Rattle.tables.specs.declared.Fault.{Fault}
 use Rattle.tables.specs.declared.Fault.TheVariants.{Letter as Misplaced, Unjustified, Headless}
@@ -18,7 +19,7 @@ use Rattle.tables.specs.declared.Opened.{Opened}
 use Rattle.tables.specs.Sorts.{Sort, declaring, numbering, stating, following, multiplying, ending, none as no_sort, sort_of}
 use Rattle.tables.specs.declared.Signature.{Signature}
 use Rattle.tables.specs.declared.Tables.{Tables as Lasting}
-use Rattle.tables.specs.Tables.{Tables, tables, SafeSignatures, SafeClaims}
+use Rattle.tables.specs.Tables.{Tables, tables, no_slot, slot_at, SafeSignatures, SafeClaims}
 use Rattle.declarations.specs.Fields.{FieldC, ProgressC}
 use Rattle.declarations.specs.Ends.{ClosesP, ClosesC}
 use Rattle.atoms.specs.Fields.{FieldTerm, subgoal_atom, ProgressTerms}
@@ -41,7 +42,7 @@ pub record IsEmpty (x : Room) : Type 0 where
   pub variables : x.variables ≡ replicate 32 no_words
   pub rows : x.rows ≡ replicate 1224 0
   pub weights : x.weights ≡ replicate 81 (pos 0)
-  pub slots : x.slots ≡ replicate 256 0
+  pub slots : x.slots ≡ replicate 128 no_slot
 
 -- ## Fields
 
@@ -52,7 +53,7 @@ with_row row x = record { row = row; variables = x.variables; rows = x.rows; wei
 abbrev pub with_weights : List ℤ → Room → Room
 with_weights weights x = record { row = x.row; variables = x.variables; rows = x.rows; weights = weights; slots = x.slots; hints = x.hints; tokens = x.tokens }
 
-abbrev pub with_slots : List ℕ → Room → Room
+abbrev pub with_slots : List Slot → Room → Room
 with_slots slots x = record { row = x.row; variables = x.variables; rows = x.rows; weights = x.weights; slots = slots; hints = x.hints; tokens = x.tokens }
 
 -- the second room, but for what reading a term leaves as it was
@@ -69,7 +70,7 @@ FieldNeeds numbering index field s many claims x = index < 9
 FieldNeeds stating index field s many claims x = TermReady index field many
 FieldNeeds following index field s many claims x = TermReady index field many
 FieldNeeds multiplying index field s many claims x =
-    (index < 128) × (get_or x.slots index 0 + 9 ≤ 4608) × (get_or x.slots (128 + index) 0 < 8) × SafeClaims claims × RoomFor x.weights (get_or x.slots (128 + index) 0 + 1)
+    (index < 128) × ((slot_at x.slots index).place + 9 ≤ 4608) × ((slot_at x.slots index).subgoal < 8) × SafeClaims claims × RoomFor x.weights ((slot_at x.slots index).subgoal + 1)
 FieldNeeds ending index field s many claims x = ⊥
 FieldNeeds no_sort index field s many claims x = ⊥
 

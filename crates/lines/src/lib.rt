@@ -11,7 +11,7 @@ ghost use Rattle.lines.specs.LineLoading.{unruled, LoadsLines};
 
 use forms::Form;
 use tables::{
-    Claims, Fault, Hints, Manner, Opened, Rows, Slots, State, Tables, Variables, Weights,
+    Claims, Fault, Hints, Manner, NO_SLOT, Opened, Rows, Slots, State, Tables, Variables, Weights,
 };
 use theory::Letter;
 use tokens::TokenRoom;
@@ -47,7 +47,7 @@ impl Room {
             variables: [NO_WORDS; 32],
             rows: [0u16; 1224],
             weights: [0i32; 81],
-            slots: [0u16; 256],
+            slots: [NO_SLOT; 128],
             hints: [0u8; 128],
             tokens: TokenRoom::empty(),
         }

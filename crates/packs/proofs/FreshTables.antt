@@ -15,7 +15,7 @@ use Rattle.tables.proofs.PredicateSets.{set_nothing}
 use Rattle.tables.proofs.Shipping.{ships_nothing}
 use Rattle.tables.specs.declared.Tables.{Tables as Lasting}
 use Rattle.tables.specs.declared.Signature.{Signature}
-use Rattle.tables.specs.Tables.{no_signature, Tables, Holds, slots_of, Safe}
+use Rattle.tables.specs.Tables.{no_signature, no_slot, Tables, Holds, slots_of, Safe}
 use Rattle.lines.specs.Steps.{no_words}
 use Rattle.lines.specs.LineLoading.{unruled}
 use Rattle.packs.specs.Loading.{begun, fresh}
@@ -24,7 +24,7 @@ pub fresh_safe : Safe fresh begun
 unfolding slots_of
 fresh_safe =
     record {
-      sizes = record { signatures = length-replicate 32 no_signature; claims = length-replicate 4608 (pos 0); variables = length-replicate 32 no_words; rows = length-replicate {A = ℕ} 1224 0; slots = length-replicate {A = ℕ} 256 0 };
+      sizes = record { signatures = length-replicate 32 no_signature; claims = length-replicate 4608 (pos 0); variables = length-replicate 32 no_words; rows = length-replicate {A = ℕ} 1224 0; slots = length-replicate 128 no_slot };
       state = record { predicates = omega arith; rules = omega arith; head = omega arith; subgoals = omega arith; variables = omega arith; slots = omega arith; multipliers = omega arith; lines = omega arith };
       signatures = record { arity = λ i below. rw (same_everywhere no_signature 32 i) (omega arith); count = λ i below. rw (same_everywhere no_signature 32 i) (omega arith) };
       claims = record { small = λ i. rw (same_everywhere (pos 0) 4608 i) (omega arith) };
