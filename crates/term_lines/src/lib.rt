@@ -54,6 +54,7 @@ impl OpenCompounds {
 
 /// How far the lines of a clause are written: the place on the page after what is written, where this line begins, how many
 /// lines are complete, how many arguments of the atom have begun, and which compounds are open.
+// The page is no field: it is lent anew for each clause, while one pen, with its 2 KB of places, serves for all of them.
 #[derive(Drop)]
 pub struct Pen {
     pub to: usize,
@@ -116,6 +117,7 @@ impl Pen {
     }
 
     /// Goes to the front of a page. The places of digits are not cleared: of what is not open none is read.
+    // Not `*self = Pen::new()`, which would clear them at each clause.
     pub fn begin(&mut self)
         ensures { Begun self.new }
     {
