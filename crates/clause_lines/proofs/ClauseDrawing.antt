@@ -4,7 +4,7 @@ use mathlib.Core.Bool.{Bool, true, false}
 use mathlib.Core.List.Memᴰ
 use mathlib.Core.List.{List, [], ◌∷◌, ◌++◌, head-eq_of_cons-eq, tail-eq_of_cons-eq}
 use mathlib.Core.Option.{some}
-use Prim.Native.Nat.{ℕ, suc, ◌+◌, ◌-◌, ◌≤◌, ◌<◌}
+use Prim.Native.Nat.{ℕ, suc, ◌+◌, ◌≤◌, ◌<◌}
 use native.Mathlib.Omega.{arith}
 use lib.ListN.{length, drop}
 use Rattle.std.specs.Prelude.{Some, None}
@@ -21,7 +21,7 @@ use Rattle.clause_theory.proofs.Filling.{mark_variables, clause_variables_lem, f
 use Rattle.clause_theory.proofs.FreshNumbering.{FreshAt, fresh_none, fresh_next, fresh_low}
 use Rattle.clause_theory.specs.Imported.{marks}
 use Rattle.text.specs.Scans.{part}
-use Rattle.clause_tokens.proofs.TokenLaws.{none_at_end}
+use Rattle.clause_tokens.proofs.TokenLaws.{token_inside}
 use Rattle.clause_variables.proofs.FreshSearch.{next_is_fresh}
 use Rattle.pages.specs.Pages.{Puts}
 use Rattle.clause_tokens.specs.NextTokens.{tokens_at, marks_at, is_stop_mark, Sign, sign_opens, sign_closes, sign_comma, sign_neck, sign_stop, sign_stray, Seen, seen_name, seen_variable, seen_lone, seen_sign, NextToken, none_left, one_found}
@@ -198,8 +198,8 @@ module _ (text : Bytes) (from : ℕ) (v : Variables) (page₀ : Bytes) where
         let rest = g.rest r in
         some_left (fresh_of r.clause) rest.passed rest.left rest.after rest.runs (sym (ap marks none) ∙ rest.there)
 
-    pub progress_all : length text ≤ at → LinesPut text from v page₀ None page
-    progress_all end = record { size = g.size; put = λ r. absurd (no_clause (none_at_end text false at at end) r) }
+    pub progress_all : NextToken text at None → LinesPut text from v page₀ None page
+    progress_all (none_left none) = record { size = g.size; put = λ r. absurd (no_clause none r) }
 
     pub progress_tabled : Tabled v
     progress_tabled = gathered_tabled g.ready.gathered
@@ -210,7 +210,7 @@ module _ (text : Bytes) (from : ℕ) (v : Variables) (page₀ : Bytes) where
         let gathered = g.ready.gathered in
         omega (arith, fresh_low rest.fresh, rest.counts, gathered.named_is, gathered.lones_is, v.few)
 
-    module _ {t : Found} (next : NextToken text at t) {r : ℕ} (numbered : NumberAfter t.mark v number r) where
+    module _ {t : Found} (next : NextToken text at (Some t)) {r : ℕ} (numbered : NumberAfter t.mark v number r) where
       abbrev x : Bytes
       x = part text t.start t.end
 
@@ -228,13 +228,11 @@ module _ (text : Bytes) (from : ℕ) (v : Variables) (page₀ : Bytes) where
         counts : passed + lones (mark_variables others) ≡ lones (clause_variables c)
         fresh : FreshAt c passed r
         drawing : Drawing reached d page₀ page
-        inside : (at ≤ t.start) × (t.start < t.end) × (t.end ≤ length text)
 
       coming : (ready : ClauseReady text from v) → Coming ready.clause
       coming ready = at_next next
         where
-          at_next : NextToken text at t → Coming ready.clause
-          at_next (none_left mark start end none) = absurd (no_clause none ready)
+          at_next : NextToken text at (Some t) → Coming ready.clause
           at_next (one_found m seen low wide high tokens) =
               let rest = g.rest ready in
               let first = first_left (fresh_of ready.clause) rest.passed rest.left rest.after rest.runs (sym (ap marks tokens) ∙ rest.there) in
@@ -252,7 +250,6 @@ module _ (text : Bytes) (from : ℕ) (v : Variables) (page₀ : Bytes) where
                 counts = token.counts;
                 fresh = token.fresh;
                 drawing = rest.drawing;
-                inside = (low, wide, high);
               }
 
       drawable : {c : Clause} (k : Coming c) {to : State} → Moves k.reached k.token to → Drawable x t.mark r d page
@@ -264,15 +261,6 @@ module _ (text : Bytes) (from : ℕ) (v : Variables) (page₀ : Bytes) where
           by : {ms : List T.Mark} → NextStep (coming g.ready).reached (coming g.ready).token ms (filled g.ready.clause) → Drawable x t.mark r d page
           by (last_step s) = drawable (coming g.ready) (step_ends s)
           by (more_steps s runs) = drawable (coming g.ready) (step_goes s)
-
-      pub progress_ordered : t.start ≤ t.end
-      progress_ordered = omega (arith, (coming g.ready).inside.1)
-
-      pub progress_inside : t.end ≤ length text
-      progress_inside = (coming g.ready).inside.2
-
-      pub progress_less : length text - t.end < length text - at
-      progress_less = omega (arith, (coming g.ready).inside.0, (coming g.ready).inside.1, (coming g.ready).inside.2)
 
       module _ {e : Rust.Option (Unit {0})} {f : Pen} {after : Bytes} (draws : Draws x t.mark r d page e f after) where
         -- what the token leaves: the whole clause, or one of which some tokens are left
@@ -326,7 +314,7 @@ module _ (text : Bytes) (from : ℕ) (v : Variables) (page₀ : Bytes) where
           -- it goes on
           pub progress_more : stops ≡ false → Progress after f r t.end
           progress_more is =
-              record { ready = g.ready; size = progress_size; high = progress_inside; rest = λ ready. onwards (coming ready) (left_after (coming ready)) }
+              record { ready = g.ready; size = progress_size; high = token_inside next; rest = λ ready. onwards (coming ready) (left_after (coming ready)) }
             where
               onwards : {c : Clause} (k : Coming c) → Left c k → LeftOf text page₀ after f r t.end c
               onwards k (none_more ended drawn) = never_both ended (sym told ∙ is)

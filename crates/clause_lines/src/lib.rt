@@ -39,8 +39,7 @@ pub fn put_clause(
     pen.begin();
     let mut number: usize = 0;
     let mut at = from;
-    while at < text.len() {
-        let token = clause_tokens::next(text, at, classes);
+    while let Some(token) = clause_tokens::next(text, at, classes) {
         let mark = token.mark;
         number = number_after(mark, variables, number);
         let bytes = &text[token.start..token.end];

@@ -17,6 +17,8 @@ use Rattle.clause_theory.specs.Import.{is_lone}
 use Rattle.text.specs.Scans.{part}
 use Rattle.text.proofs.Parts.{drop_more, part_length}
 use denote.Enum.Bare.{sameb}
+use Rattle.clause_tokens.specs.declared.Token.{Token as Found}
+use Rattle.std.specs.Prelude.{Some, None}
 use Rattle.words.specs.contracts.table.Class.{the_type as class_type}
 use Rattle.words.specs.Classes.{class_of, EndsWord}
 use Rattle.words.specs.declared.table.Class.{Class}
@@ -26,7 +28,7 @@ use Rattle.words.proofs.WordReading.{word_is}
 use Rattle.words.proofs.Letters.{lower_in_name, upper_in_name}
 use Rattle.clause_tokens.specs.NextTokens.{tokens_at, LayoutEnds, Sign, sign_opens, sign_closes, sign_comma, sign_neck, sign_stop, sign_stray, sign_more, Seen, seen_name, seen_variable, seen_lone, seen_sign, RunSeen, NextToken, none_left, one_found}
 use Rattle.clause_tokens.specs.declared.Mark.{Mark}
-use Rattle.clause_tokens.specs.declared.Mark.TheVariants.{Name, Variable, Lone, Opens, Closes, Comma, Neck, Stop, Stray, Nothing}
+use Rattle.clause_tokens.specs.declared.Mark.TheVariants.{Name, Variable, Lone, Opens, Closes, Comma, Neck, Stop, Stray}
 
 -- ---- layout
 
@@ -288,17 +290,17 @@ module _ (text : Bytes) (start : ℕ) (inside : start < length text) (solid : is
       ap (tokens_from apart 0 start) (drop_more text start inside) ∙ rw (solid) (ap (λ ts. token (mark_of apart b bs) start ∷ ts) rest)
 
 module _ {text : Bytes} {from start : ℕ} (layout : LayoutEnds text from start) where
-  pub next_none : length text ≤ start → NextToken text from (record { mark = Nothing; start = start; end = start })
+  pub next_none : length text ≤ start → NextToken text from None
   next_none h =
       let all : start ≡ length text = omega (arith, layout.high) in
-      none_left refl all all (layout.passed ∙ rw all (none_at_end text (cond (eqb (length text) from) false true) (length text) (length text) (omega arith)))
+      none_left (layout.passed ∙ rw all (none_at_end text (cond (eqb (length text) from) false true) (length text) (length text) (omega arith)))
 
   module _ (inside : start < length text) where
     apart : Bool
     apart = cond (eqb start from) false true
 
     one_token : (k : Mark) (end : ℕ) → end ≡ start + 1 + bytes_after (get_or text start 0) (drop (start + 1) text) → end ≤ length text
-        → Seen (part text start end) k (mark_of apart (get_or text start 0) (drop (start + 1) text)) → NextToken text from (record { mark = k; start = start; end = end })
+        → Seen (part text start end) k (mark_of apart (get_or text start 0) (drop (start + 1) text)) → NextToken text from (Some (record { mark = k; start = start; end = end }))
     unfolding apart
     one_token k end is high seen =
         one_found (mark_of apart (get_or text start 0) (drop (start + 1) text)) seen layout.low (omega arith) high
@@ -315,7 +317,7 @@ module _ {text : Bytes} {from start : ℕ} (layout : LayoutEnds text from start)
         named_told : is_name_byte (get_or text start 0) ≡ not r
         named_told = named_is (get_or text start 0) ∙ ap (λ (k : Class). not (is_outside k)) (sym is) ∙ ap not (sym (told ∙ outside_is class))
 
-        pub next_run : {k : Mark} {end : ℕ} → r ≡ false → EndsWord text (start + 1) end → RunSeen text start end k → NextToken text from (record { mark = k; start = start; end = end })
+        pub next_run : {k : Mark} {end : ℕ} → r ≡ false → EndsWord text (start + 1) end → RunSeen text start end k → NextToken text from (Some (record { mark = k; start = start; end = end }))
         next_run {k} {end} some word seen = one_token k end (word_ends inside word (named_told ∙ ap not some)) word.high (seen.seen apart)
 
         unnamed : r ≡ true → is_name_byte (get_or text start 0) ≡ false
@@ -335,9 +337,22 @@ module _ {text : Bytes} {from start : ℕ} (layout : LayoutEnds text from start)
         apart_is = by_truth (λ c. cond c false true ≡ not c) (eqb start from) (λ e. refl) (λ e. refl)
 
         pub next_sign : {k : Mark} {end : ℕ} → r ≡ true → Sign k (sign_of (not (eqb start from)) (get_or text start 0) (drop (start + 1) text)) → end ≡ start + 1 + sign_more (get_or text start 0) (drop (start + 1) text)
-            → NextToken text from (record { mark = k; start = start; end = end })
+            → NextToken text from (Some (record { mark = k; start = start; end = end }))
         next_sign {k} {end} none sign is_end =
             let b = get_or text start 0 in
             let bs = drop (start + 1) text in
             one_token k end (is_end ∙ ap (λ n. start + 1 + n) (sym (sign_bytes none))) (omega (arith, is_end, more_inside b bs, length-drop (start + 1) text))
             (rw (sign_mark apart b bs (unnamed none), apart_is) (seen_sign sign))
+
+-- ---- where a token lies
+
+module _ {text : Bytes} {from : ℕ} {t : Found} where
+  pub token_ordered : NextToken text from (Some t) → t.start ≤ t.end
+  token_ordered (one_found m seen low some high tokens) = omega arith
+
+  pub token_inside : NextToken text from (Some t) → t.end ≤ length text
+  token_inside (one_found m seen _ some high tokens) = high
+
+  -- behind the place
+  pub token_less : NextToken text from (Some t) → length text - t.end < length text - from
+  token_less (one_found m seen low some high tokens) = omega arith

@@ -1,5 +1,5 @@
 -- The token at a place, as numbers: what it is to the grammar, and the tokens after it.
-use Rattle.std.specs.Prelude.{◌≡◌, Bool, true, false, cond, List, [], ◌∷◌, ℕ, ◌+◌, ◌≤◌, ◌<◌, eqb, leb, length, get_or, drop}
+use Rattle.std.specs.Prelude.{◌≡◌, Bool, true, false, cond, List, [], ◌∷◌, ℕ, ◌+◌, ◌≤◌, ◌<◌, eqb, leb, length, get_or, drop, Option, Some, None}
 use Rattle.theory.specs.Text.{Bytes, bytes, is_name, is_variable}
 use Rattle.clause_theory.specs.ClauseTokens.{name, variable, opens, closes, comma, neck, stop, stray, Token, token, is_layout, is_neck, mark_of, bytes_after, tokens_from}
 use Rattle.clause_theory.specs.ClauseTokens as T
@@ -9,7 +9,7 @@ use Rattle.text.specs.Scans.{part}
 use denote.Enum.Bare.{sameb}
 use Rattle.clause_tokens.specs.contracts.Mark.{the_type}
 use Rattle.clause_tokens.specs.declared.Mark.{Mark}
-use Rattle.clause_tokens.specs.declared.Mark.TheVariants.{Name, Variable, Lone, Opens, Closes, Comma, Neck, Stop, Stray, Nothing}
+use Rattle.clause_tokens.specs.declared.Mark.TheVariants.{Name, Variable, Lone, Opens, Closes, Comma, Neck, Stop, Stray}
 use Rattle.clause_tokens.specs.declared.Token.{Token as Found}
 
 -- the tokens from a place on, where one ends or the text begins
@@ -52,10 +52,10 @@ pub record RunSeen (text : Bytes) (start end : ℕ) (k : Mark) : Type 0 where
   pub seen : (apart : Bool) → Seen (part text start end) k (mark_of apart (get_or text start 0) (drop (start + 1) text))
 
 -- the first token from a place on, or none
-pub data NextToken (text : Bytes) (from : ℕ) (r : Found) : Type 0 where
-  none_left : r.mark ≡ Nothing → r.start ≡ length text → r.end ≡ length text → tokens_at text from ≡ [] → NextToken text from r
-  one_found : (m : T.Mark) → Seen (part text r.start r.end) r.mark m → from ≤ r.start → r.start < r.end → r.end ≤ length text
-      → tokens_at text from ≡ token m r.start ∷ tokens_at text r.end → NextToken text from r
+pub data NextToken (text : Bytes) (from : ℕ) : Option Found → Type 0 where
+  none_left : tokens_at text from ≡ [] → NextToken text from None
+  one_found : {r : Found} (m : T.Mark) → Seen (part text r.start r.end) r.mark m → from ≤ r.start → r.start < r.end → r.end ≤ length text
+      → tokens_at text from ≡ token m r.start ∷ tokens_at text r.end → NextToken text from (Some r)
 
 -- whether a token ends a clause
 abbrev pub is_stop_mark : Mark → Bool

@@ -8,7 +8,7 @@ ghost use Rattle.clause_tokens.specs.NextTokens.{LayoutEnds, Sign, sign_more, Ru
 
 use words::{Class, ClassTable};
 
-/// What a token is. `Nothing`: only layout stands up to the end.
+/// What a token is.
 #[derive(Clone, Copy, PartialEq, Eq)]
 pub enum Mark {
     Name,
@@ -20,7 +20,6 @@ pub enum Mark {
     Neck,
     Stop,
     Stray,
-    Nothing,
 }
 
 /// A token: what it is, where it starts, and the place after it.
@@ -130,31 +129,27 @@ fn sign_end(text: &[u8], at: usize) -> usize
     if is_neck(text, at) { at + 2 } else { at + 1 }
 }
 
-/// The token that starts at or after a place, where the one before it ends.
-pub fn next(text: &[u8], from: usize, classes: &ClassTable) -> Token
+/// The token that starts at or after a place, where the one before it ends. `None`: only layout stands up to the end.
+pub fn next(text: &[u8], from: usize, classes: &ClassTable) -> Option<Token>
     requires { from ≤ length text.now }
     ensures { NextToken text.now from result }
 {
     let start = layout_end(text, from);
     if text.len() <= start {
-        return Token {
-            mark: Mark::Nothing,
-            start,
-            end: start,
-        };
+        return None;
     }
     let class = classes.class_of(text[start]);
     if class == Class::Outside {
-        return Token {
+        return Some(Token {
             mark: sign(text, start, start == from),
             start,
             end: sign_end(text, start),
-        };
+        });
     }
     let end = classes.word_end(text, start + 1);
-    Token {
+    Some(Token {
         mark: run_mark(text, start, end, class),
         start,
         end,
-    }
+    })
 }

@@ -2,7 +2,7 @@
 use mathlib.Core.Path.{◌≡◌, refl, sym, ◌∙◌, ap, subst}
 use mathlib.Core.Bool.{Bool, true, false}
 use mathlib.Core.List.{List, [], ◌∷◌, ◌++◌, append_assoc, head-eq_of_cons-eq, tail-eq_of_cons-eq}
-use Prim.Native.Nat.{ℕ, ◌-◌, ◌≤◌, ◌<◌}
+use Prim.Native.Nat.{ℕ, ◌≤◌}
 use native.Mathlib.Omega.{arith}
 use lib.ListN.{length}
 use Rattle.std.specs.Prelude.{Option, Some, None}
@@ -20,7 +20,7 @@ use Rattle.clause_theory.proofs.FilledVariables.{named}
 use Rattle.theory.proofs.Judging.Variables.{once_none}
 use Rattle.text.specs.Scans.{part}
 use Rattle.clause_tokens.specs.NextTokens.{tokens_at, marks_at, is_stop_mark, Seen, NextToken, none_left, one_found}
-use Rattle.clause_tokens.proofs.TokenLaws.{none_at_end}
+use Rattle.clause_tokens.proofs.TokenLaws.{token_inside}
 use Rattle.clause_tokens.specs.declared.Token.{Token as Found}
 use Rattle.clause_variables.specs.declared.Variables.{Variables}
 use Rattle.clause_variables.specs.Variables.{ClauseAt, Gathered, TooMany, Known, all_known, over, Gathers, VariablesFound}
@@ -107,31 +107,10 @@ module _ (text : Bytes) (from : ℕ) where
     no_clause : tokens_at text at ≡ [] → (c : Clause) → ClauseAt text from c → ⊥
     no_clause none c stands = let r = g.rest c stands in some_left r.after r.runs (sym (ap marks none) ∙ r.there)
 
-    pub gathering_all : {r : Option (Unit {0})} → length text ≤ at → VariablesFound text from r v
-    gathering_all end = record { found = λ c stands. absurd (no_clause (none_at_end text false at at end) c stands) }
+    pub gathering_all : {r : Option (Unit {0})} → NextToken text at None → VariablesFound text from r v
+    gathering_all (none_left none) = record { found = λ c stands. absurd (no_clause none c stands) }
 
-    module _ {t : Found} (next : NextToken text at t) where
-      pub token_ordered : t.start ≤ t.end
-      token_ordered = at_next next
-        where
-          at_next : NextToken text at t → t.start ≤ t.end
-          at_next (none_left mark start end none) = omega arith
-          at_next (one_found m seen low some high tokens) = omega arith
-
-      pub token_inside : t.end ≤ length text
-      token_inside = at_next next
-        where
-          at_next : NextToken text at t → t.end ≤ length text
-          at_next (none_left mark start end none) = omega arith
-          at_next (one_found m seen low some high tokens) = high
-
-      pub gathering_less : at < length text → length text - t.end < length text - at
-      gathering_less inside = at_next next
-        where
-          at_next : NextToken text at t → length text - t.end < length text - at
-          at_next (none_left mark start end none) = omega arith
-          at_next (one_found m seen low some high tokens) = omega arith
-
+    module _ {t : Found} (next : NextToken text at (Some t)) where
       module _ {r : Option (Unit {0})} {w : Variables} (gathers : Gathers (part text t.start t.end) t.mark v r w) where
         -- what is known of a clause's variables after this token
         data Stepped (c : Clause) : Type 0 where
@@ -153,8 +132,7 @@ module _ (text : Bytes) (from : ℕ) where
                 let rest = g.rest c stands in
                 clause_goes (rest.passed ++ (m ∷ [])) left after (stop_seen seen ∙ is) runs (whole ∙ sym (append_assoc rest.passed (m ∷ []) left)) coming (known_more m seen)
 
-            at_next : NextToken text at t → Stepped c
-            at_next (none_left mark start end none) = absurd (no_clause none c stands)
+            at_next : NextToken text at (Some t) → Stepped c
             at_next (one_found m seen low some high tokens) =
                 let rest = g.rest c stands in
                 at_mark m seen (next_mark rest.passed rest.after rest.runs rest.whole (sym (ap marks tokens) ∙ rest.there))
@@ -179,7 +157,7 @@ module _ (text : Bytes) (from : ℕ) where
               at_step c (clause_goes passed left after goes_on runs whole coming known) = never_both (sym told ∙ is) goes_on
 
           pub gathering_more : stops ≡ false → Gathering w t.end
-          gathering_more is = record { high = token_inside; rest = λ c stands. at_step c (stepped c stands) }
+          gathering_more is = record { high = token_inside next; rest = λ c stands. at_step c (stepped c stands) }
             where
               at_step : (c : Clause) → Stepped c → Rest text w t.end c
               at_step c (clause_ends is_end_lem known) = never_both is_end_lem (sym told ∙ is)

@@ -18,7 +18,7 @@ use Rattle.clause_theory.specs.Clauses.{State, Clause, Open, ending_term, due, r
 use Rattle.clause_theory.specs.Clauses as Grammar
 use Rattle.clause_tokens.specs.NextTokens.{Seen, seen_name, seen_variable, seen_lone, seen_sign, sign_opens, sign_closes, sign_comma, sign_neck, sign_stop, sign_stray}
 use Rattle.clause_tokens.specs.declared.Mark.{Mark}
-use Rattle.clause_tokens.specs.declared.Mark.TheVariants.{Name, Opens, Closes, Comma, Neck, Stop, Nothing}
+use Rattle.clause_tokens.specs.declared.Mark.TheVariants.{Name, Opens, Closes, Comma, Neck, Stop, Stray}
 use types.Run.{OneOf, miss}
 use denote.Enum.Bare.{sameb}
 use denote.Enum.Declared.{tag_of}
@@ -183,16 +183,8 @@ by_neck P (seen_sign sign_neck) p = p
 by_stop : (P : T.Mark → Type 0) {x : Bytes} {m : T.Mark} → Seen x Stop m → P stop → P m
 by_stop P (seen_sign sign_stop) p = p
 
-by_stray : (P : T.Mark → Type 0) {x : Bytes} {k : Mark} {m : T.Mark} → OneOf (8 ∷ 9 ∷ []) (tag_of the_type k) → Seen x k m → ((s : Bytes) → P (stray s)) → P m
-by_stray P way (seen_name w) p = absurd (miss (8 ∷ 9 ∷ []) 0 tt way)
-by_stray P way (seen_variable w l) p = absurd (miss (8 ∷ 9 ∷ []) 1 tt way)
-by_stray P way seen_lone p = absurd (miss (8 ∷ 9 ∷ []) 2 tt way)
-by_stray P way (seen_sign sign_opens) p = absurd (miss (8 ∷ 9 ∷ []) 3 tt way)
-by_stray P way (seen_sign sign_closes) p = absurd (miss (8 ∷ 9 ∷ []) 4 tt way)
-by_stray P way (seen_sign sign_comma) p = absurd (miss (8 ∷ 9 ∷ []) 5 tt way)
-by_stray P way (seen_sign sign_neck) p = absurd (miss (8 ∷ 9 ∷ []) 6 tt way)
-by_stray P way (seen_sign sign_stop) p = absurd (miss (8 ∷ 9 ∷ []) 7 tt way)
-by_stray P way (seen_sign sign_stray) p = p _
+by_stray : (P : T.Mark → Type 0) {x : Bytes} {m : T.Mark} → Seen x Stray m → ((s : Bytes) → P (stray s)) → P m
+by_stray P (seen_sign sign_stray) p = p _
 
 -- ---- what `advance` cites
 
@@ -200,9 +192,6 @@ ending_compound : {f : Bytes} (t : Term) (us : Terms) → LastIs (read (symbol f
 unfolding ending_term
 ending_compound t nil = is_compound
 ending_compound t (cons u us) = is_compound
-
-some_kind : {mark k : Mark} (j : ℕ) → mark ≡ k → tag_of the_type k ≡ j → (j ≡ 9 → ⊥) → mark ≡ Nothing → ⊥
-some_kind j is tag other empty = other (sym tag ∙ ap (tag_of the_type) (sym is ∙ empty))
 
 -- the grammar's step, by the parts of the state
 abbrev Steps : Standing → Mark → Step → Type 0
@@ -214,14 +203,13 @@ module _ {from : Standing} {mark : Mark} where
   refused : Steps from mark Refuses → Advances from mark Refuses
   unfolding step
   refused steps =
-      record { steps = λ {s} {x} {m} stands seen. steps x m seen s.before s.opened s.last stands.last_is stands.depth_is stands.body_is; nothing = λ _. refl; deep = tt }
+      record { steps = λ {s} {x} {m} stands seen. steps x m seen s.before s.opened s.last stands.last_is stands.depth_is stands.body_is; deep = tt }
 
-  gone : {next : Standing} → next.depth ≤ from.depth + 1 → (mark ≡ Nothing → ⊥) → Steps from mark (Goes next) → Advances from mark (Goes next)
+  gone : {next : Standing} → next.depth ≤ from.depth + 1 → Steps from mark (Goes next) → Advances from mark (Goes next)
   unfolding step
-  gone deep real steps =
+  gone deep steps =
       record {
         steps = λ {s} {x} {m} stands seen. steps x m seen s.before s.opened s.last stands.last_is stands.depth_is stands.body_is;
-        nothing = λ empty. absurd (real empty);
         deep = deep;
       }
 
@@ -232,7 +220,7 @@ module _ {from : Standing} {mark : Mark} where
           by_name (λ k. StepIs (step_after before opened l k) Refuses) (subst (λ k. Seen x k m) is seen) (λ f. name_refuses before opened l f (sym (last_due told li) ∙ h)))
 
       pub name_read : isDue ≡ true → Advances from mark (Goes (record { last = Named; depth = from.depth; body = from.body }))
-      name_read h = gone (omega arith) (some_kind 0 is refl (λ e. omega arith)) (λ x m seen before opened l li d b.
+      name_read h = gone (omega arith) (λ x m seen before opened l li d b.
           by_name (λ k. StepIs (step_after before opened l k) (Goes (record { last = Named; depth = from.depth; body = from.body }))) (subst (λ k. Seen x k m) is seen)
           (λ f. name_goes before opened l f (sym (last_due told li) ∙ h) (record { last_is = is_name_lem; depth_is = d; body_is = b })))
 
@@ -242,7 +230,7 @@ module _ {from : Standing} {mark : Mark} where
           by_variable (λ k. StepIs (step_after before opened l k) Refuses) way seen (λ y. variable_refuses before opened l y (rw (last_due told li, depth_none opened from.depth d) at h)))
 
       pub variable_read : (not isDue || eqb from.depth 0) ≡ false → Advances from mark (Goes (record { last = Other; depth = from.depth; body = from.body }))
-      variable_read h = gone (omega arith) (λ empty. miss (1 ∷ 2 ∷ []) 9 tt (subst (λ k. OneOf (1 ∷ 2 ∷ []) (tag_of the_type k)) empty way)) (λ x m seen before opened l li d b.
+      variable_read h = gone (omega arith) (λ x m seen before opened l li d b.
           by_variable (λ k. StepIs (step_after before opened l k) (Goes (record { last = Other; depth = from.depth; body = from.body }))) way seen
           (λ y. variable_goes before opened l y (rw (last_due told li, depth_none opened from.depth d) at h) (record { last_is = is_variable_lem; depth_is = d; body_is = b })))
 
@@ -252,7 +240,7 @@ module _ {from : Standing} {mark : Mark} where
           by_closes (λ k. StepIs (step_after before opened l k) Refuses) (subst (λ k. Seen x k m) is seen) (closes_refuses before opened l (rw (last_due told li, depth_none opened from.depth d) at h)))
 
       pub closes_read : (isDue || eqb from.depth 0) ≡ false → Advances from mark (Goes (record { last = Other; depth = from.depth - 1; body = from.body }))
-      closes_read h = gone (omega arith) (some_kind 4 is refl (λ e. omega arith)) (λ x m seen before opened l li d b.
+      closes_read h = gone (omega arith) (λ x m seen before opened l li d b.
           by_closes (λ k. StepIs (step_after before opened l k) (Goes (record { last = Other; depth = from.depth - 1; body = from.body }))) (subst (λ k. Seen x k m) is seen)
           (closes_goes before opened l (rw (last_due told li, depth_none opened from.depth d) at h)
           (λ o rest t e. record { last_is = ending_compound t o.before; depth_is = omega (arith, d, ap length e); body_is = b })))
@@ -263,7 +251,7 @@ module _ {from : Standing} {mark : Mark} where
           by_comma (λ k. StepIs (step_after before opened l k) Refuses) (subst (λ k. Seen x k m) is seen) (comma_refuses before opened l (rw (last_due told li, depth_none opened from.depth d, b) at h)))
 
       pub comma_read : (isDue || (eqb from.depth 0 && not from.body)) ≡ false → Advances from mark (Goes (record { last = Due; depth = from.depth; body = from.body }))
-      comma_read h = gone (omega arith) (some_kind 5 is refl (λ e. omega arith)) (λ x m seen before opened l li d b.
+      comma_read h = gone (omega arith) (λ x m seen before opened l li d b.
           by_comma (λ k. StepIs (step_after before opened l k) (Goes (record { last = Due; depth = from.depth; body = from.body }))) (subst (λ k. Seen x k m) is seen)
           (comma_goes before opened l (rw (last_due told li, depth_none opened from.depth d, b) at h) (λ after rest some many. record { last_is = is_due_lem; depth_is = d ∙ sym many; body_is = b ∙ sym some })))
 
@@ -274,7 +262,7 @@ module _ {from : Standing} {mark : Mark} where
 
       pub neck_read : ((isDue || not (eqb from.depth 0)) || from.body) ≡ false → Advances from mark (Goes (record { last = Due; depth = from.depth; body = true }))
       unfolding is_some
-      neck_read h = gone (omega arith) (some_kind 6 is refl (λ e. omega arith)) (λ x m seen before opened l li d b.
+      neck_read h = gone (omega arith) (λ x m seen before opened l li d b.
           by_neck (λ k. StepIs (step_after before opened l k) (Goes (record { last = Due; depth = from.depth; body = true }))) (subst (λ k. Seen x k m) is seen)
           (neck_goes before opened l (rw (last_due told li, depth_none opened from.depth d, b) at h) (λ c e. record { last_is = is_due_lem; depth_is = d ∙ ap length e; body_is = refl })))
 
@@ -290,7 +278,6 @@ module _ {from : Standing} {mark : Mark} where
             steps = λ {s} {x} {m} stands seen.
                 by_stop (λ k. StepIs (step_after s.before s.opened s.last k) Ends) (subst (λ k. Seen x k m) is seen)
                 (stop_ends s.before s.opened s.last (rw (last_due told stands.last_is, depth_none s.opened from.depth stands.depth_is) at h));
-            nothing = λ empty. absurd (some_kind 7 is refl (λ e. omega arith) empty);
             deep = tt;
           }
 
@@ -300,12 +287,13 @@ module _ {from : Standing} {mark : Mark} where
         by_opens (λ k. StepIs (step_after before opened l k) Refuses) (subst (λ k. Seen x k m) is seen) (opens_refuses before opened told h li))
 
     pub opens_read : isName ≡ true → Advances from mark (Goes (record { last = Due; depth = from.depth + 1; body = from.body }))
-    opens_read h = gone (omega arith) (some_kind 3 is refl (λ e. omega arith)) (λ x m seen before opened l li d b.
+    opens_read h = gone (omega arith) (λ x m seen before opened l li d b.
         by_opens (λ k. StepIs (step_after before opened l k) (Goes (record { last = Due; depth = from.depth + 1; body = from.body }))) (subst (λ k. Seen x k m) is seen)
         (opens_goes before opened told h li (λ f. record { last_is = is_due_lem; depth_is = omega (arith, d); body_is = b })))
 
-  pub stray_not : OneOf (8 ∷ 9 ∷ []) (tag_of the_type mark) → Advances from mark Refuses
-  stray_not way = refused (λ x m seen before opened l li d b. by_stray (λ k. StepIs (step_after before opened l k) Refuses) way seen (λ s. stray_refuses s before opened l))
+  pub stray_not : mark ≡ Stray → Advances from mark Refuses
+  stray_not is = refused (λ x m seen before opened l li d b.
+      by_stray (λ k. StepIs (step_after before opened l k) Refuses) (subst (λ k. Seen x k m) is seen) (λ s. stray_refuses s before opened l))
 
 pub closes_deep : (isDue : Bool) (depth : ℕ) → (isDue || eqb depth 0) ≡ false → 1 ≤ depth
 closes_deep isDue depth h = omega (arith, eqb-unequal depth 0 (or_not_right isDue (eqb depth 0) h))

@@ -2,7 +2,7 @@
 use mathlib.Core.Path.{◌≡◌, refl, sym, ◌∙◌, ap, subst}
 use mathlib.Core.Bool.{false}
 use mathlib.Core.List.{List, [], ◌∷◌, ◌++◌}
-use Prim.Native.Nat.{ℕ, ◌+◌, ◌-◌, ◌≤◌, ◌<◌}
+use Prim.Native.Nat.{ℕ, ◌+◌, ◌≤◌}
 use native.Mathlib.Omega.{arith}
 use lib.ListN.{length}
 use Rattle.groundwork.proofs.Truth.{by_truth}
@@ -14,9 +14,8 @@ use Rattle.clause_theory.specs.Clauses.{Clause, State, begin, is_begin, refuses,
 use Rattle.clause_theory.specs.Clauses as Grammar
 use Rattle.clause_theory.proofs.Running.{consumed, begin_consumed, Adds, step_adds}
 use Rattle.clause_tokens.specs.NextTokens.{tokens_at, Seen, NextToken, none_left, one_found}
-use Rattle.clause_tokens.proofs.TokenLaws.{none_at_end}
 use Rattle.clause_tokens.specs.declared.Token.{Token as Found}
-use Rattle.std.specs.Prelude.{Ok, Err}
+use Rattle.std.specs.Prelude.{Some, None, Ok, Err}
 use Rattle.clauses.specs.declared.Last.TheVariants.{Due}
 use Rattle.clauses.specs.declared.Standing.{Standing}
 use Rattle.clauses.specs.declared.Step.{Step}
@@ -73,59 +72,43 @@ module _ (text : Bytes) (from : ℕ) where
       }
 
   module _ {at : ℕ} {standing : Standing} (r : Reading at standing) where
-    -- nothing is left
-    unfinished : tokens_at text at ≡ [] → (place : ℕ) → place ≡ length text → EndFound text from (Err place)
-    unfinished none place all =
-        found_none (r.fails (subst (λ ts. Fails (length text) r.reached ts place) (sym none) (subst (λ i. Fails (length text) r.reached [] i) (sym all) (fails_end (r.begun none)))))
+    pub reading_all : NextToken text at None → EndFound text from (Err (length text))
+    reading_all (none_left none) = found_none (r.fails (subst (λ ts. Fails (length text) r.reached ts (length text)) (sym none) (fails_end (r.begun none))))
 
-    pub reading_all : length text ≤ at → EndFound text from (Err (length text))
-    reading_all h = unfinished (none_at_end text false at at h) (length text) refl
-
-    module _ {t : Found} {a : Step} (next : NextToken text at t) (advances : Advances standing t.mark a) where
-      -- the grammar's step of the token, where the reader does not refuse it
+    module _ {t : Found} {a : Step} (next : NextToken text at (Some t)) (advances : Advances standing t.mark a) where
+      -- the grammar's step of the token
       stepped : {b : Step} → a ≡ b → {x : Bytes} {m : T.Mark} → Seen x t.mark m → StepIs (step r.reached m) b
       stepped is {m = m} seen = subst (StepIs (step r.reached m)) is (advances.steps r.stands seen)
 
       pub reading_refused : a ≡ Refuses → EndFound text from (Err t.start)
       reading_refused is = at_next next
         where
-          at_next : NextToken text at t → EndFound text from (Err t.start)
-          at_next (none_left mark start end none) = unfinished none t.start start
+          at_next : NextToken text at (Some t) → EndFound text from (Err t.start)
           at_next (one_found m seen low some high tokens) =
               found_none (r.fails (subst (λ ts. Fails (length text) r.reached ts t.start) (sym tokens) (fails_here (refused_step (stepped is seen)))))
 
       pub reading_ended : a ≡ Ends → EndFound text from (Ok t.end)
       reading_ended is = at_next next
         where
-          at_next : NextToken text at t → EndFound text from (Ok t.end)
-          at_next (none_left mark start end none) = let e : Refuses ≡ Ends = sym (advances.nothing mark) ∙ is in cc
+          at_next : NextToken text at (Some t) → EndFound text from (Ok t.end)
           at_next (one_found m seen low some high tokens) =
               let reached = ended_step (stepped is seen) in
               found_clause reached.0 (omega (arith, r.low)) high (r.reaches (subst (λ ts. Reaches r.reached ts reached.0 (tokens_at text t.end)) (sym tokens) (reaches_here reached.1)))
 
-      module _ {standing₁ : Standing} (is : a ≡ Goes standing₁) where
-        pub reading_more : Reading t.end standing₁
-        reading_more = at_next next
-          where
-            at_next : NextToken text at t → Reading t.end standing₁
-            at_next (none_left mark start end none) = let e : Refuses ≡ Goes standing₁ = sym (advances.nothing mark) ∙ is in cc
-            at_next (one_found m seen low some high tokens) =
-                let reached = going_step (stepped is seen) in
-                let deep : standing₁.depth ≤ standing.depth + 1 = subst (Deep (standing.depth + 1)) is advances.deep in
-                record {
-                  reached = reached.0;
-                  stands = reached.2;
-                  low = omega (arith, r.low);
-                  high = high;
-                  shallow = omega (arith, r.shallow);
-                  begun = λ _. step_begun r.reached reached.0 m reached.1;
-                  reaches = λ {c} {rest} more. r.reaches (subst (λ ts. Reaches r.reached ts c rest) (sym tokens) (reaches_on reached.1 more));
-                  fails = λ {place} more. r.fails (subst (λ ts. Fails (length text) r.reached ts place) (sym tokens) (fails_on reached.1 more));
-                }
-
-        pub reading_less : length text - t.end < length text - at
-        reading_less = at_next next
-          where
-            at_next : NextToken text at t → length text - t.end < length text - at
-            at_next (none_left mark start end none) = let e : Refuses ≡ Goes standing₁ = sym (advances.nothing mark) ∙ is in cc
-            at_next (one_found m seen low some high tokens) = omega arith
+      pub reading_more : {standing₁ : Standing} → a ≡ Goes standing₁ → Reading t.end standing₁
+      reading_more {standing₁} is = at_next next
+        where
+          at_next : NextToken text at (Some t) → Reading t.end standing₁
+          at_next (one_found m seen low some high tokens) =
+              let reached = going_step (stepped is seen) in
+              let deep : standing₁.depth ≤ standing.depth + 1 = subst (Deep (standing.depth + 1)) is advances.deep in
+              record {
+                reached = reached.0;
+                stands = reached.2;
+                low = omega (arith, r.low);
+                high = high;
+                shallow = omega (arith, r.shallow);
+                begun = λ _. step_begun r.reached reached.0 m reached.1;
+                reaches = λ {c} {rest} more. r.reaches (subst (λ ts. Reaches r.reached ts c rest) (sym tokens) (reaches_on reached.1 more));
+                fails = λ {place} more. r.fails (subst (λ ts. Fails (length text) r.reached ts place) (sym tokens) (fails_on reached.1 more));
+              }

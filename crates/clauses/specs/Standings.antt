@@ -9,7 +9,6 @@ use Rattle.clause_theory.specs.Clauses.{due, read, State, refuses, goes, ends, s
 use Rattle.clause_theory.specs.Clauses as Grammar
 use Rattle.clause_tokens.specs.NextTokens.{Seen}
 use Rattle.clause_tokens.specs.declared.Mark.{Mark}
-use Rattle.clause_tokens.specs.declared.Mark.TheVariants.{Nothing}
 use Rattle.clauses.specs.declared.Last.{Last}
 use Rattle.clauses.specs.declared.Last.TheVariants.{Due, Name, Term as Other}
 use Rattle.clauses.specs.declared.Standing.{Standing}
@@ -41,5 +40,4 @@ Deep most Ends = Unit {0}
 -- r is where a token of this kind leads from there
 pub record Advances (from : Standing) (mark : Mark) (r : Step) : Type 0 where
   pub steps : {s : State} {x : Bytes} {m : T.Mark} → Stands s from → Seen x mark m → StepIs (step s m) r
-  pub nothing : mark ≡ Nothing → r ≡ Refuses
   pub deep : Deep (from.depth + 1) r

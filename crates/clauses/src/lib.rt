@@ -108,7 +108,7 @@ fn advance(from: Standing, mark: Mark) -> Step
             }
             Step::Ends
         }
-        Mark::Stray | Mark::Nothing => Step::Refuses,
+        Mark::Stray => Step::Refuses,
     }
 }
 
@@ -123,8 +123,7 @@ pub fn clause_end(text: &[u8], from: usize, classes: &ClassTable) -> Result<usiz
         body: false,
     };
     let mut at = from;
-    while at < text.len() {
-        let token = clause_tokens::next(text, at, classes);
+    while let Some(token) = clause_tokens::next(text, at, classes) {
         match advance(standing, token.mark) {
             Step::Refuses => return Err(token.start),
             Step::Ends => return Ok(token.end),

@@ -13,7 +13,7 @@ use Rattle.clause_theory.specs.Clauses.{State}
 use Rattle.clause_tokens.specs.contracts.Mark.{the_type}
 use Rattle.clause_tokens.specs.NextTokens.{sign_opens, sign_closes, sign_comma, sign_neck, sign_stop, sign_stray}
 use Rattle.clause_tokens.specs.declared.Mark.{Mark}
-use Rattle.clause_tokens.specs.declared.Mark.TheVariants.{Name, Variable, Lone, Opens, Closes, Comma, Neck, Stop, Stray, Nothing}
+use Rattle.clause_tokens.specs.declared.Mark.TheVariants.{Name, Variable, Lone, Opens, Closes, Comma, Neck, Stop, Stray}
 use Rattle.term_lines.specs.declared.Pen.{Pen}
 use Rattle.term_lines.specs.Texts.{EndsAtom, Moves, ends_line}
 use Rattle.term_lines.specs.Drawings.{Shows, shows_name, shows_variable, shows_lone, shows_sign, Drawable, Draws, passes}
@@ -23,16 +23,8 @@ use Rattle.token_lines.specs.LineEnds.{EndsLine, comma_ends, neck_ends, stop_end
 no_stray : {s : Bytes} → EndsAtom (T.stray s) → ⊥
 no_stray = elim [ ]
 
-never_shown : {x : Bytes} {i : ℕ} {k : Mark} {s next : State} {m : T.Mark} → Shows x i k m → Moves s m next → OneOf (8 ∷ 9 ∷ []) (tag_of the_type k) → ⊥
-never_shown (shows_name told) moves way = absurd (miss (8 ∷ 9 ∷ []) 0 tt way)
-never_shown (shows_variable told) moves way = absurd (miss (8 ∷ 9 ∷ []) 1 tt way)
-never_shown (shows_lone small) moves way = absurd (miss (8 ∷ 9 ∷ []) 2 tt way)
-never_shown (shows_sign sign_opens) moves way = absurd (miss (8 ∷ 9 ∷ []) 3 tt way)
-never_shown (shows_sign sign_closes) moves way = absurd (miss (8 ∷ 9 ∷ []) 4 tt way)
-never_shown (shows_sign sign_comma) moves way = absurd (miss (8 ∷ 9 ∷ []) 5 tt way)
-never_shown (shows_sign sign_neck) moves way = absurd (miss (8 ∷ 9 ∷ []) 6 tt way)
-never_shown (shows_sign sign_stop) moves way = absurd (miss (8 ∷ 9 ∷ []) 7 tt way)
-never_shown (shows_sign sign_stray) (ends_line e) way = no_stray e
+never_shown : {x : Bytes} {i : ℕ} {s next : State} {m : T.Mark} → Shows x i Stray m → Moves s m next → ⊥
+never_shown (shows_sign sign_stray) (ends_line e) = no_stray e
 
 -- what of a token the writer of its kind is given, its bytes or its number: the rest does not matter
 pub data Given (x : Bytes) (number : ℕ) : Mark → Bytes → ℕ → Type 0 where
@@ -74,8 +66,8 @@ module _ {x : Bytes} {mark : Mark} {number : ℕ} {d : Pen} {page : Bytes} where
   draws_as given is draws = record { size = draws.size; drawn = λ w. draws.drawn (drawable_as given is w) }
 
   -- no move is by another token
-  pub draws_other : OneOf (8 ∷ 9 ∷ []) (tag_of the_type mark) → Draws x mark number d page None d page
-  draws_other way = record { size = refl; drawn = λ w. passes (λ fits. absurd (never_shown w.shows w.moves way)) }
+  pub draws_other : mark ≡ Stray → Draws x mark number d page None d page
+  draws_other is = record { size = refl; drawn = λ w. passes (λ fits. absurd (never_shown (subst (λ (k : Mark). Shows x number k w.token) is w.shows) w.moves)) }
 
 -- ---- the ends of lines
 
@@ -89,7 +81,6 @@ ends_by_tag Comma way = absurd (miss (6 ∷ 7 ∷ []) 5 tt way)
 ends_by_tag Neck way = neck_ends
 ends_by_tag Stop way = stop_ends
 ends_by_tag Stray way = absurd (miss (6 ∷ 7 ∷ []) 8 tt way)
-ends_by_tag Nothing way = absurd (miss (6 ∷ 7 ∷ []) 9 tt way)
 
 ends_given : {x : Bytes} {number : ℕ} {k : Mark} → EndsLine k → Given x number k [] 0
 ends_given comma_ends = given_comma

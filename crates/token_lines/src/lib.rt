@@ -124,6 +124,6 @@ pub fn put_token(
         }
         Mark::Comma => put_comma(pen, page),
         Mark::Neck | Mark::Stop => end_line(pen, page),
-        Mark::Stray | Mark::Nothing => None,
+        Mark::Stray => None,
     }
 }
