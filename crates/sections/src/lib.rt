@@ -11,7 +11,8 @@ pub struct Run {
     pub after: usize,
 }
 
-/// The lines from a place on that begin with a letter, up to the first that does not.
+/// The lines from a place on that begin with a letter, up to the first that does not. No `for` over `text::Lines`: the answer is
+/// a place, which the lines alone do not give.
 pub fn run_of(text: &[u8], letter: u8, from: usize) -> Run
     requires { 10 < letter }
     ensures { LinesOfLetter text.now letter from result }

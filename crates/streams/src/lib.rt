@@ -8,7 +8,8 @@ use std::io;
 use std::io::Read;
 
 /// Reads until the room is full or the input ends, and gives how many bytes stand at the room's front: those that the
-/// reader had, and all of them where the room is not full.
+/// reader had, and all of them where the room is not full. A loop over `read`: of `read_exact` and `read_to_end` std says
+/// little after an `Err`, and the first wants as much as the room holds.
 pub fn read_full<R: Read>(reader: &mut R, room: &mut [u8]) -> io::Result<usize>
     ensures fits { IfOk result (λ n. n ≤ length room.new) }
     ensures bytes { IfOk result (λ n. Consumes (R.remaining reader.old) (R.remaining reader.new) (take n room.new)) }

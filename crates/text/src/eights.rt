@@ -1,4 +1,5 @@
-// Bytes as one number, the first byte the lowest: two, four or eight of them.
+// Bytes as one number, the first byte the lowest: two, four or eight of them. A function for each width, since
+// `from_le_bytes` is a method of each type of number.
 ghost use Rattle.std.specs.Prelude.{◌≡◌, ◌+◌, ◌≤◌, length};
 ghost use Rattle.text.specs.Scans.{part};
 ghost use Rattle.text.specs.ByteNumbers.{number, Numbered};

@@ -34,7 +34,8 @@ pub fn find(bytes: &[u8], wanted: u8, from: usize) -> usize
     }
 }
 
-/// Whether a line is over 1,024 bytes or has a byte outside 32 to 126.
+/// Whether a line is over 1,024 bytes or has a byte outside 32 to 126. With one flag, which makes vector instructions of it:
+/// `any`, which leaves early, takes 20 ns and not 11 on 30 bytes, 604 and not 46 on 1,000.
 pub fn is_unfit(line: &[u8]) -> bool
     ensures { result ≡ is_unfit line.now }
 {
