@@ -1,2 +1,1 @@
 pub mod TokenLaws
-pub mod Tags

@@ -48,8 +48,7 @@ fn advance(from: Standing, mark: Mark) -> Step
             }
             Step::Goes(Standing {
                 last: Last::Name,
-                depth,
-                body,
+                ..from
             })
         }
         Mark::Variable | Mark::Lone => {
@@ -58,8 +57,7 @@ fn advance(from: Standing, mark: Mark) -> Step
             }
             Step::Goes(Standing {
                 last: Last::Term,
-                depth,
-                body,
+                ..from
             })
         }
         Mark::Opens => {
@@ -69,7 +67,7 @@ fn advance(from: Standing, mark: Mark) -> Step
             Step::Goes(Standing {
                 last: Last::Due,
                 depth: depth + 1,
-                body,
+                ..from
             })
         }
         Mark::Closes => {
@@ -79,7 +77,7 @@ fn advance(from: Standing, mark: Mark) -> Step
             Step::Goes(Standing {
                 last: Last::Term,
                 depth: depth - 1,
-                body,
+                ..from
             })
         }
         Mark::Comma => {
@@ -88,8 +86,7 @@ fn advance(from: Standing, mark: Mark) -> Step
             }
             Step::Goes(Standing {
                 last: Last::Due,
-                depth,
-                body,
+                ..from
             })
         }
         Mark::Neck => {
@@ -98,8 +95,8 @@ fn advance(from: Standing, mark: Mark) -> Step
             }
             Step::Goes(Standing {
                 last: Last::Due,
-                depth,
                 body: true,
+                ..from
             })
         }
         Mark::Stop => {
