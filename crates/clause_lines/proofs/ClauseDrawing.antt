@@ -102,7 +102,7 @@ module _ {v : Variables} {number r : ℕ} (c : Clause) (others : List T.Mark) (i
   same_number after other = subst (FreshAt c i) (sym (after.other other)) fresh
 
   -- a lone `_`: the next number that is free
-  next_number : NextFree v (number + 1) r → i < lones (clause_variables c) → (nth (fresh_of c) i ≡ numbered_variable r) × FreshAt c (suc i) r
+  next_number : NextFree v.names v.named (number + 1) r → i < lones (clause_variables c) → (nth (fresh_of c) i ≡ numbered_variable r) × FreshAt c (suc i) r
   next_number free more = let next = next_is_fresh c gathered free in fresh_next fresh more r next.0 next.1 next.2
 
   -- a token that is the same in the filled clause
@@ -201,7 +201,7 @@ module _ (text : Bytes) (from : ℕ) (v : Variables) (page₀ : Bytes) where
     pub progress_all : NextToken text at None → LinesPut text from v page₀ None page
     progress_all (none_left none) = record { size = g.size; put = λ r. absurd (no_clause none r) }
 
-    pub progress_tabled : Tabled v
+    pub progress_tabled : Tabled v.names v.named
     progress_tabled = gathered_tabled g.ready.gathered
 
     pub progress_low : number + 1 + v.named < 100

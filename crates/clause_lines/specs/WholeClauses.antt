@@ -14,7 +14,7 @@ use Rattle.clause_variables.specs.Variables.{ClauseAt, Gathered}
 
 -- the number of the last fresh variable after one more token
 pub record NumberAfter (mark : Mark) (v : Variables) (number r : ℕ) : Type 0 where
-  pub lone : mark ≡ Lone → NextFree v (number + 1) r
+  pub lone : mark ≡ Lone → NextFree v.names v.named (number + 1) r
   pub other : (mark ≡ Lone → ⊥) → r ≡ number
 
 -- the lines of a clause stand on the page, in so many bytes; or it passes a limit, or the page is too short for them

@@ -12,11 +12,11 @@ use words::ClassTable;
 
 /// The number of the last fresh variable after one more token.
 fn number_after(mark: Mark, variables: &Variables, number: usize) -> usize
-    requires { Tabled variables.now × (number + 1 + variables.now.named < 100) }
+    requires { Tabled variables.now.names variables.now.named × (number + 1 + variables.now.named < 100) }
     ensures { NumberAfter mark variables.now number result }
 {
     if mark == Mark::Lone {
-        variables.fresh_number(number + 1)
+        variables.next_fresh(number + 1)
     } else {
         number
     }

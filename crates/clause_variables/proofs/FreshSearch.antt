@@ -67,32 +67,32 @@ module _ (n : ℕ) (high : n < 100) where
 
 -- ---- one number after another
 
-module _ (v : Variables) (from : ℕ) where
+module _ (names : List Words) (named from : ℕ) where
   -- the numbers before this one are taken
   pub record Trying (tried : ℕ) : Type 0 where
     pub low : from ≤ tried
-    pub high : tried ≤ from + v.named
-    pub taken : (seen : List Bytes) → Holds v.names seen → length seen ≡ v.named → (m : ℕ) → from ≤ m → m < tried → among (numbered_variable m) seen ≡ true
+    pub high : tried ≤ from + named
+    pub taken : (seen : List Bytes) → Holds names seen → length seen ≡ named → (m : ℕ) → from ≤ m → m < tried → among (numbered_variable m) seen ≡ true
 
   pub trying_none : Trying from
   trying_none = record { low = omega arith; high = omega arith; taken = λ seen holds size m low below. absurd (omega arith) }
 
-  pub tabled_few : Tabled v → v.named ≤ 32
+  pub tabled_few : Tabled names named → named ≤ 32
   tabled_few tabled = omega (arith, tabled.holds.few, tabled.size)
 
   module _ {tried : ℕ} (trying : Trying tried) where
-    pub trying_small : from + v.named < 100 → tried < 100
+    pub trying_small : from + named < 100 → tried < 100
     trying_small small = omega (arith, trying.high)
 
-    module _ (tabled : Tabled v) (small : from + v.named < 100) {words : Words} (told : words ≡ words_of (numbered_variable tried)) {place : ℕ} (stands : StandsAt (words_at v.names) v.named words place) where
-      stands_seen : (seen : List Bytes) → length seen ≡ v.named → StandsAt (words_at v.names) (length seen) (words_of (numbered_variable tried)) place
+    module _ (tabled : Tabled names named) (small : from + named < 100) {words : Words} (told : words ≡ words_of (numbered_variable tried)) {place : ℕ} (stands : StandsAt (words_at names) named words place) where
+      stands_seen : (seen : List Bytes) → length seen ≡ named → StandsAt (words_at names) (length seen) (words_of (numbered_variable tried)) place
       stands_seen seen size =
-          subst (λ (k : ℕ). StandsAt (words_at v.names) k (words_of (numbered_variable tried)) place) (sym size) (subst (λ (w : Words). StandsAt (words_at v.names) v.named w place) told stands)
+          subst (λ (k : ℕ). StandsAt (words_at names) k (words_of (numbered_variable tried)) place) (sym size) (subst (λ (w : Words). StandsAt (words_at names) named w place) told stands)
 
       proper : is_variable (numbered_variable tried) ≡ true
       proper = numbered_variable_lem tried (trying_small small)
 
-      one_taken : place < v.named → (seen : List Bytes) → Holds v.names seen → length seen ≡ v.named → (m : ℕ) → from ≤ m → m < tried + 1 → among (numbered_variable m) seen ≡ true
+      one_taken : place < named → (seen : List Bytes) → Holds names seen → length seen ≡ named → (m : ℕ) → from ≤ m → m < tried + 1 → among (numbered_variable m) seen ≡ true
       one_taken inside seen holds size m low below = at (dec_lt m tried)
         where
           within : place < length seen
@@ -105,7 +105,7 @@ module _ (v : Variables) (from : ℕ) where
               ap (λ (k : ℕ). among (numbered_variable k) seen) is
               ∙ place_among (numbered_variable tried) seen place within (found_is (numbered_variable tried) holds proper place within (stands_seen seen size))
 
-      pub trying_more : place < v.named → Trying (tried + 1)
+      pub trying_more : place < named → Trying (tried + 1)
       trying_more inside =
           let full = one_taken inside tabled.seen tabled.holds tabled.size in
           record {
@@ -114,24 +114,24 @@ module _ (v : Variables) (from : ℕ) where
             taken = one_taken inside;
           }
 
-      pub trying_less : place < v.named → from + v.named - (tried + 1) < from + v.named - tried
+      pub trying_less : place < named → from + named - (tried + 1) < from + named - tried
       trying_less inside = omega (arith, (trying_more inside).high)
 
-      pub trying_done : v.named ≤ place → NextFree v from tried
+      pub trying_done : named ≤ place → NextFree names named from tried
       trying_done past =
           record {
             low = trying.low;
             high = trying.high;
             free = λ seen holds size.
                 let all : place ≡ length seen = omega (arith, size, stands.high) in
-                not_found (numbered_variable tried) holds proper (subst (StandsAt (words_at v.names) (length seen) (words_of (numbered_variable tried))) all (stands_seen seen size));
+                not_found (numbered_variable tried) holds proper (subst (StandsAt (words_at names) (length seen) (words_of (numbered_variable tried))) all (stands_seen seen size));
             taken = trying.taken;
           }
 
 -- ---- what follows of a clause
 
 -- the number found is the next fresh one of the clause, as `fresh_next` (theory, FreshNumbering) wants it
-pub next_is_fresh : {v : Variables} {number r : ℕ} (c : Clause) → Gathered v (clause_variables c) → NextFree v (number + 1) r
+pub next_is_fresh : {v : Variables} {number r : ℕ} (c : Clause) → Gathered v (clause_variables c) → NextFree v.names v.named (number + 1) r
     → (number < r) × (among (numbered_variable r) (clause_variables c) ≡ false) × ((m : ℕ) → number < m → m < r → among (numbered_variable m) (clause_variables c) ≡ true)
 next_is_fresh {r = r} c g next =
     let seen = numbered [] (named (clause_variables c)) in (

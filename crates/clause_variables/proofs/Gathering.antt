@@ -232,5 +232,5 @@ too_many_unfit c (long x m written bad) = long_unfit c x m written bad
 pub gathered_few : {v : Variables} (c : Clause) → Gathered v (clause_variables c) → length (rule_variables (filled c).head (filled c).subgoals) ≤ variable_limit
 gathered_few {v} c g = omega (arith, filled_count c, g.named_is, g.lones_is, v.few)
 
-pub gathered_tabled : {v : Variables} {xs : List Bytes} → Gathered v xs → Tabled v
+pub gathered_tabled : {v : Variables} {xs : List Bytes} → Gathered v xs → Tabled v.names v.named
 gathered_tabled {xs = xs} g = record { seen = numbered [] (named xs); holds = g.holds; size = sym g.named_is }

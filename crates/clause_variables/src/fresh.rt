@@ -6,19 +6,27 @@ ghost use Rattle.clause_theory.specs.Import.{numbered_variable};
 ghost use Rattle.clause_variables.specs.FreshNumbers.{Tabled, NextFree};
 
 use crate::Variables;
-use words::Words;
+use words::{WordTable, Words};
+
+/// The lowest number from one on whose variable is not in a table of so many.
+pub fn fresh_number(names: &WordTable, named: usize, from: usize) -> usize
+    requires { Tabled names.now named × (from + named < 100) }
+    ensures { NextFree names.now named from result }
+{
+    let mut number = from;
+    while words::place(names, named, numbered(number)) < named {
+        number += 1;
+    }
+    number
+}
 
 impl Variables {
-    /// The lowest number from one on whose variable is not in the table.
-    pub fn fresh_number(&self, from: usize) -> usize
-        requires { Tabled self.now × (from + self.now.named < 100) }
-        ensures { NextFree self.now from result }
+    /// The lowest number from one on whose variable is not among these.
+    pub fn next_fresh(&self, from: usize) -> usize
+        requires { Tabled self.now.names self.now.named × (from + self.now.named < 100) }
+        ensures { NextFree self.now.names self.now.named from result }
     {
-        let mut number = from;
-        while words::place(&self.names, self.named, numbered(number)) < self.named {
-            number += 1;
-        }
-        number
+        fresh_number(&self.names, self.named, from)
     }
 }
 

@@ -8,6 +8,8 @@ use words::{WordTable, Words};
 mod fresh;
 mod gather;
 
+pub use fresh::fresh_number;
+
 /// The variables of a clause: those that it names, whose words are the first of a table, and how often `_` stands, each time for
 /// a variable of its own. They are no more than a clause may have.
 #[derive(Drop)]

@@ -1,7 +1,7 @@
--- `Variables::fresh_number` meets its contract. Assumes nothing.
+-- `clause_variables::fresh_number` meets its contract. Assumes nothing.
 use Rattle.clause_variables.proofs.FreshSearch.{trying_none, tabled_few, trying_small, trying_more, trying_less, trying_done}
 use borrow.Author.Rules.{rules}
-use Rattle.clause_variables.proofs.Variables.fresh_number.Goals as goal
+use Rattle.clause_variables.proofs.fresh.fresh_number.Goals as goal
 
 pub loop-number-init : goal.loop-number-init
 loop-number-init c = search (rules, trying_none)
