@@ -4,8 +4,8 @@ use mathlib.Core.List.{List}
 use mathlib.Core.Option.{some}
 use Prim.Native.Nat.{ℕ, ◌+◌, ◌*◌, ◌≤◌, ◌<◌}
 use native.Mathlib.Omega.{arith}
-use lib.ListN.{length, get_or, take, length-take}
-use lib.Seq.{take_all, get_or-take}
+use lib.ListN.{length, get_or, take}
+use lib.Seq.{take_all}
 use Rattle.theory.specs.Lists.{total}
 use Rattle.theory.specs.Text.{Bytes}
 use Rattle.theory.specs.Terms.{Term, read_term}
@@ -24,21 +24,11 @@ summing_none arities = record { small = omega arith; is = refl }
 
 module _ (arities : List ℕ) (digits : SmallArities arities (length arities)) (sum i : ℕ) (summing : Summing arities sum i) where
   module _ (inside : i < length arities) where
-    pub summing_fits : sum + get_or arities i 0 < 65536
-    summing_fits = omega (arith, summing.small, digits.small i inside, digits.few)
-
     pub summing_more : Summing arities (sum + get_or arities i 0) (i + 1)
     summing_more = record { small = omega (arith, summing.small, digits.small i inside); is = omega (arith, summing.is, total_more arities i) }
 
   pub summing_all : length arities ≤ i → i ≤ length arities → AritiesSummed arities sum
   summing_all past few = record { is = summing.is ∙ ap total (take_all i arities past); small = omega (arith, summing.small, digits.few) }
-
--- the first arities of a row, by themselves
-pub small_first : {arities : List ℕ} {symbols : ℕ} → SmallArities arities symbols → SmallArities (take symbols arities) (length (take symbols arities))
-small_first {arities} {symbols} digits = record {
-  few = omega (arith, digits.few, length-take symbols arities);
-  small = λ i h. let less : i < symbols = omega (arith, length-take symbols arities) in rw (get_or-take symbols arities i 0 less) (digits.small i less);
-}
 
 -- where the arities are those of a term's symbols, their sum is the constant of its form
 pub term_summed : {arities : List ℕ} {symbols r : ℕ} {field : Bytes} → AritiesSummed (take symbols arities) r → SymbolsStand field arities symbols → (t : Term) → read_term field ≡ some t → r ≡ sum_of_arities t

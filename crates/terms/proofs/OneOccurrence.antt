@@ -6,14 +6,11 @@ use native.Mathlib.Omega.{arith}
 use lib.ListN.{length, set, length-set}
 use Rattle.words.specs.Words.{words_at, StandsAt}
 use Rattle.words.specs.declared.Words.{Words}
-use Rattle.terms.specs.Rows.{Elsewhere, SmallRow, CountsOne, known_already, one_more_lem, none_left, past}
+use Rattle.terms.specs.Rows.{Elsewhere, CountsOne, known_already, one_more_lem, none_left, past}
 use Rattle.groundwork.proofs.Stretches.{replaced}
 use Rattle.terms.proofs.RowStores.{count_at, counted_at, none_stored, one_stored}
 
 -- ---- the ways through `count_variable`
-
-pub count_fits : (rows : List ℕ) (base at : ℕ) → SmallRow rows base → at < 16 → count_at rows base at + 1 < 65536
-count_fits rows base at small h = omega (arith, small.small at h)
 
 module _ (words : Words) (names : List Words) (known : ℕ) (rows : List ℕ) (base at : ℕ) (few : known ≤ 16) (place : StandsAt (words_at names) known words at) where
   pub counts_known : at < known → CountsOne words names known rows base known names (counted_at rows base at)

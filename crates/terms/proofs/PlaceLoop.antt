@@ -5,8 +5,8 @@ use mathlib.Core.Option.{some}
 use Prim.Native.Nat.{ℕ, ◌+◌, ◌≤◌, ◌<◌}
 use native.Mathlib.Numerals.{add-one}
 use native.Mathlib.Omega.{arith}
-use lib.ListN.{length, get_or, take, length-take}
-use lib.Seq.{take-suc, take_all, get_or-take}
+use lib.ListN.{length, get_or, take}
+use lib.Seq.{take-suc}
 use Rattle.theory.specs.Text.{Bytes}
 use Rattle.theory.specs.Terms.{Term, read_term, variables}
 use Rattle.text.specs.Scans.{part}
@@ -89,12 +89,3 @@ module _ (field : Bytes) (places : List ℕ) (count : ℕ) (stand : PlacesStand 
             name_size = before.name_size;
             from = λ seen holds number size t e. tally_counted t (rw (all_passed t e) at (before.tallied seen holds number (cleared.elsewhere.size ∙ size)));
           }
-
--- the first places of a row, by themselves
-pub places_first : {field : Bytes} {places : List ℕ} {count : ℕ} → PlacesStand field places count → PlacesStand field (take count places) (length (take count places))
-places_first {field} {places} {count} stand = record {
-  few = omega (arith, stand.few, length-take count places);
-  wide = omega arith;
-  each = λ i h. let less : i < count = omega (arith, length-take count places) in rw (get_or-take count places i 0 less) (stand.each i less);
-  all = λ t e. rw (take_all (length (take count places)) (take count places) (omega arith)) (stand.all t e);
-}

@@ -1,13 +1,11 @@
--- Stores into a row of a table, which leave the rest of the table as it was; and the loop of `clear_row`.
-use mathlib.Core.Path.{◌≡◌, refl, ◌∙◌}
+-- Stores into a row of a table, which leave the rest of the table as it was.
+use mathlib.Core.Path.{refl, ◌∙◌}
 use mathlib.Core.List.{List}
-use Prim.Native.Nat.{ℕ, ◌+◌, ◌≤◌, ◌<◌}
+use Prim.Native.Nat.{ℕ, ◌+◌, ◌<◌}
 use native.Mathlib.Omega.{arith}
-use borrow.Author.Count.{below_more}
 use lib.ListN.{get_or, set, length-set}
 use lib.Seq.{get_or-set_other}
-use Rattle.groundwork.proofs.Stretches.{default_stored}
-use Rattle.terms.specs.Rows.{Elsewhere, Cleared}
+use Rattle.terms.specs.Rows.{Elsewhere}
 
 -- the count at a place of the row at base
 abbrev pub count_at : List ℕ → ℕ → ℕ → ℕ
@@ -35,23 +33,3 @@ stored_again first again =
       below = λ i h. again.below i h ∙ first.below i h;
       above = λ i h. again.above i h ∙ first.above i h;
     }
-
--- ---- the loop of `clear_row`
-
-module _ (rows₀ : List ℕ) (base : ℕ) where
-  pub cleared_none : Cleared rows₀ base rows₀ 0
-  cleared_none = record { elsewhere = none_stored rows₀ base; zeros = λ j h. absurd (omega arith) }
-
-  module _ (rows : List ℕ) (i : ℕ) (cleared : Cleared rows₀ base rows i) where
-    pub cleared_more : i < 16 → Cleared rows₀ base (set rows (base + 1 + i) 0) (i + 1)
-    cleared_more h =
-        record {
-          elsewhere = stored_again cleared.elsewhere (one_stored rows base i 0 h);
-          zeros =
-              below_more (λ (j : ℕ). count_at (set rows (base + 1 + i) 0) base j ≡ 0) i
-              (λ j k. get_or-set_other rows (base + 1 + i) (base + 1 + j) 0 0 (λ e. omega arith) ∙ cleared.zeros j k)
-              (default_stored 0 rows (base + 1 + i));
-        }
-
-    pub cleared_all : 16 ≤ i → Cleared rows₀ base rows 16
-    cleared_all h = record { elsewhere = cleared.elsewhere; zeros = λ j k. cleared.zeros j (omega arith) }

@@ -1,4 +1,4 @@
--- Where a token ends: what the test of its arity tells, a word by its letters, and a token with an arity by its places.
+-- A word by its letters, and a token with an arity by its places.
 use mathlib.Core.Path.{◌≡◌, refl, sym, ◌∙◌, ap}
 use mathlib.Core.Bool.{Bool, true, ◌&&◌}
 use mathlib.Core.List.{[], ◌∷◌}
@@ -7,23 +7,13 @@ use native.Mathlib.Omega.{arith}
 use lib.Dec.{leb}
 use lib.ListN.{length, get_or, take, drop}
 use lib.Seq.{take-take}
-use Rattle.groundwork.proofs.Truth.{Decides, never_both, and_left, and_right, leb-le, le-leb}
+use Rattle.groundwork.proofs.Truth.{never_both, and_left, and_right, leb-le, le-leb}
 use Rattle.theory.specs.Lists.{every}
 use Rattle.theory.specs.Text.{Bytes, is_name_byte, is_word}
-use Rattle.theory.proofs.Reading.Bytes.{between_low}
 use Rattle.text.specs.Scans.{part}
 use Rattle.text.proofs.Parts.{part_length, part_at}
 use Rattle.words.proofs.WordReading.{word_is}
-use Rattle.tokens.specs.TokenRows.{ArityAt}
 use Rattle.tokens.proofs.SymbolTokens.{last_byte, last_but_one, front_of}
-
--- what the test of an arity tells where it holds
-module _ (s : Bytes) (at : ℕ) (arity : Bool) (decides : Decides arity (ArityAt s at)) (holds : arity ≡ true) where
-  pub digit_inside : at + 1 < length s
-  digit_inside = omega (arith, (decides.yes holds).inside)
-
-  pub digit_from : 48 ≤ get_or s (at + 1) 0
-  digit_from = between_low 48 57 _ (decides.yes holds).digit
 
 -- ---- a word, by its first letter, its bytes and its length
 

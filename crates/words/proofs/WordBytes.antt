@@ -4,7 +4,7 @@ use Prim.Native.Nat.{ℕ, ◌+◌, ◌-◌, ◌*◌, ◌/◌, ◌%◌, ◌^◌, 
 use native.Mathlib.Omega.{arith}
 use lib.Bits.{bit_and, and_mask}
 use lib.ListN.{length, get_or, take, drop, drop_of_length-le}
-use lib.Pow.{pow_pos, shl_exact, shr-shr}
+use lib.Pow.{shl_exact, shr-shr}
 use lib.Seq.{take_all, take_at, drop_at}
 use mir.Syntax.{w8}
 use mir.Val.{Fits}
@@ -21,9 +21,6 @@ use Rattle.words.specs.Words.{words_of}
 module _ (count : ℕ) (h : count < 8) where
   mask_is : 1 * 2 ^ (8 * count) % 18446744073709551616 ≡ 2 ^ (8 * count)
   mask_is = shl_exact {a = 1} 1 (8 * count) 64 (omega arith) (omega arith) ∙ omega arith
-
-  pub mask_above : 1 ≤ 1 * 2 ^ (8 * count) % 18446744073709551616
-  mask_above = omega (arith, mask_is, pow_pos (8 * count))
 
   pub masked : (word : ℕ) → bit_and word (1 * 2 ^ (8 * count) % 18446744073709551616 - 1) ≡ word % 256 ^ count
   masked word = ap (λ (n : ℕ). bit_and word (n - 1)) mask_is ∙ and_mask word (8 * count) ∙ ap (λ (n : ℕ). word % n) (bits_of count)
@@ -50,9 +47,6 @@ last_bytes s small start count from end f g l few word r e h =
 -- ---- a word, and two
 
 module _ (s : Bytes) (from end : ℕ) where
-  pub all_eight : end ≤ from + 8 → 8 ≤ end - from → (word : ℕ) → word ≡ number (part s from (from + 8)) → word ≡ number (part s from end)
-  all_eight high low word e = let eight : end ≡ from + 8 = omega arith in rw eight e
-
   module _ (high : end ≤ length s) where
     pub words_short : from ≤ end → end - from ≤ 8 → (word : ℕ) → word ≡ number (part s from end) → record { first = word; second = 0 } ≡ words_of (part s from end)
     unfolding words_of

@@ -1,6 +1,6 @@
 -- `terms::count_variable` meets its contract. Assumes nothing.
 use Rattle.terms.specs.Rows.{past}
-use Rattle.terms.proofs.OneOccurrence.{count_fits, counts_known, counts_new, counts_none}
+use Rattle.terms.proofs.OneOccurrence.{counts_known, counts_new, counts_none}
 use borrow.Author.Rules.{rules}
 use Rattle.terms.proofs.count_variable.Goals as goal
 
@@ -9,9 +9,6 @@ returns-then-known-gt-VARIABLES c = search (rules, past)
 
 pub returns-then-at-ge-VARIABLES : goal.returns-then-at-ge-VARIABLES
 returns-then-at-ge-VARIABLES c = search (rules, counts_none)
-
-pub overflow_add-rows : goal.overflow_add-rows
-overflow_add-rows c = search (rules, count_fits)
 
 pub returns-then-at-known : goal.returns-then-at-known
 returns-then-at-known c = search (rules, counts_known)

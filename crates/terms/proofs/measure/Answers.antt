@@ -1,6 +1,5 @@
 -- `terms::measure` meets its contract. Assumes nothing.
-use Rattle.terms.proofs.Measures.{measure_unfit, measure_short, measure_no_term, measure_variable, measure_size, stands}
-use Rattle.terms.proofs.AritySums.{small_first}
+use Rattle.terms.proofs.Measures.{measure_unfit, measure_short, measure_no_term, measure_variable, measure_size}
 use borrow.Author.Rules.{rules}
 use Rattle.terms.proofs.measure.Goals as goal
 
@@ -18,6 +17,3 @@ returns-then-read-gt0 c = search (rules, measure_variable)
 
 pub returns : goal.returns
 returns c = search (rules, measure_size)
-
-pub sum_of_arities-requires : goal.sum_of_arities-requires
-sum_of_arities-requires c = search (rules, small_first, stands)

