@@ -8,49 +8,33 @@ ghost use Rattle.theory.specs.Answers.{reserved_fields, passed_on};
 ghost use Rattle.tables.specs.Tables.{SafeSignatures, SafeClaims};
 ghost use Rattle.reservation.specs.Answering.{Answers, Ready, Responds};
 
-use queries::Tested;
-use tables::{Claims, Names, Signatures};
-use theory::{Reservation, Verdict};
+use packs::Loaded;
+use tables::Tables;
+use theory::Reservation;
 
 /// Answers a query on an accepted pack that the tables hold.
-pub fn answer(
-    query: &[u8],
-    names: &Names,
-    signatures: &Signatures,
-    claims: &Claims,
-    known: usize,
-) -> Reservation
-    requires { (known ≤ 32) × (SafeSignatures signatures.now) × (SafeClaims claims.now) }
-    ensures { Answers query.now names.now signatures.now claims.now known result }
+pub fn answer(query: &[u8], tables: &Tables, known: usize) -> Reservation
+    requires { (known ≤ 32) × (SafeSignatures tables.now.signatures) × (SafeClaims tables.now.claims) }
+    ensures { Answers query.now tables.now known result }
 {
-    let mut sizes = [tables::UNKNOWN_SIZE; 8];
-    let tested = queries::open_query(query, names, signatures, known, &mut sizes);
-    match tested {
-        Tested::Refused(refusal) => Reservation::QueryRefused(refusal),
-        Tested::Asks(q) => {
-            let predicate = q.predicate;
-            let count = widths::u8_to_usize(signatures[64 + predicate]);
-            bounds::reserve_by(claims, predicate, count, q.arity, q.asked, &sizes)
+    match queries::open_query(query, tables, known) {
+        Ok(asked) => {
+            let count = tables.signatures[asked.predicate].claims as usize;
+            bounds::reserve_by(&tables.claims, count, &asked)
         }
+        Err(refusal) => Reservation::QueryRefused(refusal),
     }
 }
 
-/// Answers a query by a pack that is loaded: the pack's refusal, or the query's, or what the claims give.
+/// Answers a query by a pack that is loaded into the tables: the pack's refusal, or the query's, or what the claims give.
 #[tactic(auto, using(crate::proofs::QueryAnswers::refused_pack))]
-pub fn respond(
-    verdict: Verdict,
-    query: &[u8],
-    names: &Names,
-    signatures: &Signatures,
-    claims: &Claims,
-    known: usize,
-) -> Reservation
-    requires { Ready verdict signatures.now claims.now known }
-    ensures { Responds verdict query.now names.now signatures.now claims.now known result }
+pub fn respond(loaded: &Loaded, query: &[u8], tables: &Tables) -> Reservation
+    requires { Ready loaded.now tables.now }
+    ensures { Responds loaded.now query.now tables.now result }
 {
-    match verdict {
-        Verdict::Accepted(_) => answer(query, names, signatures, claims, known),
-        Verdict::Refused(refusal) => Reservation::PackRefused(refusal),
+    match loaded.verdict {
+        Ok(_) => answer(query, tables, loaded.state.predicates),
+        Err(refusal) => Reservation::PackRefused(refusal),
     }
 }
 
@@ -59,18 +43,7 @@ pub fn reserve(text: &[u8], query: &[u8]) -> Reservation
     ensures result_value { reserved_fields result ≡ reserve_of text.now query.now }
     ensures passes { passed_on result ≡ refusal_of text.now }
 {
-    let mut names = tables::no_names();
-    let mut signatures = tables::no_signatures();
-    let mut claims = tables::no_claims();
-    let l = packs::load(text, &mut names, &mut signatures, &mut claims);
-    let verdict = l.verdict;
-    let state = l.state;
-    respond(
-        verdict,
-        query,
-        &names,
-        &signatures,
-        &claims,
-        state.predicates,
-    )
+    let mut tables = Tables::empty();
+    let loaded = packs::load(text, &mut tables);
+    respond(&loaded, query, &tables)
 }
