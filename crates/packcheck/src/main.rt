@@ -8,10 +8,13 @@ ghost use Rattle.theory.specs.Program.{reply};
 ghost use Rattle.reservation.specs.Answering.{Ready, PackHeld};
 ghost use Rattle.packcheck.specs.Printing.{PutsQueries};
 
+use answers::{Four, Three};
+use packs::Loaded;
 use std::io;
 use std::io::Write;
-use tables::{Claims, Names, Signatures};
-use theory::{Refusal, Verdict};
+use tables::Tables;
+use text::Lines;
+use theory::Refusal;
 
 /// What is printed: the first bytes of a page that has nine for each byte of the largest input, and some.
 #[derive(Drop)]
@@ -28,37 +31,21 @@ fn input_room() -> [u8; 65537] {
     [0u8; 65537]
 }
 
-/// Writes reserve's fields for each line of the input from a place on, after what is written already.
+/// Writes reserve's fields for each query, after what is written already.
 fn put_queries(
-    input: &[u8],
-    from: usize,
-    verdict: Verdict,
-    names: &Names,
-    signatures: &Signatures,
-    claims: &Claims,
-    known: usize,
+    queries: &[u8],
+    loaded: &Loaded,
+    tables: &Tables,
     page: &mut [u8],
     written: usize,
 ) -> usize
-    requires { (length input.now ≤ 65536) × (from ≤ length input.now) × (written ≤ 24) × (589888 ≤ length page.old) × (Ready verdict signatures.now claims.now known) × ((text : Bytes) × PackHeld text verdict names.now signatures.now claims.now known) }
-    ensures { PutsQueries input.now from verdict names.now signatures.now claims.now known page.old written page.new result }
+    requires { (length queries.now ≤ 65536) × (written ≤ 24) × (589888 ≤ length page.old) × (Ready loaded.now tables.now) × ((text : Bytes) × PackHeld text loaded.now tables.now) }
+    ensures { PutsQueries queries.now loaded.now tables.now page.old written page.new result }
 {
-    let len = input.len();
-    let mut at = from;
     let mut length = written;
-    while at < len {
-        let end = text::find(input, b'\n', at);
-        let answer = reservation::respond(
-            verdict,
-            &input[at..end],
-            names,
-            signatures,
-            claims,
-            known,
-        );
-        let fields = answers::fields_of(answer);
-        length = length + replies::put_fields(&mut page[length..], fields);
-        at = end + 1;
+    for query in Lines::of(queries) {
+        let three = Three::from(reservation::respond(loaded, query, tables));
+        length += replies::put_fields(&mut page[length..], three);
     }
     length
 }
@@ -69,29 +56,14 @@ pub fn reply(input: &[u8]) -> Printed
 {
     let mut page = blank_page();
     if 65536 < input.len() {
-        let four = answers::numbers_of(Verdict::Refused(Refusal::LongText));
-        let length = replies::put_numbers(&mut page[..], four);
+        let length = replies::put_numbers(&mut page[..], Four::from(Refusal::LongText));
         return Printed { page, length };
     }
     let end = replies::pack_end(input);
-    let mut names = tables::no_names();
-    let mut signatures = tables::no_signatures();
-    let mut claims = tables::no_claims();
-    let l = packs::load(&input[..end], &mut names, &mut signatures, &mut claims);
-    let verdict = l.verdict;
-    let state = l.state;
-    let written = replies::put_numbers(&mut page[..], answers::numbers_of(verdict));
-    let length = put_queries(
-        input,
-        end,
-        verdict,
-        &names,
-        &signatures,
-        &claims,
-        state.predicates,
-        &mut page[..],
-        written,
-    );
+    let mut tables = Tables::empty();
+    let loaded = packs::load(&input[..end], &mut tables);
+    let written = replies::put_numbers(&mut page[..], Four::from(loaded.verdict));
+    let length = put_queries(&input[end..], &loaded, &tables, &mut page[..], written);
     Printed { page, length }
 }
 

@@ -1,9 +1,6 @@
-use Prim.Native.Nat.{◌+◌, ◌-◌}
+use Rattle.text.specs.Lines.{lines_left}
 use Rattle.packcheck.proofs.QueryLines.{QueriesPut}
 use Rattle.packcheck.proofs.put_queries.Given as goal
 
-abbrev pub invariant-loop-at : goal.invariant-loop-at
-invariant-loop-at l = QueriesPut l.input l.from l.verdict l.names l.signatures l.claims l.known l.initial.page l.written l.page l.at l.length
-
-abbrev pub decreases-loop-at : goal.decreases-loop-at
-decreases-loop-at l = l.len + 1 - l.at
+abbrev pub invariant-loop-query : goal.invariant-loop-query
+invariant-loop-query l = QueriesPut l.queries l.loaded l.tables l.initial.page l.written l.page (lines_left l.query-iterator) l.length
