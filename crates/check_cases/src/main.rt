@@ -3,15 +3,10 @@
 // entry. Where the cases and the expected output come from is said in the file origin.md.
 #![tactic(auto)]
 
-ghost use Rattle.std.specs.Prelude.{◌≡◌, ◌≤◌, ◌<◌, nat_abs, length, IfOk};
+ghost use Rattle.std.specs.Prelude.{◌≤◌, ◌<◌, length, IfOk};
 
 use answers::Four;
-use numbers::Natural;
 use std::io;
-
-fn show(rt: &impl Print, n: u64) -> io::Result<()> {
-    print!(rt; "{n}")
-}
 
 fn show_four(rt: &impl Print, four: Four) -> io::Result<()> {
     print!(rt;
@@ -20,36 +15,20 @@ fn show_four(rt: &impl Print, four: Four) -> io::Result<()> {
     )
 }
 
-// How far a number lies from 0. The difference fits at every number, where a negation does not at the least one.
-fn size(z: i64) -> u64
-    ensures { result ≡ nat_abs z }
-{
-    if z < 0 { (-1 - z) as u64 + 1 } else { z as u64 }
-}
-
-fn show_signed(rt: &impl Print, z: i64) -> io::Result<()> {
-    if z < 0 {
-        print!(rt; "-")?;
-    }
-    show(rt, size(z))
-}
-
 fn show_area(rt: &impl Print, area: &[i64]) -> io::Result<()> {
     print!(rt; ":")?;
-    let mut i: usize = 0;
-    while i < area.len() {
+    for (i, number) in area.iter().enumerate() {
         if 0 < i {
             print!(rt; ",")?;
         }
-        show_signed(rt, area[i])?;
-        i += 1;
+        print!(rt; "{number}")?;
     }
     println!(rt)
 }
 
 // Checks a text with the area that is lent, and shows the answer and the area.
 fn check_into(rt: &impl Print, text: &[u8], area: &mut [i64]) -> io::Result<()> {
-    show_four(rt, answers::numbers_of(packs::check(text, area)))?;
+    show_four(rt, Four::from(packs::check(text, area)))?;
     show_area(rt, area)
 }
 
@@ -63,11 +42,7 @@ fn check_one(rt: &impl Print, text: &[u8], room: usize) -> io::Result<()>
 
 // A number of a header, or one that no case has.
 fn number(field: &[u8]) -> usize {
-    let read = numbers::read_natural(field, 99998);
-    match read {
-        Natural::Whole(n) => n as usize,
-        Natural::NoNatural => 99999,
-    }
+    numbers::read_natural(field, 99998).unwrap_or(99999) as usize
 }
 
 // Runs the case at a place and gives the place after it, or the end where there is none.
