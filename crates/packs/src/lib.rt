@@ -12,6 +12,7 @@ use forms::Form;
 use tables::{Fault, Manner, State, Tables};
 use theory::{Counts, Refusal};
 
+/// The state before any line.
 fn start() -> State
     ensures { result ≡ begun }
 {
@@ -103,10 +104,7 @@ pub fn load(text: &[u8], tables: &mut Tables) -> Loaded
     if 32768 < len {
         return refused(Refusal::LongText);
     }
-    if len == 0 {
-        return refused(Refusal::UnfinishedText);
-    }
-    if text[len - 1] != b'\n' {
+    if len == 0 || text[len - 1] != b'\n' {
         return refused(Refusal::UnfinishedText);
     }
     let l = lines::load_lines(Manner::Whole, text, start(), tables);
