@@ -95,6 +95,7 @@ pub fn read_tokens(field: &[u8], classes: &ClassTable, room: &mut TokenRoom) -> 
     let mut symbols: usize = 0;
     let mut variables: usize = 0;
     let mut from: usize = 0;
+    // no `for`: each turn goes on by a whole token
     while from < field.len() {
         if wanted == 0 {
             return None;

@@ -30,7 +30,8 @@ pub enum Word {
 /// The words of up to 32 names or variables.
 pub type WordTable = [Words; 32];
 
-/// Where words stand among the first of a table, or how many those are.
+/// Where words stand among the first of a table, or how many those are: a number also then and no `Option`, since it is the
+/// place that new words take.
 pub fn place(names: &WordTable, known: usize, words: Words) -> usize
     requires { known ≤ 32 }
     ensures { StandsAt (words_at names.now) known words result }
