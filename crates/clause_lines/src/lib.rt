@@ -39,6 +39,7 @@ pub fn put_clause(
     pen.begin();
     let mut number: usize = 0;
     let mut at = from;
+    // no `for`: each token begins where the one before it ends
     while let Some(token) = clause_tokens::next(text, at, classes) {
         let mark = token.mark;
         number = number_after(mark, variables, number);

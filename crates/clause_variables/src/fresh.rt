@@ -14,6 +14,7 @@ pub fn fresh_number(names: &WordTable, named: usize, from: usize) -> usize
     ensures { NextFree names.now named from result }
 {
     let mut number = from;
+    // no `for`: that some number is free is what ends the search, and no code tells it
     while words::place(names, named, numbered(number)) < named {
         number += 1;
     }

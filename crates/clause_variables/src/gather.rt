@@ -57,6 +57,7 @@ impl Variables {
         self.named = 0;
         self.lones = 0;
         let mut at = from;
+        // no `for`: each token begins where the one before it ends
         while let Some(token) = clause_tokens::next(text, at, classes) {
             self.gather(token.mark, &text[token.start..token.end])?;
             if token.mark == Mark::Stop {

@@ -120,6 +120,7 @@ pub fn clause_end(text: &[u8], from: usize, classes: &ClassTable) -> Result<usiz
         body: false,
     };
     let mut at = from;
+    // no `for`: each token begins where the one before it ends
     while let Some(token) = clause_tokens::next(text, at, classes) {
         match advance(standing, token.mark) {
             Step::Refuses => return Err(token.start),

@@ -59,6 +59,7 @@ fn judge(text: &[u8], classes: &ClassTable, room: usize) -> Result<Imported, Imp
     let mut clauses: usize = 0;
     let mut bytes: usize = 0;
     let mut at: usize = 0;
+    // no `for`: each clause begins where the one before it ends
     while clause_tokens::layout_end(text, at) < text.len() {
         clauses += 1;
         let taken = take_clause(
@@ -89,6 +90,7 @@ fn write(text: &[u8], classes: &ClassTable, buffer: &mut [u8])
     let mut clauses: usize = 0;
     let mut to: usize = 0;
     let mut at: usize = 0;
+    // no `for`: each clause begins where the one before it ends
     while clause_tokens::layout_end(text, at) < text.len() {
         clauses += 1;
         let taken = take_clause(
