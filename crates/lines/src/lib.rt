@@ -216,6 +216,7 @@ pub fn load_lines(manner: Manner, text: &[u8], start: State, tables: &mut Tables
     let mut residual = None;
     let mut number: usize = 0;
     let mut at: usize = 0;
+    // Loops over lines and fields, each with its label and left at the first fault, are the form that document 01 names.
     'lines: while at < len {
         let end = text::find(text, b'\n', at);
         let line = &text[at..end];
@@ -241,6 +242,7 @@ pub fn load_lines(manner: Manner, text: &[u8], start: State, tables: &mut Tables
         let mut many = variables_before(letter, state);
         let mut from = o.from;
         let mut index: usize = 0;
+        // No iterator over fields would be plainer: fields are passed over in runs, and the place moves by them too.
         'fields: while from <= width {
             let skipped = zeros_ahead(letter, line, from);
             index += skipped;

@@ -88,10 +88,6 @@ refused_text text refusal is verdict some =
       holds = λ zero. absurd (some (sym (ap (λ (n : Numbers). n.number) answer) ∙ zero));
     }
 
--- what a function answers of a fault that it was asked of
-pub fault_numbers_lem : (g f : Fault) (line rule claim : ℕ) {n : Numbers} → f ≡ g → n ≡ fault_numbers g line rule claim → n ≡ fault_numbers f line rule claim
-fault_numbers_lem g f line rule claim is e = e ∙ ap (λ (h : Fault). fault_numbers h line rule claim) (sym is)
-
 -- the number of a fault is the first of its numbers
 fault_number : (f : Fault) (line rule claim : ℕ) → (fault_numbers f line rule claim).number ≡ number_of f
 fault_number f line rule claim = by_truth (λ b. (fault_numbers f line rule claim).number ≡ number_of f) (eqb (number_of f) 13) (λ e. rw e (sym (eqb-equal _ _ e))) (λ e. rw e refl)
