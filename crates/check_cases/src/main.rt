@@ -75,6 +75,7 @@ fn run_case(rt: &impl Print, input: &[u8], at: usize) -> io::Result<usize>
 fn run_cases(rt: &impl Print, input: &[u8]) -> io::Result<()> {
     let n = input.len();
     let mut at: usize = 0;
+    // No `for`: each case says where the next one begins.
     while at < n {
         at = run_case(rt, input, at)?;
     }

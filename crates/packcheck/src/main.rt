@@ -16,7 +16,8 @@ use tables::Tables;
 use text::Lines;
 use theory::Refusal;
 
-/// What is printed: the first bytes of a page that has nine for each byte of the largest input, and some.
+/// What is printed: the first bytes of a page that has nine for each byte of the largest input, and some. A length stands
+/// beside the page, and no `Vec`, since there is no heap.
 #[derive(Drop)]
 pub struct Printed {
     pub page: [u8; 589888],

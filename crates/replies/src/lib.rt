@@ -38,6 +38,7 @@ pub fn pack_end(input: &[u8]) -> usize
 {
     let len = input.len();
     let mut at: usize = 0;
+    // By places and not over `text::Lines`: a place is asked for, and the lines' lengths would have to be added up to it.
     while at < len {
         let end = text::find(input, b'\n', at);
         if end == len {
