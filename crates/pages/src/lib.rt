@@ -14,7 +14,7 @@ fn digit(n: u64) -> u8
     b'0' + n as u8
 }
 
-/// How many digits a number has. The loop counts no index: it goes by what is left of the number (there is no `ilog10` in std).
+/// How many digits a number has. The loop counts no index: it goes by what is left of the number.
 pub fn digits(n: u64) -> usize
     ensures { (result ≡ length (decimal n)) × (result ≤ 20) }
 {

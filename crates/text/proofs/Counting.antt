@@ -13,7 +13,7 @@ use Rattle.theory.specs.Text.{Bytes, on_first, parts_at}
 use Rattle.theory.proofs.Reading.Separators.{parts_cons}
 
 -- a byte in front of the first part leaves as many
-parts_first : (separator b : ℕ) (bs : Bytes) → length (on_first b (parts_at separator bs)) ≡ length (parts_at separator bs)
+pub parts_first : (separator b : ℕ) (bs : Bytes) → length (on_first b (parts_at separator bs)) ≡ length (parts_at separator bs)
 parts_first separator b bs = let found = parts_cons separator bs in rw found.2
 
 pub parts_counted : (separator : ℕ) (s : Bytes) → count_by (λ b. eqb b separator) s + 1 ≡ length (parts_at separator s)

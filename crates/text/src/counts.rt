@@ -4,7 +4,7 @@ ghost use Rattle.theory.specs.Text.{parts_at};
 
 /// As `count`, for few bytes. The number is as wide as a byte, so that it takes one vector for sixteen bytes:
 /// `filter` and `count` take 123 ns and not 23 on a line of 40 bytes, 2,750 and not 55 on one of 950.
-fn count_few(bytes: &[u8], wanted: u8) -> u8
+pub(crate) fn count_few(bytes: &[u8], wanted: u8) -> u8
     requires { length bytes.now ≤ 128 }
     ensures { result ≡ count_by (λ b. b == wanted) bytes.now }
 {
