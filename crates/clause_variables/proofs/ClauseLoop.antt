@@ -1,4 +1,4 @@
--- The loop of `variables_of`: of each clause that stands from a place on, some marks are passed and some are left.
+-- The loop of `gather_clause`: of each clause that stands from a place on, some marks are passed and some are left.
 use mathlib.Core.Path.{◌≡◌, refl, sym, ◌∙◌, ap, subst}
 use mathlib.Core.Bool.{Bool, true, false}
 use mathlib.Core.List.{List, [], ◌∷◌, ◌++◌, append_assoc, head-eq_of_cons-eq, tail-eq_of_cons-eq}

@@ -1,21 +1,23 @@
 // The variables of a clause, gathered token by token.
 
 ghost use Rattle.std.specs.Prelude.{◌≤◌, length};
+ghost use Rattle.text.specs.Scans.{part};
 ghost use Rattle.clause_variables.specs.Variables.{Named, LoneCounted, Gathers, VariablesFound};
 
 use crate::Variables;
-use clause_tokens::Mark;
+use clause_tokens::{Mark, Token};
 use words::ClassTable;
 
 impl Variables {
     /// A variable that is named: it stands in the table, or is put there. `None`: it is too long, or there are too many.
-    fn name(&mut self, variable: &[u8]) -> Option<()>
-        ensures { Named variable.now self.old result self.new }
+    fn name(&mut self, text: &[u8], start: usize, end: usize) -> Option<()>
+        requires { (start ≤ end) × (end ≤ length text.now) }
+        ensures { Named (part text.now start end) self.old result self.new }
     {
-        if 16 < variable.len() {
+        if 16 < end - start {
             return None;
         }
-        let words = words::words_of(variable);
+        let words = words::words_at(text, start, end);
         if words::place(&self.names, self.named, words) < self.named {
             return Some(());
         }
@@ -38,11 +40,12 @@ impl Variables {
     }
 
     /// One token more.
-    fn gather(&mut self, mark: Mark, bytes: &[u8]) -> Option<()>
-        ensures { Gathers bytes.now mark self.old result self.new }
+    fn gather(&mut self, text: &[u8], token: Token) -> Option<()>
+        requires { (token.start ≤ token.end) × (token.end ≤ length text.now) }
+        ensures { Gathers (part text.now token.start token.end) token.mark self.old result self.new }
     {
-        match mark {
-            Mark::Variable => self.name(bytes),
+        match token.mark {
+            Mark::Variable => self.name(text, token.start, token.end),
             Mark::Lone => self.count_lone(),
             _ => Some(()),
         }
@@ -59,7 +62,7 @@ impl Variables {
         let mut at = from;
         // no `for`: each token begins where the one before it ends
         while let Some(token) = clause_tokens::next(text, at, classes) {
-            self.gather(token.mark, &text[token.start..token.end])?;
+            self.gather(text, token)?;
             if token.mark == Mark::Stop {
                 return Some(());
             }

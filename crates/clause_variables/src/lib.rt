@@ -12,12 +12,12 @@ pub use fresh::fresh_number;
 
 /// The variables of a clause: those that it names, whose words are the first of a table, and how often `_` stands, each time for
 /// a variable of its own. They are no more than a clause may have.
-#[derive(Drop)]
+#[derive(Clone, Copy)]
 pub struct Variables {
-    names: WordTable,
-    named: usize,
-    lones: usize,
-    ghost few: { named + lones ≤ 16 },
+    pub names: WordTable,
+    pub named: usize,
+    pub lones: usize,
+    pub ghost few: { named + lones ≤ 16 },
 }
 
 impl Variables {

@@ -81,7 +81,7 @@ pub type Slots = [Slot; 128];
 pub type Hints = words::Hints;
 
 /// The tables that outlive the lines of a pack: what queries and the sheet ask after its last line.
-#[derive(Drop)]
+#[derive(Clone, Copy)]
 pub struct Tables {
     pub signatures: Signatures,
     pub claims: Claims,

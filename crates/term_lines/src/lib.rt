@@ -9,9 +9,9 @@ ghost use Rattle.clause_tokens.specs.declared.Mark.TheVariants.{Name, Variable, 
 ghost use Rattle.term_lines.specs.Drawings.{Begun, InLine, RoomTold, Separated, LetterIs, Drawable, Draws};
 
 /// The compounds that are open, and of each symbol among them the place of its arity's digit on the page.
-#[derive(Drop)]
+#[derive(Clone, Copy)]
 pub struct OpenCompounds {
-    digits: [usize; 256],
+    pub digits: [usize; 256],
     pub depth: usize,
 }
 
@@ -55,7 +55,7 @@ impl OpenCompounds {
 /// How far the lines of a clause are written: the place on the page after what is written, where this line begins, how many
 /// lines are complete, how many arguments of the atom have begun, and which compounds are open.
 // The page is no field: it is lent anew for each clause, while one pen, with its 2 KB of places, serves for all of them.
-#[derive(Drop)]
+#[derive(Clone, Copy)]
 pub struct Pen {
     pub to: usize,
     pub line: usize,

@@ -1,7 +1,7 @@
 // The tokens of a field, read once: whether it is a term, the arities of its symbols, and where its variables stand.
 #![tactic(auto)]
 
-ghost use Rattle.std.specs.Prelude.{◌≡◌, false, ◌+◌, ◌-◌, ◌*◌, ◌≤◌, ◌<◌, length, get_or};
+ghost use Rattle.std.specs.Prelude.{◌≡◌, false, ◌+◌, ◌-◌, ◌*◌, ◌≤◌, ◌<◌, length, get_or, replicate};
 ghost use Rattle.theory.specs.Text.{is_digit};
 ghost use Rattle.words.specs.Classes.{class_of};
 ghost use Rattle.groundwork.proofs.Truth.{Decides};
@@ -69,14 +69,17 @@ pub struct Tokens {
 }
 
 /// Room for what the tokens of a field say: the arities of its symbols, and the places of its variables.
-#[derive(Drop)]
+#[derive(Clone, Copy)]
 pub struct TokenRoom {
     pub arities: [u8; 512],
     pub places: [u16; 512],
 }
 
 impl TokenRoom {
-    pub fn empty() -> TokenRoom {
+    /// Room with zeros in it.
+    pub fn empty() -> TokenRoom
+        ensures { (result.arities ≡ replicate 512 0) × (result.places ≡ replicate 512 0) }
+    {
         TokenRoom {
             arities: [0; 512],
             places: [0; 512],

@@ -36,10 +36,10 @@ const CLASSES: [Class; 256] = [
 
 /// The table of the classes of all bytes, to be kept in a local and lent: an index into the constant itself writes all of it
 /// out anew.
-#[derive(Drop)]
+#[derive(Clone, Copy)]
 pub struct ClassTable {
-    classes: [Class; 256],
-    ghost right: { ClassesStand classes },
+    pub classes: [Class; 256],
+    pub ghost right: { ClassesStand classes },
 }
 
 impl ClassTable {
