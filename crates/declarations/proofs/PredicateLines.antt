@@ -27,7 +27,7 @@ use Rattle.tables.specs.declared.State.{State}
 use Rattle.tables.specs.declared.Opened.{Opened}
 use Rattle.tables.specs.declared.Fault.{Fault}
 use Rattle.tables.specs.declared.Fault.TheVariants.{CountLimit}
-use Rattle.tables.specs.Tables.{Tables, tables, no_signature, signature_at, Holds, Safe}
+use Rattle.tables.specs.Tables.{Tables, tables, no_signature, signature_at, with_claims, Holds, Safe}
 use Rattle.tables.specs.Lines.{Passed, ClosedFor}
 use Rattle.tables.proofs.Outcomes.{line_number, line_passes, line_fails}
 use Rattle.tables.proofs.Declared.{declares_more, claimless}
@@ -53,7 +53,7 @@ module _ {manner : Manner} (line : Bytes) (s : State) (w : Written) (o : Opened)
 
 -- the tables with the predicate that a line writes, and a pack with it
 p_holds : {manner : Manner} (line : Bytes) (t : Tables) (s : State) (w : Written) (o : Opened) → Holds t s w → Safe t s → Passed manner P line s w o → declared_as (key_of (predicate_from (fields_of line))) w.pack.predicates ≡ none → s.predicates < 32
-    → Holds (tables (set t.signatures s.predicates o.signature) t.claims t.variables t.rows t.slots) (with_predicates (s.predicates + 1) s) (record { pack = add P (fields_of line) w.pack; ended = w.ended })
+    → Holds (tables (set t.signatures s.predicates (with_claims (signature_at t.signatures s.predicates).claims o.signature)) t.claims t.variables t.rows t.slots) (with_predicates (s.predicates + 1) s) (record { pack = add P (fields_of line) w.pack; ended = w.ended })
 unfolding add predicate_from any
 p_holds line t s w o holds safe passed is_new room =
     let x = predicate_from (fields_of line) in
@@ -66,7 +66,7 @@ p_holds line t s w o holds safe passed is_new room =
     let noFacts = is_empty_lem w.pack.facts (and_left (is_empty w.pack.facts) _ others) in
     let noRules = is_empty_lem w.pack.rules (and_right (is_empty w.pack.facts) _ others) in
     record {
-      declares = declares_more t.signatures known ps x declares is_new o.signature passed.named.words (ap (λ (n : Option ℕ). or_else n 0) (sym passed.named.arity)) passed.named.kind room safe.sizes.signatures passed.named.named;
+      declares = declares_more t.signatures known ps x declares is_new declared passed.named.words (ap (λ (n : Option ℕ). or_else n 0) (sym passed.named.arity)) passed.named.kind room safe.sizes.signatures passed.named.named;
       claims = rw noClaims (claimless t.signatures t.claims ps (rw noClaims at holds.claims) _ (ps ++ (x ∷ [])) (omega (arith, length_end ps x, declares.count)) still_none);
       claimed = holds.claimed;
       shipped = ships_still holds.shipped noFacts x;
@@ -78,14 +78,15 @@ p_holds line t s w o holds safe passed is_new room =
       ended = holds.ended;
     }
   where
-    -- what is put into the table has no claims, and where it is put there were none
-    still_none : (i : ℕ) → i < 32 → (signature_at (set t.signatures s.predicates o.signature) i).claims ≡ (signature_at t.signatures i).claims
+    declared : Signature
+    declared = with_claims (signature_at t.signatures s.predicates).claims o.signature
+
+    -- the counts of claims stay
+    still_none : (i : ℕ) → i < 32 → (signature_at (set t.signatures s.predicates declared) i).claims ≡ (signature_at t.signatures i).claims
     still_none i h =
-        by_truth (λ b. (signature_at (set t.signatures s.predicates o.signature) i).claims ≡ (signature_at t.signatures i).claims) (eqb i s.predicates)
-        (λ e. rw (eqb-equal i s.predicates e)
-        (ap (λ (n : Signature). n.claims) (get_or-set_same t.signatures s.predicates o.signature no_signature (omega (arith, safe.sizes.signatures)))
-        ∙ passed.named.claims ∙ sym (holds.claims.none s.predicates (omega (arith, holds.declares.count)) room)))
-        (λ e. ap (λ (n : Signature). n.claims) (get_or-set_other t.signatures s.predicates i o.signature no_signature (eqb-unequal i s.predicates e)))
+        by_truth (λ b. (signature_at (set t.signatures s.predicates declared) i).claims ≡ (signature_at t.signatures i).claims) (eqb i s.predicates)
+        (λ e. rw (eqb-equal i s.predicates e) (ap (λ (n : Signature). n.claims) (get_or-set_same t.signatures s.predicates declared no_signature (omega (arith, safe.sizes.signatures)))))
+        (λ e. ap (λ (n : Signature). n.claims) (get_or-set_other t.signatures s.predicates i declared no_signature (eqb-unequal i s.predicates e)))
 
 module _ {o : Opened} {s : State} {signatures₀ : List Signature} {r : Result State Fault} {signatures : List Signature} (closes : ClosesP o s signatures₀ r signatures) where
   -- a line that is done had room for its predicate
@@ -110,21 +111,22 @@ p_close line t s w o signatures r holds safe passed closes =
     }
 
 -- the ranges are kept
-pub p_safe : (t : Tables) (s : State) (o : Opened) (signatures : List Signature) (r : Result State Fault) → Safe t s → o.signature.arity ≤ 8 → o.signature.claims ≡ 0 → ClosesP o s t.signatures r signatures
+pub p_safe : (t : Tables) (s : State) (o : Opened) (signatures : List Signature) (r : Result State Fault) → Safe t s → o.signature.arity ≤ 8 → ClosesP o s t.signatures r signatures
     → (next : State) → r ≡ Ok next → Safe (tables signatures t.claims t.variables t.rows t.slots) next
-p_safe t s o signatures r safe low claimless closes next is =
+p_safe t s o signatures r safe low closes next is =
     let known = s.predicates in
     let fits = room closes next is in
     let less = fits.0 in
     let state = safe.state in
     let old = safe.signatures in
     let sizes = safe.sizes in
+    let declared = with_claims (signature_at t.signatures known).claims o.signature in
     rw (← fits.1, closes.signatures_are less) record {
       sizes = record { signatures = simp length-set sizes.signatures; claims = sizes.claims; variables = sizes.variables; rows = sizes.rows; slots = sizes.slots };
       state = record { predicates = omega arith; rules = state.rules; head = state.head; subgoals = state.subgoals; variables = state.variables; slots = state.slots; multipliers = state.multipliers; lines = state.lines };
       signatures = record {
-        arity = λ i h. replaced (λ (n : Signature). n.arity ≤ 8) t.signatures known i o.signature no_signature low (old.arity i h);
-        count = λ i h. replaced (λ (n : Signature). n.claims ≤ 16) t.signatures known i o.signature no_signature (omega arith) (old.count i h);
+        arity = λ i h. replaced (λ (n : Signature). n.arity ≤ 8) t.signatures known i declared no_signature low (old.arity i h);
+        count = λ i h. replaced (λ (n : Signature). n.claims ≤ 16) t.signatures known i declared no_signature (old.count known less) (old.count i h);
       };
       claims = safe.claims;
       rows = safe.rows;

@@ -9,7 +9,7 @@ use Rattle.tables.specs.declared.State.{State}
 use Rattle.tables.specs.declared.Opened.{Opened}
 use Rattle.tables.specs.declared.Fault.{Fault}
 use Rattle.tables.specs.declared.Fault.TheVariants.{CountLimit}
-use Rattle.tables.specs.Tables.{signature_at, counted, claim_place}
+use Rattle.tables.specs.Tables.{signature_at, with_claims, counted, claim_place}
 
 abbrev pub with_predicates : ℕ → State → State
 with_predicates n s = record { predicates = n; claimed = s.claimed; rules = s.rules; multiplier_lines = s.multiplier_lines; head = s.head; subgoals = s.subgoals; variables = s.variables; slots = s.slots; multipliers = s.multipliers; shipped = s.shipped; owing = s.owing; headed = s.headed; ended = s.ended }
@@ -28,7 +28,7 @@ with_claim place signatures s = with_owing (owing_with s.owing place (signature_
 
 pub record ClosesP (o : Opened) (s : State) (signatures₀ : List Signature) (r : Result State Fault) (signatures : List Signature) : Type 0 where
   pub answer : r ≡ cond (leb predicate_limit s.predicates) (Err CountLimit) (Ok (with_predicates (s.predicates + 1) s))
-  pub signatures_are : s.predicates < predicate_limit → signatures ≡ set signatures₀ s.predicates o.signature
+  pub signatures_are : s.predicates < predicate_limit → signatures ≡ set signatures₀ s.predicates (with_claims (signature_at signatures₀ s.predicates).claims o.signature)
 
 -- nine numbers of a claim laid into the table, zeros after those of the arguments
 pub record Laid (claims₀ : List ℤ) (place : ℕ) (row : List ℤ) (arity : ℕ) (claims : List ℤ) : Type 0 where

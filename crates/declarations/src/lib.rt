@@ -7,7 +7,7 @@ ghost use Rattle.declarations.specs.Fields.{FieldC};
 ghost use Rattle.declarations.specs.Ends.{ClosesP, Laid, owing_with, ClosesC};
 
 use forms::Form;
-use tables::{Claims, Fault, Kind, Opened, PredicateSet, Signatures, State};
+use tables::{Claims, Fault, Kind, Opened, PredicateSet, Signature, Signatures, State};
 
 /// A field of a `C` line: a number of the claim.
 pub fn field_claim(
@@ -24,7 +24,7 @@ pub fn field_claim(
     Ok(many)
 }
 
-/// The end of a `P` line: the predicate is put after the others.
+/// The end of a `P` line: the predicate is put after the others. The count of claims at its place stays.
 pub fn close_predicate(o: Opened, state: State, signatures: &mut Signatures) -> Result<State, Fault>
     ensures { ClosesP o state signatures.old result signatures.new }
 {
@@ -32,7 +32,10 @@ pub fn close_predicate(o: Opened, state: State, signatures: &mut Signatures) -> 
     if signatures.len() <= known {
         return Err(Fault::CountLimit);
     }
-    signatures[known] = o.signature;
+    signatures[known] = Signature {
+        claims: signatures[known].claims,
+        ..o.signature
+    };
     Ok(State {
         predicates: known + 1,
         ..state

@@ -108,32 +108,32 @@ module _ {line : Bytes} {t : Tables} {s : State} {o : Opened} (safe : Safe t s) 
   rows_kept same rows read = subst⁻¹ SafeRows (ap (λ (b : Room). b.rows) same ∙ rows) read.room.rows
 
   module _ {manner : Manner} {r : Result State Fault} (y : Lasting) (x : Room) where
-    pub closed : (letter : Letter) → FieldsRead letter line t s o many from index x₀ → length (fields_from line o) ≤ most (sort_of letter) s → ((letter ≡ P → ⊥) → o.predicate < 32) → (letter ≡ M → s.multipliers < 16) → o.signature.arity ≤ 8 → o.signature.claims ≡ 0 → index ≡ length (fields_from line o)
+    pub closed : (letter : Letter) → FieldsRead letter line t s o many from index x₀ → length (fields_from line o) ≤ most (sort_of letter) s → ((letter ≡ P → ⊥) → o.predicate < 32) → (letter ≡ M → s.multipliers < 16) → o.signature.arity ≤ 8 → index ≡ length (fields_from line o)
         → ((w : Written) → Holds t s w → Passed manner letter line s w o) → CloseLeaves manner letter o s many (unclosed t) x₀ r y x → LineJudged manner line s t r (with_rule y x) x.weights
-    closed P read few place due low claimless past passed done =
+    closed P read few place due low past passed done =
         let (variables, rows, clear) = read.untouched in
         leaves_none (tables y.signatures t.claims t.variables t.rows t.slots) (after done.1 done.2 variables rows read.slots)
-        (ap (λ (b : Room). b.weights) done.2) clear (rows_kept done.2 refl read) (limit_other (p_limit done.0)) (p_safe t s o y.signatures r safe low claimless done.0)
+        (ap (λ (b : Room). b.weights) done.2) clear (rows_kept done.2 refl read) (limit_other (p_limit done.0)) (p_safe t s o y.signatures r safe low done.0)
         λ w holds. p_close line t s w o y.signatures r holds safe (passed w holds) done.0
-    closed C read few place due low claimless past passed done =
+    closed C read few place due low past passed done =
         let (variables, rows, clear) = read.untouched in
         leaves_none (tables y.signatures y.claims t.variables t.rows t.slots) (after done.1 done.2 variables rows read.slots)
         (ap (λ (b : Room). b.weights) done.2) clear (rows_kept done.2 refl read) (limit_other (c_limit done.0)) (c_safe t s o x₀.row y.signatures y.claims r safe (place claim_other) read.room.row_small done.0)
         λ w holds. let p = passed w holds in c_close line t s w o x₀.row y.signatures y.claims r holds safe p (whole C read past w holds p) done.0
-    closed G read few place due low claimless past passed done =
+    closed G read few place due low past passed done =
         leaves_none (tables t.signatures t.claims x₀.variables x₀.rows t.slots) (after done.1 done.2 refl refl read.slots)
         (ap (λ (b : Room). b.weights) done.2) read.untouched (rows_kept done.2 refl read) (g_other done.0) (g_safe safe read.room.variables_size read.room.rows_size read.room.rows done.0)
         λ w holds. let p = passed w holds in g_close holds safe p (whole G read past w holds p) done.0
-    closed H read few place due low claimless past passed done =
+    closed H read few place due low past passed done =
         leaves_none (tables t.signatures t.claims x₀.variables x₀.rows t.slots) (after done.1 done.2 refl refl read.slots)
         (ap (λ (b : Room). b.weights) done.2) read.untouched (rows_kept done.2 refl read) (limit_other (h_limit done.0)) (h_safe safe (place head_other) read.room.variables_size read.room.rows_size read.room.rows done.0)
         λ w holds. let p = passed w holds in h_close holds safe p (whole H read past w holds p) done.0
-    closed B read few place due low claimless past passed done =
+    closed B read few place due low past passed done =
         let closes = rw read.slots at done.0 in
         leaves_none (tables t.signatures t.claims x₀.variables x₀.rows x.slots) (after done.1 done.2 refl refl refl)
         (ap (λ (b : Room). b.weights) done.2) read.untouched (rows_kept done.2 refl read) (limit_other (b_limit closes)) (b_safe safe (place subgoal_other) read.room.variables_size read.room.rows_size read.room.rows closes)
         λ w holds. let p = passed w holds in b_close holds safe p (whole B read past w holds p) closes
-    closed M read few place due low claimless past passed done =
+    closed M read few place due low past passed done =
         let (variables, rows) = read.untouched in
         let closes = rw rows at done.0 in
         let same : with_rule y x ≡ t = after done.1 done.2 variables rows read.slots in
@@ -148,12 +148,12 @@ module _ {line : Bytes} {t : Tables} {s : State} {o : Opened} (safe : Safe t s) 
               let left = m_left holds safe p (whole M read past w holds p) closes Unjustified bad in
               record { ruled = left.1; sum = rw after_rows left.2 };
         }
-    closed E read few place due low claimless past passed done =
+    closed E read few place due low past passed done =
         let (variables, rows, clear) = read.untouched in
         leaves_none t (after done.1 done.2 variables rows read.slots)
         (ap (λ (b : Room). b.weights) done.2) clear (rows_kept done.2 refl read) (λ f bad e. omega (arith, ap number_of (e_fault done.0 f bad))) (λ next. e_safe t s next r safe done.0)
         λ w holds. e_close line t s w o r holds (passed w holds) done.0
-    closed NoLetter read few place due low claimless past passed done = record {
+    closed NoLetter read few place due low past passed done = record {
       safe = λ next good. absurd (ok_never_err (sym good ∙ done.0));
       summable = subst⁻¹ (λ (b : Room). Summable b.weights b.rows) done.2 (unweighed read.untouched read.room.rows);
       tells = λ w holds. absurd (passed w holds).named;

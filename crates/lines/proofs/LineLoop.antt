@@ -77,10 +77,10 @@ write_all_none w = refl
 -- ---- the loop
 
 -- no weights stand in an array of zeros
-zeros_clear : NoWeights (replicate 81 (pos 0))
+pub zeros_clear : NoWeights (replicate 81 (pos 0))
 zeros_clear = record { size = length-replicate 81 (pos 0); zero = λ i. same_everywhere (pos 0) 81 i }
 
-lines_begin : {manner : Manner} {text : Bytes} {start : State} {t : Tables} {weights : List ℤ} → Safe t start → NoWeights weights → LinesRead manner text start t start t weights 0 0
+pub lines_begin : {manner : Manner} {text : Bytes} {start : State} {t : Tables} {weights : List ℤ} → Safe t start → NoWeights weights → LinesRead manner text start t start t weights 0 0
 lines_begin safe clear =
     record {
       within = omega arith;
@@ -105,6 +105,8 @@ module _ {manner : Manner} {text : Bytes} {start : State} {t₀ : Tables} {s : S
         state = read.safe.state;
         few = read.all;
         plain = λ e. refl;
+        only = λ f e form is. absurd (all_stopped e);
+        left = λ e is. all_stopped e;
         tells = λ w₀ holds. reached w₀ (read.tells w₀ holds);
       }
     where
@@ -159,6 +161,8 @@ module _ {manner : Manner} {text : Bytes} {start : State} {t₀ : Tables} {s : S
           state = read.safe.state;
           few = omega (arith, read.few);
           plain = λ e. absurd (all_stopped (sym e));
+          only = λ g e form is. sym (stopped_fault e) ∙ leaves.some form is;
+          left = λ e is. leaves.none is (stopped_fault e);
           tells = λ w₀ holds. reached w₀ (read.tells w₀ holds);
         }
       where

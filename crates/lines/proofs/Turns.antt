@@ -112,7 +112,7 @@ module _ {manner : Manner} {text : Bytes} {start : State} {t₀ : Tables} {s : S
 
         module _ {close : Result State Fault} {y : Lasting} {x : Room} (done : CloseDone manner o.letter o s many (unclosed t) x₀ close y x) where
           judged : LineJudged manner (part text at end) s t close (with_rule y x) x.weights
-          judged = closed turn.read.safe y x o.letter fields safe_opened.few safe_opened.place safe_opened.due safe_opened.low safe_opened.claimless all passed (done.of o.letter refl)
+          judged = closed turn.read.safe y x o.letter fields safe_opened.few safe_opened.place safe_opened.due safe_opened.low all passed (done.of o.letter refl)
 
           pub turn_done : {next : State} → close ≡ Ok next → LinesRead manner text start t₀ next (with_rule y x) x.weights (number + 1) (end + 1)
           turn_done = lines_more turn.read turn.inside turn.finds judged

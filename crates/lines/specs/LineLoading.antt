@@ -11,6 +11,7 @@ use Rattle.tables.specs.declared.State.{State}
 use Rattle.tables.specs.Faults.{number_of}
 use Rattle.tables.specs.declared.Tables.{Tables as Lasting}
 use Rattle.tables.specs.declared.Fault.{Fault}
+use Rattle.tables.specs.declared.Fault.TheVariants.{Unjustified}
 use Rattle.tables.specs.Tables.{no_slot, Tables, tables, Holds, SafeState, Safe}
 use Rattle.residuals.specs.Sums.{form_numbers}
 use Rattle.lines.specs.Steps.{no_words}
@@ -45,4 +46,7 @@ pub record LoadsLines (manner : Manner) (text : Bytes) (start : State) (t₀ : T
   pub state : SafeState r.state
   pub few : r.line ≤ length text
   pub plain : r.ending ≡ Ok tt → r.residual ≡ None
+  -- a residual is there exactly where the fault is a claim that is not justified
+  pub only : (f : Fault) → r.ending ≡ Err f → (form : Form) → r.residual ≡ Some form → f ≡ Unjustified
+  pub left : r.ending ≡ Err Unjustified → r.residual ≡ None → ⊥
   pub tells : (w : Written) → Holds t₀ start w → LinesLoadedFor manner text w r t
