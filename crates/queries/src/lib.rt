@@ -9,7 +9,7 @@ ghost use Rattle.text.specs.Scans.{parts_from};
 ghost use Rattle.tables.specs.Tables.{SafeSignatures};
 ghost use Rattle.queries.specs.Queries.{size_read, is_unasked, SizesRead, Means, OpensQuery};
 
-use tables::{Signatures, Tables};
+use tables::Signatures;
 use theory::QueryRefusal;
 use words::{ClassTable, Word};
 
@@ -68,9 +68,13 @@ fn named_by(field: &[u8], arity: usize, signatures: &Signatures, known: usize) -
 }
 
 /// The tests of a query, in number order.
-pub fn open_query(query: &[u8], tables: &Tables, known: usize) -> Result<Asked, QueryRefusal>
-    requires { (known ≤ 32) × (SafeSignatures tables.now.signatures) }
-    ensures { OpensQuery query.now tables.now.signatures known result }
+pub fn open_query(
+    query: &[u8],
+    signatures: &Signatures,
+    known: usize,
+) -> Result<Asked, QueryRefusal>
+    requires { (known ≤ 32) × (SafeSignatures signatures.now) }
+    ensures { OpensQuery query.now signatures.now known result }
 {
     if text::is_unfit(query) {
         return Err(QueryRefusal::UnfitQuery);
@@ -80,10 +84,10 @@ pub fn open_query(query: &[u8], tables: &Tables, known: usize) -> Result<Asked, 
         return Err(QueryRefusal::QueryName);
     }
     let stop = reader::field_end(query, 0);
-    let place = named_by(&query[..stop], commas - 1, &tables.signatures, known).ok_or(
+    let place = named_by(&query[..stop], commas - 1, signatures, known).ok_or(
         QueryRefusal::QueryName,
     )?;
-    let arity = tables.signatures[place].arity;
+    let arity = signatures[place].arity;
     let from = stop + 1;
     let end = reader::field_end(query, from);
     let asked = read_asked(&query[from..end], arity).ok_or(QueryRefusal::AskedArgument)?;

@@ -12,5 +12,5 @@ pub struct Asked {
     pub arity: usize,
     pub asked: usize,
     pub sizes: Sizes,
-    ghost low: { (predicate < 32) × (arity ≤ 8) × (asked < 8) },
+    pub ghost low: { (predicate < 32) × (arity ≤ 8) × (asked < 8) },
 }

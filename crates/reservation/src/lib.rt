@@ -17,7 +17,7 @@ pub fn answer(query: &[u8], tables: &Tables, known: usize) -> Reservation
     requires { (known ≤ 32) × (SafeSignatures tables.now.signatures) × (SafeClaims tables.now.claims) }
     ensures { Answers query.now tables.now known result }
 {
-    match queries::open_query(query, tables, known) {
+    match queries::open_query(query, &tables.signatures, known) {
         Ok(asked) => {
             let count = tables.signatures[asked.predicate].claims as usize;
             bounds::reserve_by(&tables.claims, count, &asked)
