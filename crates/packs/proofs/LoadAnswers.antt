@@ -12,7 +12,7 @@ use Rattle.std.specs.Prelude.{Option, Some, None, Result, Ok, Err}
 use Rattle.groundwork.proofs.Truth.{by_truth, eqb-equal}
 use Rattle.theory.specs.Lists.{over}
 use Rattle.theory.specs.Text.{Bytes, lines_of}
-use Rattle.theory.specs.Written.{nothing}
+use Rattle.theory.specs.Written.{Written, nothing}
 use Rattle.theory.specs.Faults.{whole}
 use Rattle.theory.specs.Check.{Numbers, Judgement, numbers, plain, judge, is_finished, judgement_of, verdict_of, check_of}
 use Rattle.theory.specs.Answers.{numbers_of, refusal_numbers}
@@ -26,7 +26,7 @@ use Rattle.tables.specs.declared.Fault.{Fault}
 use Rattle.tables.specs.Tables.{Tables, Holds}
 use Rattle.residuals.specs.Sums.{form_numbers}
 use Rattle.lines.specs.declared.LoadedLines.{LoadedLines}
-use Rattle.lines.specs.LineLoading.{fault_numbers, LinesLoadedFor, LoadsLines}
+use Rattle.lines.specs.LineLoading.{fault_numbers, LinesLoadedFor}
 use Rattle.tables.proofs.FaultNumbers.{number_some}
 use Rattle.packs.specs.declared.Loaded.{Loaded}
 use Rattle.packs.specs.Loading.{begun, fresh, Judges, Laid, Loads}
@@ -92,11 +92,11 @@ refused_text text refusal is verdict some =
 fault_number : (f : Fault) (line rule claim : ℕ) → (fault_numbers f line rule claim).number ≡ number_of f
 fault_number f line rule claim = by_truth (λ b. (fault_numbers f line rule claim).number ≡ number_of f) (eqb (number_of f) 13) (λ e. rw e (sym (eqb-equal _ _ e))) (λ e. rw e refl)
 
--- ---- the lines are judged
+-- ---- the lines are judged, by what loading them tells, and that it leaves no residual where they all pass
 
-module _ (text : Bytes) (short : length text ≤ 32768) (finished : is_finished text ≡ true) {s : State} {l : LoadedLines} {t₀ : Tables} {t : Lasting} (isBegun : s ≡ begun) (isFresh : t₀ ≡ fresh) (loads : LoadsLines whole text s t₀ l t) where
+module _ (text : Bytes) (short : length text ≤ 32768) (finished : is_finished text ≡ true) {s : State} {l : LoadedLines} {t₀ : Tables} {t : Lasting} (isBegun : s ≡ begun) (isFresh : t₀ ≡ fresh) (no_residual : l.ending ≡ Ok tt → l.residual ≡ None) (tells : (w : Written) → Holds t₀ s w → LinesLoadedFor whole text w l t) where
   loaded : LinesLoadedFor whole text nothing l t
-  loaded = loads.tells nothing (subst⁻¹ (λ (x : State). Holds t₀ x nothing) isBegun (subst⁻¹ (λ (x : Tables). Holds x begun nothing) isFresh fresh_holds))
+  loaded = tells nothing (subst⁻¹ (λ (x : State). Holds t₀ x nothing) isBegun (subst⁻¹ (λ (x : Tables). Holds x begun nothing) isFresh fresh_holds))
 
   verdict : verdict_of text ≡ judge whole nothing 0 (lines_of text)
   verdict = judged_text text short finished
@@ -115,7 +115,7 @@ module _ (text : Bytes) (short : length text ≤ 32768) (finished : is_finished 
       -- all lines pass, and the last is no end
       unended : l.state.ended ≡ false → Loads text (record { verdict = answer; residual = l.residual; state = l.state }) t
       unfolding judge
-      unended still = refused_text text Refusal.NoEnd (judges.unended fine still, loads.plain fine) (verdict ∙ loaded.passed fine ∙ rw (sym (loaded.holds fine).holds.ended ∙ still) refl) (λ zero. omega arith)
+      unended still = refused_text text Refusal.NoEnd (judges.unended fine still, no_residual fine) (verdict ∙ loaded.passed fine ∙ rw (sym (loaded.holds fine).holds.ended ∙ still) refl) (λ zero. omega arith)
 
       -- accepted: the lines, the rules and the lines of multipliers; the tables hold the pack
       accepted : l.state.ended ≡ true → Loads text (record { verdict = answer; residual = l.residual; state = l.state }) t
@@ -125,7 +125,7 @@ module _ (text : Bytes) (short : length text ≤ 32768) (finished : is_finished 
           verdict ∙ loaded.passed fine ∙ rw (sym (loaded.holds fine).holds.ended ∙ ended, (loaded.holds fine).holds.rules, (loaded.holds fine).holds.lines) refl in
           record {
             answer = judges.accepted fine ended ∙ ap (λ (j : Judgement). j.returned) (sym is);
-            residue = λ form e. absurd (some_none (sym (loads.plain fine) ∙ e));
+            residue = λ form e. absurd (some_none (sym (no_residual fine) ∙ e));
             none = λ e. ap (λ (j : Judgement). j.residue) is;
             holds = λ zero. loaded.holds fine;
           }

@@ -23,4 +23,4 @@ load_lines-l-requires c = search (rules, fresh_ready)
 
 pub returns : goal.returns
 returns c =
-    lines_judged _ (omega arith) (is_finished_lem _ c.if-len-eq0.false c.if-text-len-ne10.false) c.start.ensures c.requires c.load_lines-l.ensures c.verdict.ensures
+    lines_judged _ (omega arith) (is_finished_lem _ c.if-len-eq0.false c.if-text-len-ne10.false) c.start.ensures c.requires c.load_lines-l.ensures.plain c.load_lines-l.ensures.tells c.verdict.ensures
